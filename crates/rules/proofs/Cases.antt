@@ -1,0 +1,201 @@
+-- 01, "Meshes worked by hand": the ten cases as one table, and the program's example. Proved by computing. Assumes nothing.
+use mathlib.Core.Path.{_≡_, refl}
+use mathlib.Core.Bool.{Bool, true, false, cond}
+use mathlib.Core.List.{List, [], _∷_, _++_}
+use Prim.Native.Nat.{ℕ, zero, suc, _+_, _*_}
+use lib.ListN.{length, replicate}
+use lib.Ieee as ieee
+use Rattle.rules.specs.Lists.{each, table, every, count, lowestFrom, same}
+use Rattle.rules.specs.Cells.{Size, Triple, neighbour, keyOf, linkWord}
+use Rattle.rules.specs.Types as types
+use Rattle.rules.specs.Types.{Types}
+use Rattle.rules.specs.Cube as cube
+use Rattle.rules.specs.Cube.{Shape, cubeWords}
+use Rattle.rules.specs.Mesh.{Quad, Lists, meshBy, laid, slotted}
+use Rattle.rules.specs.Update.{Entry, Added, Broken, removeAt, remove, shifts, entryAt, ops, needed, courseFrom}
+use Rattle.rules.specs.Answers as answers
+use Rattle.rules.specs.Calls.{Scene, Answer, Outcome, meshGrid, updateMesh}
+use Rattle.rules.specs.Program.{printed, badFile, digits, buildFrom}
+
+-- 0.0, 1.0, and three of one
+abbrev ZERO : ℕ
+ZERO = 0
+
+abbrev ONE : ℕ
+ONE = 0x3f80_0000
+
+abbrev all : ℕ → Triple
+all v = record { x = v; y = v; z = v }
+
+-- a unit cube about the origin, each face with tile 0,0 of an atlas of one
+abbrev unit : Shape
+unit =
+    record {
+      d = all ONE;
+      centre = all ZERO;
+      atlasWidth = 1;
+      atlasHeight = 1;
+      texture = 0 ∷ 0 ∷ 0 ∷ 1 ∷ 0 ∷ 0 ∷ 2 ∷ 0 ∷ 0 ∷ 3 ∷ 0 ∷ 0 ∷ 4 ∷ 0 ∷ 0 ∷ 5 ∷ 0 ∷ 0 ∷ [];
+      padding = ZERO;
+      coloured = false;
+      colour = ZERO;
+      alpha = ZERO;
+    }
+
+-- its words, worked out once
+abbrev UNIT-WORDS : List ℕ
+UNIT-WORDS =
+    0xbf000000 ∷ 0x3f000000 ∷ 0x3f000000 ∷ 0 ∷ 0x3f800000 ∷ 0 ∷ 0 ∷ 0 ∷
+    0x3f000000 ∷ 0x3f000000 ∷ 0x3f000000 ∷ 0 ∷ 0x3f800000 ∷ 0 ∷ 0x3f800000 ∷ 0 ∷
+    0x3f000000 ∷ 0x3f000000 ∷ 0xbf000000 ∷ 0 ∷ 0x3f800000 ∷ 0 ∷ 0x3f800000 ∷ 0x3f800000 ∷
+    0xbf000000 ∷ 0x3f000000 ∷ 0xbf000000 ∷ 0 ∷ 0x3f800000 ∷ 0 ∷ 0 ∷ 0x3f800000 ∷
+    0xbf000000 ∷ 0xbf000000 ∷ 0xbf000000 ∷ 0 ∷ 0xbf800000 ∷ 0 ∷ 0x3f800000 ∷ 0x3f800000 ∷
+    0x3f000000 ∷ 0xbf000000 ∷ 0xbf000000 ∷ 0 ∷ 0xbf800000 ∷ 0 ∷ 0 ∷ 0x3f800000 ∷
+    0x3f000000 ∷ 0xbf000000 ∷ 0x3f000000 ∷ 0 ∷ 0xbf800000 ∷ 0 ∷ 0 ∷ 0 ∷
+    0xbf000000 ∷ 0xbf000000 ∷ 0x3f000000 ∷ 0 ∷ 0xbf800000 ∷ 0 ∷ 0x3f800000 ∷ 0 ∷
+    0x3f000000 ∷ 0x3f000000 ∷ 0xbf000000 ∷ 0x3f800000 ∷ 0 ∷ 0 ∷ 0 ∷ 0 ∷
+    0x3f000000 ∷ 0x3f000000 ∷ 0x3f000000 ∷ 0x3f800000 ∷ 0 ∷ 0 ∷ 0x3f800000 ∷ 0 ∷
+    0x3f000000 ∷ 0xbf000000 ∷ 0x3f000000 ∷ 0x3f800000 ∷ 0 ∷ 0 ∷ 0x3f800000 ∷ 0x3f800000 ∷
+    0x3f000000 ∷ 0xbf000000 ∷ 0xbf000000 ∷ 0x3f800000 ∷ 0 ∷ 0 ∷ 0 ∷ 0x3f800000 ∷
+    0xbf000000 ∷ 0xbf000000 ∷ 0xbf000000 ∷ 0xbf800000 ∷ 0 ∷ 0 ∷ 0x3f800000 ∷ 0x3f800000 ∷
+    0xbf000000 ∷ 0xbf000000 ∷ 0x3f000000 ∷ 0xbf800000 ∷ 0 ∷ 0 ∷ 0 ∷ 0x3f800000 ∷
+    0xbf000000 ∷ 0x3f000000 ∷ 0x3f000000 ∷ 0xbf800000 ∷ 0 ∷ 0 ∷ 0 ∷ 0 ∷
+    0xbf000000 ∷ 0x3f000000 ∷ 0xbf000000 ∷ 0xbf800000 ∷ 0 ∷ 0 ∷ 0x3f800000 ∷ 0 ∷
+    0x3f000000 ∷ 0x3f000000 ∷ 0x3f000000 ∷ 0 ∷ 0 ∷ 0x3f800000 ∷ 0 ∷ 0 ∷
+    0xbf000000 ∷ 0x3f000000 ∷ 0x3f000000 ∷ 0 ∷ 0 ∷ 0x3f800000 ∷ 0x3f800000 ∷ 0 ∷
+    0xbf000000 ∷ 0xbf000000 ∷ 0x3f000000 ∷ 0 ∷ 0 ∷ 0x3f800000 ∷ 0x3f800000 ∷ 0x3f800000 ∷
+    0x3f000000 ∷ 0xbf000000 ∷ 0x3f000000 ∷ 0 ∷ 0 ∷ 0x3f800000 ∷ 0 ∷ 0x3f800000 ∷
+    0x3f000000 ∷ 0xbf000000 ∷ 0xbf000000 ∷ 0 ∷ 0 ∷ 0xbf800000 ∷ 0x3f800000 ∷ 0x3f800000 ∷
+    0xbf000000 ∷ 0xbf000000 ∷ 0xbf000000 ∷ 0 ∷ 0 ∷ 0xbf800000 ∷ 0 ∷ 0x3f800000 ∷
+    0xbf000000 ∷ 0x3f000000 ∷ 0xbf000000 ∷ 0 ∷ 0 ∷ 0xbf800000 ∷ 0 ∷ 0 ∷
+    0x3f000000 ∷ 0x3f000000 ∷ 0xbf000000 ∷ 0 ∷ 0 ∷ 0xbf800000 ∷ 0x3f800000 ∷ 0 ∷
+    []
+
+unit-words : cubeWords unit ≡ UNIT-WORDS
+unfolding cubeWords each cube.cubeWord cube.cornerWord cube.uvWord cube.uvOf cube.lastNaming cube.corners cube.uvEnds cube.axes ieee.toBits ieee.sub ieee.div ieee.ofBits ieee.mul ieee.ofInt
+unit-words = refl
+
+-- types: 0 Null covering nothing, 1 a cube covering all, 2 Null covering all, 3 a cube covering only Bottom, 4 only Top
+abbrev scene : ℕ → ℕ → ℕ → Scene
+scene w h l =
+    record {
+      size = record { w = w; h = h; l = l };
+      types =
+          record {
+            coloured = false;
+            kinds = 0 ∷ 1 ∷ 0 ∷ 1 ∷ 1 ∷ [];
+            covers = 0 ∷ 63 ∷ 63 ∷ 2 ∷ 1 ∷ [];
+            cubes = UNIT-WORDS ++ UNIT-WORDS ++ UNIT-WORDS ++ UNIT-WORDS ++ UNIT-WORDS;
+          };
+      d = all ONE;
+      centre = all ZERO;
+    }
+
+-- room for n quads and c cells, filled with sevens
+abbrev lent : ℕ → ℕ → Lists
+lent n c =
+    record { vertices = replicate (32 * n) 7; triangles = replicate (6 * n) 7; links = replicate n 7; slots = replicate (6 * c) 7 }
+
+-- a mesh's quads, and after a log of one entry
+abbrev fresh : ℕ → ℕ → ℕ → List ℕ → List ℕ → Bool → Outcome
+fresh w h l outer g culling = meshGrid (scene w h l) outer g culling (lent 54 27)
+
+abbrev quadsIn : Outcome → ℕ
+quadsIn o = o .answer .quads
+
+-- Added above a cube, h = 2: cell 1, a type, beside a voxel of type 1 below
+abbrev above : ℕ → List ℕ
+above t = 1 ∷ 0 ∷ 0 ∷ 0 ∷ 1 ∷ t ∷ 255 ∷ 1 ∷ 255 ∷ 255 ∷ 255 ∷ 255 ∷ []
+
+abbrev below : Outcome
+below = fresh 1 2 1 [] (1 ∷ 0 ∷ []) true
+
+abbrev withAbove : ℕ → Outcome
+withAbove t = updateMesh (scene 1 2 1) (above t) (below .lists) (quadsIn below)
+
+abbrev keys : List Quad → List ℕ
+keys [] = []
+keys (q ∷ m) = q .key ∷ keys m
+
+abbrev ten : List Quad
+ten = table 10 (λ k. record { key = k; words = [] })
+
+abbrev one : Bool → ℕ
+one b = cond b 1 0
+
+-- how many of the four lists are the same
+abbrev unchanged : Lists → Lists → ℕ
+unchanged A B =
+    one (same (A .vertices) (B .vertices)) + one (same (A .triangles) (B .triangles)) + one (same (A .links) (B .links))
+    + one (same (A .slots) (B .slots))
+
+unfoldable pub cases : List (List ℕ)
+cases =
+    -- 1. One cube
+    (quadsIn (fresh 1 1 1 [] (1 ∷ []) true) ∷ [])
+    -- 2. Grid 1,1; Naive
+    ∷ (quadsIn (fresh 2 1 1 [] (1 ∷ 1 ∷ []) true) ∷ quadsIn (fresh 2 1 1 [] (1 ∷ 1 ∷ []) false) ∷ [])
+    -- 3. Grid 1,1 with Top outer
+    ∷ (quadsIn (fresh 2 1 1 (0 ∷ []) (1 ∷ 1 ∷ []) true) ∷ [])
+    -- 4. 3×3×3 cubes
+    ∷ (quadsIn (fresh 3 3 3 [] (replicate 27 1) true) ∷ [])
+    -- 5. Cube beside a Null covering all
+    ∷ (quadsIn (fresh 2 1 1 [] (1 ∷ 2 ∷ []) true) ∷ [])
+    -- 6. Q = 10: removing quad 4 shifts, quad 3 swaps
+    ∷ keys (removeAt 4 ten) ∷ keys (removeAt 3 ten)
+    -- 7. h=2, cube below, a cube type covering only Bottom Added above; fresh
+    ∷ (quadsIn (withAbove 3) ∷ quadsIn (fresh 1 2 1 [] (1 ∷ 3 ∷ []) true) ∷ [])
+    -- 8. Covering only Top; fresh
+    ∷ (quadsIn (withAbove 4) ∷ quadsIn (fresh 1 2 1 [] (1 ∷ 4 ∷ []) true) ∷ [])
+    -- 9. Added Null: quads, moved, and lists that are the same
+    ∷ (quadsIn (withAbove 0) ∷ (withAbove 0) .answer .moved ∷ unchanged (below .lists) ((withAbove 0) .lists) ∷ [])
+    -- 10. Link of cell 5 Top
+    ∷ (linkWord 5 0 ∷ [])
+    ∷ []
+
+pub ten-cases : cases
+    ≡ (6 ∷ [])
+    ∷ (10 ∷ 12 ∷ [])
+    ∷ (8 ∷ [])
+    ∷ (54 ∷ [])
+    ∷ (5 ∷ [])
+    ∷ (0 ∷ 1 ∷ 2 ∷ 3 ∷ 5 ∷ 6 ∷ 7 ∷ 8 ∷ 9 ∷ []) ∷ (0 ∷ 1 ∷ 2 ∷ 9 ∷ 4 ∷ 5 ∷ 6 ∷ 7 ∷ 8 ∷ [])
+    ∷ (11 ∷ 10 ∷ [])
+    ∷ (10 ∷ 11 ∷ [])
+    ∷ (6 ∷ 0 ∷ 4 ∷ [])
+    ∷ (2684354565 ∷ [])
+    ∷ []
+unfolding cases types.quadWords types.quadWord types.order types.movedWord ieee.toBits ieee.mul ieee.ofInt answers.badLimits answers.BAD-TYPES answers.badCounts lowestFrom answers.badType answers.BAD-NUMBER answers.notACube types.isCube every count types.classed types.classOf types.classAt types.classOn ieee.eq ieee.ofBits ieee.lt answers.roomOf meshBy each neighbour laid slotted answers.badLink answers.BAD-LINKS same answers.badEntry answers.BAD-ENTRY courseFrom entryAt needed ops remove removeAt
+ten-cases = refl
+
+-- ---- the program's example
+
+abbrev u32 : ℕ → List ℕ
+u32 n = n ∷ 0 ∷ 0 ∷ 0 ∷ []
+
+abbrev ONE-BYTES : List ℕ
+ONE-BYTES = 0 ∷ 0 ∷ 128 ∷ 63 ∷ []
+
+-- faces 0 to 5 with tile 0,0
+abbrev texture : List ℕ
+texture = each 6 0 (λ f. u32 f ++ u32 0 ++ u32 0)
+
+-- types, grid, log, trailer
+unfoldable pub file : List ℕ
+file =
+    ((0 ∷ 0 ∷ texture) ++ (1 ∷ 63 ∷ texture)) ++ (1 ∷ 1 ∷ []) ++ (0 ∷ 0 ∷ 0 ∷ 0 ∷ 0 ∷ 1 ∷ 255 ∷ 255 ∷ 1 ∷ 255 ∷ 255 ∷ 255 ∷ [])
+    ++ u32 162 ++ u32 14 ++ u32 12 ++ u32 2 ++ u32 1 ++ u32 2 ++ u32 1 ++ u32 1 ++ u32 0 ++ u32 1
+    ++ ONE-BYTES ++ ONE-BYTES ++ ONE-BYTES ++ u32 0 ++ u32 0 ++ u32 0 ++ u32 1 ++ u32 1 ++ u32 0 ++ u32 0 ++ u32 0 ++ u32 0 ++ u32 92
+
+abbrev line : ℕ → ℕ → ℕ → List ℕ
+line q c f = (48 + q) ∷ 32 ∷ (48 + c) ∷ 32 ∷ (48 + f) ∷ 10 ∷ []
+
+-- quads 6 moved 14
+abbrev output : List ℕ
+output =
+    (113 ∷ 117 ∷ 97 ∷ 100 ∷ 115 ∷ 32 ∷ 54 ∷ 32 ∷ 109 ∷ 111 ∷ 118 ∷ 101 ∷ 100 ∷ 32 ∷ 49 ∷ 52 ∷ 10 ∷ [])
+    ++ line 0 1 5 ++ line 1 1 4 ++ line 2 1 0 ++ line 3 1 1 ++ line 4 1 2 ++ line 5 1 3
+
+pub program-example : printed file ≡ output
+unfolding file printed badFile digits buildFrom cubeWords cube.cubeWord cube.cornerWord cube.uvWord cube.uvOf cube.lastNaming cube.corners cube.uvEnds cube.axes ieee.toBits ieee.sub ieee.div ieee.mul ieee.ofInt answers.badAtlas answers.BAD-TEXTURE types.quadWords types.quadWord types.order types.movedWord answers.badLimits answers.BAD-TYPES answers.badCounts lowestFrom answers.badType answers.BAD-NUMBER answers.notACube types.isCube every count types.classed types.classOf types.classAt types.classOn ieee.eq ieee.ofBits ieee.lt answers.roomOf meshBy each neighbour laid slotted answers.badLink answers.BAD-LINKS same answers.badEntry answers.BAD-ENTRY courseFrom entryAt needed ops remove removeAt
+program-example = refl

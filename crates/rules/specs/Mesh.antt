@@ -1,0 +1,123 @@
+-- 01, "A mesh": the quads, how they lie in the four lists, and fresh meshing. Definitions only.
+use Prim.Native.Nat.{ℕ, zero, suc, _+_, _-_, _*_, _/_, _%_, _<_}
+use mathlib.Core.Path.{_≡_}
+use mathlib.Core.Bool.{Bool, true, false, cond, not, _&&_}
+use mathlib.Core.List.{List, [], _∷_, _++_}
+use mathlib.Core.Option.{Option, none, some}
+use lib.ListN.{length, getD, drop, replicate}
+use lib.Dec.{eqb}
+use Rattle.rules.specs.Lists.{each, table, only, row, isNil, member}
+use Rattle.rules.specs.Cells.{Size, cells, opposite, neighbour, keyOf, keyIn, linkOf, firstVertex, has}
+
+-- a quad: the face it shows, 6 · cell + face, and the words of its four vertices
+pub record Quad : Type 0 where
+  pub key : ℕ
+  pub words : List ℕ
+
+-- ---- what is meshed: sizes, types, and the words of the quad of a type, a face and a cell
+pub record World : Type 0 where
+  pub size : Size
+  pub kinds : List ℕ
+  pub covers : List ℕ
+  pub wordsOf : ℕ → ℕ → ℕ → List ℕ
+
+-- a code of the grid; a cell that is not in it has none
+abbrev pub typeAt : List ℕ → ℕ → ℕ
+typeAt g c = getD g c 255
+
+abbrev pub isNormalCube : World → ℕ → Bool
+isNormalCube W t = eqb (getD (W .kinds) t 0) 1
+
+abbrev pub covering : World → ℕ → ℕ → Bool
+covering W t f = has (getD (W .covers) t 0) f
+
+-- ---- fresh meshing goes by cell, then face
+
+-- beside a neighbour: its type does not cover f's opposite; at the grid's edge: f is not in the outer list
+abbrev pub shown : World → List ℕ → List ℕ → ℕ → Option ℕ → Bool
+shown W outer g f none = not (member f outer)
+shown W outer g f (some n) = not (covering W (typeAt g n) (opposite f))
+
+-- side f of cell c is drawn
+abbrev pub drawn : World → List ℕ → List ℕ → ℕ → ℕ → Bool
+drawn W outer g c f = isNormalCube W (typeAt g c) && shown W outer g f (neighbour (W .size) c f)
+
+abbrev pub quadAt : World → List ℕ → ℕ → ℕ → Quad
+quadAt W g c f = record { key = keyOf c f; words = W .wordsOf (typeAt g c) f c }
+
+abbrev pub quadsBy : World → (ℕ → ℕ → Bool) → List ℕ → ℕ → List Quad
+quadsBy W test g c = each 6 0 (λ f. only (test c f) (quadAt W g c f))
+
+unfoldable pub meshBy : World → (ℕ → ℕ → Bool) → List ℕ → List Quad
+meshBy W test g = each (cells (W .size)) 0 (quadsBy W test g)
+
+abbrev pub culled : World → List ℕ → List ℕ → List Quad
+culled W outer g = meshBy W (drawn W outer g) g
+
+-- Naive draws all six of a NormalCube
+abbrev pub naive : World → List ℕ → List Quad
+naive W g = meshBy W (λ c f. isNormalCube W (typeAt g c)) g
+
+-- ---- the quads of a face
+
+-- the words of the quads of a key, in the mesh's order
+abbrev pub at : ℕ → List Quad → List (List ℕ)
+at k [] = []
+at k (q ∷ m) = only (eqb k (q .key)) (q .words) ++ at k m
+
+abbrev pub there : ℕ → List Quad → Bool
+there k m = not (isNil (at k m))
+
+-- the place of the first quad of a key
+abbrev pub placeOf : ℕ → List Quad → ℕ
+placeOf k [] = 0
+placeOf k (q ∷ m) = cond (eqb k (q .key)) 0 (suc (placeOf k m))
+
+-- ---- the four lists
+
+pub record Lists : Type 0 where
+  pub vertices : List ℕ
+  pub triangles : List ℕ
+  pub links : List ℕ
+  pub slots : List ℕ
+
+abbrev pub NONE : ℕ
+NONE = 4294967295
+
+-- Triangle words: 4q + 0,1,2,3,2,1
+abbrev pub pattern : ℕ → List ℕ
+pattern q = (4 * q) ∷ (4 * q + 1) ∷ (4 * q + 2) ∷ (4 * q + 3) ∷ (4 * q + 2) ∷ (4 * q + 1) ∷ []
+
+-- a row for each quad, at its place
+abbrev pub rows : (ℕ → Quad → List ℕ) → ℕ → List Quad → List ℕ
+rows enc i [] = []
+rows enc i (q ∷ m) = enc i q ++ rows enc (suc i) m
+
+-- a list of s words a quad: the quads' rows, then zeros up to the highest count reached, then what was there
+unfoldable pub laid : ℕ → (ℕ → Quad → List ℕ) → ℕ → List Quad → List ℕ → List ℕ
+laid s enc highest m old = rows enc 0 m ++ (replicate (s * (highest - length m)) 0 ++ drop (s * highest) old)
+
+-- the quad's first vertex, or none
+abbrev pub slotOf : List Quad → ℕ → ℕ
+slotOf m k = cond (there k m) (firstVertex (placeOf k m)) NONE
+
+-- the slots of n faces, then what was there
+unfoldable pub slotted : ℕ → List Quad → List ℕ → List ℕ
+slotted n m old = table n (slotOf m) ++ drop n old
+
+-- Per quad: four vertices (s words), six triangle words, one link word. Per cell: six slots
+abbrev pub layout : ℕ → ℕ → ℕ → List Quad → Lists → Lists
+layout n s highest m B =
+    record {
+      vertices = laid s (λ q x. x .words) highest m (B .vertices);
+      triangles = laid 6 (λ q x. pattern q) highest m (B .triangles);
+      links = laid 1 (λ q x. linkOf (x .key) ∷ []) highest m (B .links);
+      slots = slotted n m (B .slots);
+    }
+
+-- the first Q quads that the lists hold
+abbrev pub decoded : ℕ → Lists → ℕ → Quad
+decoded s B q = record { key = keyIn (getD (B .links) q 0); words = row s (B .vertices) q }
+
+abbrev pub decode : ℕ → ℕ → Lists → List Quad
+decode s Q B = table Q (decoded s B)

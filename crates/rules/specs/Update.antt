@@ -1,0 +1,266 @@
+-- 01, "An update". Definitions only.
+use Prim.Native.Nat.{ℕ, zero, suc, _+_, _-_, _*_, _≤_, _<_, max}
+use mathlib.Core.Path.{_≡_}
+use mathlib.Core.Bool.{Bool, true, false, cond, not, _&&_, _||_}
+use mathlib.Core.List.{List, [], _∷_, _++_, map}
+use mathlib.Core.Option.{Option, none, some}
+use lib.ListN.{length, getD, set, take, drop}
+use lib.Dec.{eqb, leb}
+use Rattle.rules.specs.Lists.{each, table, only, part, lowest}
+use Rattle.rules.specs.Cells.{Size, cells, opposite, neighbour, keyOf}
+use Rattle.rules.specs.Mesh.{Quad, World, typeAt, isNormalCube, covering, there, placeOf}
+
+-- ---- a log entry, 12 bytes
+
+pub data Change : Type 0 where
+  Broken Added CullFaces AddFaces : Change
+
+pub record Entry : Type 0 where
+  pub cell : ℕ
+  pub change : Change
+  pub type : ℕ
+  pub given : List ℕ
+
+abbrev pub changeOf : ℕ → Change
+changeOf zero = Broken
+changeOf (suc zero) = Added
+changeOf (suc (suc zero)) = CullFaces
+changeOf (suc (suc (suc n))) = AddFaces
+
+-- u32, little-endian
+abbrev pub u32At : List ℕ → ℕ → ℕ
+u32At xs i = getD xs i 0 + 256 * getD xs (i + 1) 0 + 65536 * getD xs (i + 2) 0 + 16777216 * getD xs (i + 3) 0
+
+unfoldable pub entryAt : List ℕ → ℕ → Entry
+entryAt log k =
+    record {
+      cell = u32At log (12 * k);
+      change = changeOf (getD log (12 * k + 4) 0);
+      type = getD log (12 * k + 5) 0;
+      given = part (12 * k + 6) 6 log;
+    }
+
+-- a neighbour is either outside (255) or a voxel of a type
+abbrev pub givenAt : Entry → ℕ → ℕ
+givenAt e f = getD (e .given) f 255
+
+abbrev pub outside : ℕ → Bool
+outside t = eqb t 255
+
+-- ---- drawing and removal
+
+-- drawing appends, and skips a face already there
+abbrev pub draw : Quad → List Quad → List Quad
+draw q m = cond (there (q .key) m) m (m ++ (q ∷ []))
+
+-- With Q quads, removing q: if Q - q ≤ 6 later quads shift down one
+abbrev pub shifts : ℕ → ℕ → Bool
+shifts Q q = leb (Q - q) 6
+
+abbrev pub blank : Quad
+blank = record { key = 0; words = [] }
+
+-- else the last takes its place
+unfoldable pub removeAt : ℕ → List Quad → List Quad
+removeAt q m =
+    cond (shifts (length m) q)
+    (take q m ++ drop (suc q) m)
+    (take (length m - 1) (set m q (getD m (length m - 1) blank)))
+
+unfoldable pub remove : ℕ → List Quad → List Quad
+remove k m = cond (there k m) (removeAt (placeOf k m) m) m
+
+-- the number of quads whose place changed
+abbrev pub movedBy : ℕ → ℕ → ℕ
+movedBy Q q = cond (shifts Q q) (Q - 1 - q) 1
+
+abbrev pub moved : ℕ → List Quad → ℕ
+moved k m = cond (there k m) (movedBy (length m) (placeOf k m)) 0
+
+-- what is done to a mesh, one after the other
+pub data Op : Type 0 where
+  put : Quad → Op
+  cut : ℕ → Op
+
+abbrev pub step : Op → List Quad → List Quad
+step (put q) m = draw q m
+step (cut k) m = remove k m
+
+abbrev pub run : List Op → List Quad → List Quad
+run [] m = m
+run (o ∷ os) m = run os (step o m)
+
+-- `moved`, summed over removals
+abbrev pub movedIn : Op → List Quad → ℕ
+movedIn (put q) m = 0
+movedIn (cut k) m = moved k m
+
+abbrev pub moves : List Op → List Quad → ℕ
+moves [] m = 0
+moves (o ∷ os) m = movedIn o m + moves os (step o m)
+
+-- the highest count reached, from p on
+abbrev pub highest : ℕ → List Op → List Quad → ℕ
+highest p [] m = p
+highest p (o ∷ os) m = highest (max p (length (step o m))) os (step o m)
+
+-- ---- what an entry does: its own quads go, new ones are drawn, facing ones go, each in face order
+
+pub record Work : Type 0 where
+  pub own : List ℕ
+  pub new : List Quad
+  pub facing : List ℕ
+
+-- the side of an Added voxel that decides whether the neighbour at face i loses its facing quad; the source tests the opposite of i
+abbrev pub Tested : Type 0
+Tested = ℕ → ℕ
+
+abbrev pub source : Tested
+source = opposite
+
+abbrev pub quadOf : World → ℕ → ℕ → ℕ → Quad
+quadOf W t c f = record { key = keyOf c f; words = W .wordsOf t f c }
+
+-- the sides of a cell of which p holds: their keys, or their quads for a type
+abbrev pub sides : ℕ → (ℕ → Bool) → List ℕ
+sides c p = each 6 0 (λ f. only (p f) (keyOf c f))
+
+abbrev pub quads : World → ℕ → ℕ → (ℕ → Bool) → List Quad
+quads W t c p = each 6 0 (λ f. only (p f) (quadOf W t c f))
+
+abbrev pub hide : Tested → World → ℕ → ℕ → Option ℕ → List ℕ
+hide tested W t i none = []
+hide tested W t i (some n) = only (covering W t (tested i)) (keyOf n (opposite i))
+
+abbrev pub reveal : World → ℕ → ℕ → ℕ → Option ℕ → List Quad
+reveal W t given i none = []
+reveal W t given i (some n) = only (covering W t i && isNormalCube W given) (quadOf W given n (opposite i))
+
+abbrev pub all : ℕ → Bool
+all f = true
+
+-- a side whose neighbour is outside or does not cover the opposite
+abbrev pub isOpen : World → Entry → ℕ → Bool
+isOpen W e f = outside (givenAt e f) || not (covering W (givenAt e f) (opposite f))
+
+abbrev pub withGiven : Entry → ℕ → Bool
+withGiven e f = not (outside (givenAt e f))
+
+abbrev pub nothing : Work
+nothing = record { own = []; new = []; facing = [] }
+
+abbrev pub added : Tested → World → Entry → Work
+added tested W e =
+    record {
+      own = sides (e .cell) all;
+      new = quads W (e .type) (e .cell) (isOpen W e);
+      facing = each 6 0 (λ i. hide tested W (e .type) i (neighbour (W .size) (e .cell) i));
+    }
+
+abbrev pub broken : World → Entry → Work
+broken W e =
+    record {
+      own = sides (e .cell) all;
+      new = each 6 0 (λ i. reveal W (e .type) (givenAt e i) i (neighbour (W .size) (e .cell) i));
+      facing = [];
+    }
+
+abbrev pub workBy : Tested → World → Entry → Change → Work
+workBy tested W e Broken = broken W e
+workBy tested W e Added = cond (isNormalCube W (e .type)) (added tested W e) nothing
+workBy tested W e CullFaces = record { own = sides (e .cell) (withGiven e); new = []; facing = [] }
+workBy tested W e AddFaces =
+    cond (isNormalCube W (e .type)) (record { own = []; new = quads W (e .type) (e .cell) (withGiven e); facing = [] }) nothing
+
+abbrev pub work : Tested → World → Entry → Work
+work tested W e = workBy tested W e (e .change)
+
+abbrev pub cuts : List ℕ → List Op
+cuts ks = map cut ks
+
+abbrev pub puts : List Quad → List Op
+puts qs = map put qs
+
+unfoldable pub ops : Work → List Op
+ops w = cuts (w .own) ++ (puts (w .new) ++ cuts (w .facing))
+
+-- Q, less its own removed quads, plus the new ones it draws (before Added removes facing quads)
+unfoldable pub needed : Work → List Quad → ℕ
+needed w m = length (run (puts (w .new)) (run (cuts (w .own)) m))
+
+-- ---- a log, in order, until an entry finds no room
+
+pub record Course : Type 0 where
+  pub full : Option ℕ
+  pub quads : List Quad
+  pub moved : ℕ
+  pub highest : ℕ
+
+-- entries i, i + 1, .., n of them, on a mesh of which `v` quads have moved and `p` was the highest count
+unfoldable pub courseFrom : ℕ → (ℕ → Work) → ℕ → ℕ → List Quad → ℕ → ℕ → Course
+courseFrom room work i zero m v p = record { full = none; quads = m; moved = v; highest = p }
+courseFrom room work i (suc n) m v p =
+    cond (leb (needed (work i) m) room)
+    (courseFrom room work (suc i) n (run (ops (work i)) m) (v + moves (ops (work i)) m) (highest p (ops (work i)) m))
+    (record { full = some i; quads = m; moved = v; highest = p })
+
+-- ---- honest logs
+
+-- the lowest Null type covering nothing
+abbrev pub isEmpty : World → ℕ → Bool
+isEmpty W t = eqb (getD (W .kinds) t 0) 0 && eqb (getD (W .covers) t 0) 0
+
+unfoldable pub emptyType : World → ℕ
+emptyType W = lowest (length (W .kinds)) (isEmpty W)
+
+abbrev pub gridBy : World → List ℕ → Entry → Change → List ℕ
+gridBy W g e Broken = set g (e .cell) (emptyType W)
+gridBy W g e Added = set g (e .cell) (e .type)
+gridBy W g e CullFaces = g
+gridBy W g e AddFaces = g
+
+abbrev pub gridAfter : World → List ℕ → Entry → List ℕ
+gridAfter W g e = gridBy W g e (e .change)
+
+abbrev pub gridLog : World → List Entry → List ℕ → List ℕ
+gridLog W [] g = g
+gridLog W (e ∷ es) g = gridLog W es (gridAfter W g e)
+
+-- what stands beside a cell: a type's code, or 255 beyond the edge
+abbrev pub standing : List ℕ → Option ℕ → ℕ
+standing g none = 255
+standing g (some n) = typeAt g n
+
+-- an entry that is true of the grid
+pub record Told (W : World) (g : List ℕ) (e : Entry) : Type 0 where
+  pub inGrid : e .cell < cells (W .size)
+  pub listed : e .type < length (W .kinds)
+  pub neighbours : (f : ℕ) → f < 6 → givenAt e f ≡ standing g (neighbour (W .size) (e .cell) f)
+
+abbrev pub TrueBy : World → List ℕ → Entry → Change → Type 0
+TrueBy W g e Broken = (e .type ≡ typeAt g (e .cell)) × (emptyType W < length (W .kinds))
+TrueBy W g e Added = Unit {0}
+TrueBy W g e CullFaces = ⊥
+TrueBy W g e AddFaces = ⊥
+
+-- only Added and Broken entries, each true of the grid as the entries before it left it
+abbrev pub Honest : World → List ℕ → List Entry → Type 0
+Honest W g [] = Unit {0}
+Honest W g (e ∷ es) = Told W g e × TrueBy W g e (e .change) × Honest W (gridAfter W g e) es
+
+-- demand 3's logs: an Added entry puts a cube into an empty cell, and covers the side that is tested as the side itself
+pub record Fills (tested : Tested) (W : World) (g : List ℕ) (e : Entry) : Type 0 where
+  pub cube : isNormalCube W (e .type) ≡ true
+  pub wasListed : typeAt g (e .cell) < length (W .kinds)
+  pub wasEmpty : isEmpty W (typeAt g (e .cell)) ≡ true
+  pub alike : (f : ℕ) → f < 6 → covering W (e .type) (tested f) ≡ covering W (e .type) f
+
+abbrev pub MendsBy : Tested → World → List ℕ → Entry → Change → Type 0
+MendsBy tested W g e Broken = Unit {0}
+MendsBy tested W g e Added = Fills tested W g e
+MendsBy tested W g e CullFaces = ⊥
+MendsBy tested W g e AddFaces = ⊥
+
+abbrev pub Mends : Tested → World → List ℕ → List Entry → Type 0
+Mends tested W g [] = Unit {0}
+Mends tested W g (e ∷ es) = MendsBy tested W g e (e .change) × Mends tested W (gridAfter W g e) es
