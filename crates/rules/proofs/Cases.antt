@@ -108,7 +108,7 @@ abbrev above : ℕ → List ℕ
 above t = 1 ∷ 0 ∷ 0 ∷ 0 ∷ 1 ∷ t ∷ 255 ∷ 1 ∷ 255 ∷ 255 ∷ 255 ∷ 255 ∷ []
 
 abbrev below : Outcome
-below = fresh 1 2 1 [] (1 ∷ 0 ∷ []) true
+below = meshGrid (scene 1 2 1) [] (1 ∷ 0 ∷ []) true (lent 12 2)
 
 abbrev withAbove : ℕ → Outcome
 withAbove t = updateMesh (scene 1 2 1) (above t) (below .lists) (quadsIn below)
@@ -120,17 +120,9 @@ keys (q ∷ m) = q .key ∷ keys m
 abbrev ten : List Quad
 ten = table 10 (λ k. record { key = k; words = [] })
 
-abbrev one : Bool → ℕ
-one b = cond b 1 0
-
--- how many of the four lists are the same
-abbrev unchanged : Lists → Lists → ℕ
-unchanged A B =
-    one (same (A .vertices) (B .vertices)) + one (same (A .triangles) (B .triangles)) + one (same (A .links) (B .links))
-    + one (same (A .slots) (B .slots))
-
-unfoldable pub cases : List (List ℕ)
-cases =
+-- 1 to 5
+unfoldable pub freshCases : List (List ℕ)
+freshCases =
     -- 1. One cube
     (quadsIn (fresh 1 1 1 [] (1 ∷ []) true) ∷ [])
     -- 2. Grid 1,1; Naive
@@ -141,18 +133,44 @@ cases =
     ∷ (quadsIn (fresh 3 3 3 [] (replicate 27 1) true) ∷ [])
     -- 5. Cube beside a Null covering all
     ∷ (quadsIn (fresh 2 1 1 [] (1 ∷ 2 ∷ []) true) ∷ [])
-    -- 6. Q = 10: removing quad 4 shifts, quad 3 swaps
-    ∷ keys (removeAt 4 ten) ∷ keys (removeAt 3 ten)
-    -- 7. h=2, cube below, a cube type covering only Bottom Added above; fresh
-    ∷ (quadsIn (withAbove 3) ∷ quadsIn (fresh 1 2 1 [] (1 ∷ 3 ∷ []) true) ∷ [])
-    -- 8. Covering only Top; fresh
-    ∷ (quadsIn (withAbove 4) ∷ quadsIn (fresh 1 2 1 [] (1 ∷ 4 ∷ []) true) ∷ [])
-    -- 9. Added Null: quads, moved, and lists that are the same
-    ∷ (quadsIn (withAbove 0) ∷ (withAbove 0) .answer .moved ∷ unchanged (below .lists) ((withAbove 0) .lists) ∷ [])
-    -- 10. Link of cell 5 Top
-    ∷ (linkWord 5 0 ∷ [])
     ∷ []
 
+-- 6. Q = 10: removing quad 4 shifts, quad 3 swaps
+unfoldable pub removalCases : List (List ℕ)
+removalCases = keys (removeAt 4 ten) ∷ keys (removeAt 3 ten) ∷ []
+
+-- 7. h=2, cube below, a cube type covering only Bottom Added above; fresh. 8. Covering only Top
+unfoldable pub mended : ℕ → List ℕ
+mended t = quadsIn (withAbove t) ∷ quadsIn (fresh 1 2 1 [] (1 ∷ t ∷ []) true) ∷ []
+
+-- 9. Added Null: quads and moved (that the lists stay is the law `idle`)
+unfoldable pub addedNull : List ℕ
+addedNull = quadsIn (withAbove 0) ∷ (withAbove 0) .answer .moved ∷ []
+
+-- what the cases work out
+unfoldable pub cases : List (List ℕ)
+cases = freshCases ++ (removalCases ++ (mended 3 ∷ mended 4 ∷ addedNull ∷ (linkWord 5 0 ∷ []) ∷ []))
+fresh-are : freshCases ≡ (6 ∷ []) ∷ (10 ∷ 12 ∷ []) ∷ (8 ∷ []) ∷ (54 ∷ []) ∷ (5 ∷ []) ∷ []
+unfolding freshCases answers.badLimits answers.BAD-TYPES answers.badCounts lowestFrom answers.badType answers.BAD-NUMBER answers.notACube types.isCube every types.classed types.classOf types.classAt types.classOn ieee.eq ieee.ofBits ieee.lt answers.roomOf meshBy each neighbour
+fresh-are = refl
+
+removals-are : removalCases ≡ (0 ∷ 1 ∷ 2 ∷ 3 ∷ 5 ∷ 6 ∷ 7 ∷ 8 ∷ 9 ∷ []) ∷ (0 ∷ 1 ∷ 2 ∷ 9 ∷ 4 ∷ 5 ∷ 6 ∷ 7 ∷ 8 ∷ []) ∷ []
+unfolding removalCases removeAt each
+removals-are = refl
+
+mended-bottom : mended 3 ≡ 11 ∷ 10 ∷ []
+unfolding mended answers.badLimits answers.BAD-TYPES answers.badCounts lowestFrom answers.badType answers.BAD-NUMBER answers.notACube types.isCube every types.classed types.classOf types.classAt types.classOn ieee.eq ieee.ofBits ieee.lt answers.roomOf meshBy each neighbour count laid slotted answers.badLink answers.BAD-LINKS same answers.badEntry answers.BAD-ENTRY courseFrom entryAt needed ops remove removeAt types.quadWords
+mended-bottom = refl
+
+mended-top : mended 4 ≡ 10 ∷ 11 ∷ []
+unfolding mended answers.badLimits answers.BAD-TYPES answers.badCounts lowestFrom answers.badType answers.BAD-NUMBER answers.notACube types.isCube every types.classed types.classOf types.classAt types.classOn ieee.eq ieee.ofBits ieee.lt answers.roomOf meshBy each neighbour count laid slotted answers.badLink answers.BAD-LINKS same answers.badEntry answers.BAD-ENTRY courseFrom entryAt needed ops remove removeAt types.quadWords
+mended-top = refl
+
+null-is : addedNull ≡ 6 ∷ 0 ∷ []
+unfolding addedNull answers.badLimits answers.BAD-TYPES answers.badCounts lowestFrom answers.badType answers.BAD-NUMBER answers.notACube types.isCube every types.classed types.classOf types.classAt types.classOn ieee.eq ieee.ofBits ieee.lt answers.roomOf meshBy each neighbour count laid slotted answers.badLink answers.BAD-LINKS same answers.badEntry answers.BAD-ENTRY courseFrom entryAt needed ops remove removeAt types.quadWords
+null-is = refl
+
+-- the ten cases of 01, one after the other; the sixth has two rows
 pub ten-cases : cases
     ≡ (6 ∷ [])
     ∷ (10 ∷ 12 ∷ [])
@@ -162,11 +180,11 @@ pub ten-cases : cases
     ∷ (0 ∷ 1 ∷ 2 ∷ 3 ∷ 5 ∷ 6 ∷ 7 ∷ 8 ∷ 9 ∷ []) ∷ (0 ∷ 1 ∷ 2 ∷ 9 ∷ 4 ∷ 5 ∷ 6 ∷ 7 ∷ 8 ∷ [])
     ∷ (11 ∷ 10 ∷ [])
     ∷ (10 ∷ 11 ∷ [])
-    ∷ (6 ∷ 0 ∷ 4 ∷ [])
+    ∷ (6 ∷ 0 ∷ [])
     ∷ (2684354565 ∷ [])
     ∷ []
-unfolding cases types.quadWords types.quadWord types.order types.movedWord ieee.toBits ieee.mul ieee.ofInt answers.badLimits answers.BAD-TYPES answers.badCounts lowestFrom answers.badType answers.BAD-NUMBER answers.notACube types.isCube every count types.classed types.classOf types.classAt types.classOn ieee.eq ieee.ofBits ieee.lt answers.roomOf meshBy each neighbour laid slotted answers.badLink answers.BAD-LINKS same answers.badEntry answers.BAD-ENTRY courseFrom entryAt needed ops remove removeAt
-ten-cases = refl
+unfolding cases
+ten-cases = rw (fresh-are, removals-are, mended-bottom, mended-top, null-is)
 
 -- ---- the program's example
 
