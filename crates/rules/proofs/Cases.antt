@@ -143,9 +143,9 @@ removalCases = keys (removeAt 4 ten) ∷ keys (removeAt 3 ten) ∷ []
 unfoldable pub mended : ℕ → List ℕ
 mended t = quadsIn (withAbove t) ∷ quadsIn (fresh 1 2 1 [] (1 ∷ t ∷ []) true) ∷ []
 
--- 9. Added Null: quads and moved (that the lists stay is the law `idle`)
+-- 9. Added Null: as many quads as before (that nothing changes is the law `idle`)
 unfoldable pub addedNull : List ℕ
-addedNull = quadsIn (withAbove 0) ∷ (withAbove 0) .answer .moved ∷ []
+addedNull = quadsIn (withAbove 0) ∷ []
 
 -- what the cases work out
 unfoldable pub cases : List (List ℕ)
@@ -166,7 +166,7 @@ mended-top : mended 4 ≡ 10 ∷ 11 ∷ []
 unfolding mended answers.badLimits answers.BAD-TYPES answers.badCounts lowestFrom answers.badType answers.BAD-NUMBER answers.notACube types.isCube every types.classed types.classOf types.classAt types.classOn ieee.eq ieee.ofBits ieee.lt answers.roomOf meshBy each neighbour count laid slotted answers.badLink answers.BAD-LINKS same answers.badEntry answers.BAD-ENTRY courseFrom entryAt needed ops remove removeAt types.quadWords
 mended-top = refl
 
-null-is : addedNull ≡ 6 ∷ 0 ∷ []
+null-is : addedNull ≡ 6 ∷ []
 unfolding addedNull answers.badLimits answers.BAD-TYPES answers.badCounts lowestFrom answers.badType answers.BAD-NUMBER answers.notACube types.isCube every types.classed types.classOf types.classAt types.classOn ieee.eq ieee.ofBits ieee.lt answers.roomOf meshBy each neighbour count laid slotted answers.badLink answers.BAD-LINKS same answers.badEntry answers.BAD-ENTRY courseFrom entryAt needed ops remove removeAt types.quadWords
 null-is = refl
 
@@ -180,7 +180,7 @@ pub ten-cases : cases
     ∷ (0 ∷ 1 ∷ 2 ∷ 3 ∷ 5 ∷ 6 ∷ 7 ∷ 8 ∷ 9 ∷ []) ∷ (0 ∷ 1 ∷ 2 ∷ 9 ∷ 4 ∷ 5 ∷ 6 ∷ 7 ∷ 8 ∷ [])
     ∷ (11 ∷ 10 ∷ [])
     ∷ (10 ∷ 11 ∷ [])
-    ∷ (6 ∷ 0 ∷ [])
+    ∷ (6 ∷ [])
     ∷ (2684354565 ∷ [])
     ∷ []
 unfolding cases
