@@ -1,1 +1,5 @@
+-- The laws, leaves first.
+pub mod ListLaws
+pub mod Neighbours
+pub mod Quads
 pub mod Cases
