@@ -2,4 +2,5 @@
 pub mod ListLaws
 pub mod Neighbours
 pub mod Quads
+pub mod Mending
 pub mod Cases

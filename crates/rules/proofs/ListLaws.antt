@@ -177,7 +177,7 @@ member-append x (y ∷ a) b = go (eqb x y) (member-append x a b)
     go true e = refl
     go false e = e
 
-pub members : ℕ → Reads ℕ Bool
+abbrev pub members : ℕ → Reads ℕ Bool
 members x =
     record {
       read = member x;

@@ -19,7 +19,7 @@ at-append k [] b = refl
 at-append k (q ∷ a) b = rw (at-append k a b) (sym (append-assoc (only (eqb k (q .key)) (q .words)) (at k a) (at k b)))
 
 -- the quads of a face are read piece by piece
-pub quadsAt : ℕ → Reads Quad (List (List ℕ))
+abbrev pub quadsAt : ℕ → Reads Quad (List (List ℕ))
 quadsAt k =
     record { read = at k; none = []; join = λ a b. a ++ b; of-nil = refl; of-append = at-append k; left-none = λ x. refl; right-none = append-nil }
 
