@@ -3,4 +3,6 @@ pub mod ListLaws
 pub mod Neighbours
 pub mod Quads
 pub mod Mending
+pub mod Laying
+pub mod Index
 pub mod Cases
