@@ -32,6 +32,9 @@ link-of-key v h =
     let b : keyIn v % 6 ≡ 5 - v / UNIT = omega arith in
     rw (a, b) (omega arith)
 
+pub link-inside : (k c : ℕ) → k < 3221225472 → k < 6 * c → (codeIn (linkOf k) ≤ 5) × (cellIn (linkOf k) < c)
+link-inside k c h l = let a : linkOf k % UNIT ≡ k / 6 = omega arith in (omega arith, rw a (omega arith))
+
 -- ---- rows
 
 -- each row of a mesh has s words

@@ -5,4 +5,5 @@ pub mod Quads
 pub mod Mending
 pub mod Laying
 pub mod Index
+pub mod Checking
 pub mod Cases

@@ -64,8 +64,12 @@ pub empty-type : (W : World) → emptyType W < length (W .kinds) → isEmpty W (
 unfolding emptyType
 empty-type W h = lowest-bad (length (W .kinds)) (isEmpty W) h
 
+-- nothing is drawn outside the grid
+pub not-drawn : (W : World) → Sound W → (outer g : List ℕ) (n f : ℕ) → length g ≤ n → drawn W outer g n f ≡ false
+not-drawn W s outer g n f h = rw (List·getD-eq-default g 255 h, empty-cube W 255 (outside-empty W s))
+
 due-out : (W : World) → Sound W → (outer g : List ℕ) (n f : ℕ) → length g ≤ n → due W outer g n f ≡ []
-due-out W s outer g n f h = rw (List·getD-eq-default g 255 h, empty-cube W 255 (outside-empty W s))
+due-out W s outer g n f h = rw (not-drawn W s outer g n f h)
 
 -- ---- keys
 key-same : (c f : ℕ) → eqb (keyOf c f) (keyOf c f) ≡ true

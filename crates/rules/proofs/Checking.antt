@@ -1,0 +1,343 @@
+-- The check accepts exactly the right meshes. Assumes nothing.
+use mathlib.Core.Path.{_≡_, refl, sym, ap, _∙_, subst}
+use mathlib.Core.Logic.{_≢_, _↔_}
+use mathlib.Core.Bool.{Bool, true, false, cond, not, _&&_, _||_, true≢false, false≢true}
+use mathlib.Core.List.{List, [], _∷_, _++_}
+use Prim.Native.Nat.{ℕ, zero, suc, _+_, _-_, _*_, _/_, _%_, _≤_, _<_}
+use native.Mathlib.Omega.{arith}
+use native.Mathlib.Decide.{decLt}
+use lib.Dec.{eqb, leb, ltb}
+use lib.ListN.{length, getD}
+use borrow.Author.Tests.{eqb-true, eqb-false, eq-eqb, ne-eqb, ltb-false, lt-ltb, le-ltb, leb-false, lt-leb, leb-true}
+use Rattle.rules.specs.Lists.{table, row, same, lowest}
+use Rattle.rules.specs.Cells.{cells, UNIT, cellIn, codeIn, keyOf, keyIn, firstVertex}
+use Rattle.rules.specs.Mesh.{Quad, World, Lists, NONE, typeAt, isNormalCube, drawn, at, there, placeOf, pattern, decoded, decode, layout, slotOf}
+use Rattle.rules.specs.Update.{blank}
+use Rattle.rules.specs.Answers.{Verdict, fine, refuse, _then_, refuseIf, refuseLowest, slotAt, badLink, filled, BAD-LINKS, BAD-TRIANGLES, wrongFace, WRONG-SET, wrongVertex, WRONG-VERTEX}
+use Rattle.rules.specs.Check.{linked, Right}
+use Rattle.rules.proofs.ListLaws.{All, all-at, split, both-ways, not-true, lowest-none, lowest-good, same-true, same-refl, length-table, getD-table}
+use Rattle.rules.proofs.Quads.{Once, Placed, placed, absent}
+use Rattle.rules.proofs.Laying.{Fits, keyAt, Distinct, link-inside, keys-at, links-at, vertices-at, triangles-at, slots-at, is-there, at-there, place-is, distinct-of-once, once-of-distinct}
+use Rattle.rules.proofs.Index.{Named, In, no-other, no-more}
+use Rattle.rules.proofs.Mending.{due, Shows, Sound, not-drawn}
+
+-- ---- verdicts
+pub then-fine : (a b : Verdict) → (a then b) ≡ fine → (a ≡ fine) × (b ≡ fine)
+then-fine fine b e = (refl, e)
+then-fine (refuse n p) b e = let z : _≡_ {A = ℕ} 0 1 = cc in absurd (omega arith)
+
+pub fine-then : (a b : Verdict) → a ≡ fine → b ≡ fine → (a then b) ≡ fine
+fine-then a b p q = rw p q
+
+pub if-fine : (b : Bool) (n p : ℕ) → refuseIf b n p ≡ fine → b ≡ false
+if-fine true n p e = let z : _≡_ {A = ℕ} 0 1 = cc in absurd (omega arith)
+if-fine false n p e = refl
+
+pub fine-if : (b : Bool) (n p : ℕ) → b ≡ false → refuseIf b n p ≡ fine
+fine-if b n p e = rw e
+
+pub lowest-fine : (number n : ℕ) (bad : ℕ → Bool) → refuseLowest number n bad ≡ fine → (k : ℕ) → k < n → bad k ≡ false
+lowest-fine number n bad e k h =
+    let l = ltb-false (lowest n bad) n (if-fine (ltb (lowest n bad) n) number (lowest n bad) e) in lowest-good n bad k (omega arith)
+
+pub fine-lowest : (number n : ℕ) (bad : ℕ → Bool) → ((k : ℕ) → k < n → bad k ≡ false) → refuseLowest number n bad ≡ fine
+fine-lowest number n bad h =
+    fine-if (ltb (lowest n bad) n) number (lowest n bad) (le-ltb (lowest n bad) n (omega (arith, lowest-none n bad h)))
+
+pub or-false : (a b : Bool) → (a || b) ≡ false → (a ≡ false) × (b ≡ false)
+or-false true b e = absurd (true≢false e)
+or-false false b e = (refl, e)
+
+-- ---- links, slots and triangles
+pub record Book (n : ℕ) (B : Lists) (Q : ℕ) : Type 0 where
+  pub codes : (q : ℕ) → q < Q → codeIn (getD (B .links) q 0) ≤ 5
+  pub inside : (q : ℕ) → q < Q → cellIn (getD (B .links) q 0) < n
+  pub named : (q : ℕ) → q < Q → slotAt B (linked B q) ≡ firstVertex q
+  pub few : filled (6 * n) B ≤ Q
+  pub triangles : (q : ℕ) → q < Q → row 6 (B .triangles) q ≡ pattern q
+
+module _ (n : ℕ) (B : Lists) (Q : ℕ) where
+  link-fine : (q : ℕ) → badLink n B q ≡ false
+      → (codeIn (getD (B .links) q 0) ≤ 5) × (cellIn (getD (B .links) q 0) < n) × (slotAt B (linked B q) ≡ firstVertex q)
+  unfolding badLink
+  link-fine q e =
+      let a = or-false (ltb 5 (codeIn (getD (B .links) q 0)) || leb n (cellIn (getD (B .links) q 0))) (not (eqb (slotAt B (linked B q)) (firstVertex q))) e in
+      let b = or-false (ltb 5 (codeIn (getD (B .links) q 0))) (leb n (cellIn (getD (B .links) q 0))) (a .0) in
+      (ltb-false 5 (codeIn (getD (B .links) q 0)) (b .0), leb-false n (cellIn (getD (B .links) q 0)) (b .1),
+      eqb-true (slotAt B (linked B q)) (firstVertex q) (not-true _ (a .1)))
+
+  fine-link : (q : ℕ) → codeIn (getD (B .links) q 0) ≤ 5 → cellIn (getD (B .links) q 0) < n → slotAt B (linked B q) ≡ firstVertex q
+      → badLink n B q ≡ false
+  unfolding badLink
+  fine-link q a b d = rw (le-ltb 5 (codeIn (getD (B .links) q 0)) a, lt-leb n (cellIn (getD (B .links) q 0)) b, eq-eqb (slotAt B (linked B q)) (firstVertex q) d)
+
+  pub book-of-fine : (BAD-LINKS n B Q then BAD-TRIANGLES B Q) ≡ fine → Book n B Q
+  unfolding BAD-LINKS
+  book-of-fine e =
+      let t = then-fine (refuseLowest 11 Q (badLink n B) then refuseIf (ltb Q (filled (6 * n) B)) 11 Q) (BAD-TRIANGLES B Q) e in
+      let l = then-fine (refuseLowest 11 Q (badLink n B)) (refuseIf (ltb Q (filled (6 * n) B)) 11 Q) (t .0) in
+      let k : (q : ℕ) → q < Q → badLink n B q ≡ false = lowest-fine 11 Q (badLink n B) (l .0) in
+      record {
+        codes = λ q h. link-fine q (k q h) .0;
+        inside = λ q h. link-fine q (k q h) .1;
+        named = λ q h. link-fine q (k q h) .2;
+        few = ltb-false Q (filled (6 * n) B) (if-fine (ltb Q (filled (6 * n) B)) 11 Q (l .1));
+        triangles = λ q h. same-true (row 6 (B .triangles) q) (pattern q)
+            (not-true (same (row 6 (B .triangles) q) (pattern q)) (lowest-fine 12 Q (λ q. not (same (row 6 (B .triangles) q) (pattern q))) (t .1) q h));
+      }
+
+  pub fine-of-book : Book n B Q → (BAD-LINKS n B Q then BAD-TRIANGLES B Q) ≡ fine
+  unfolding BAD-LINKS
+  fine-of-book b =
+      fine-then (refuseLowest 11 Q (badLink n B) then refuseIf (ltb Q (filled (6 * n) B)) 11 Q) (BAD-TRIANGLES B Q)
+      (fine-then (refuseLowest 11 Q (badLink n B)) (refuseIf (ltb Q (filled (6 * n) B)) 11 Q)
+      (fine-lowest 11 Q (badLink n B) (λ q h. fine-link q (b .codes q h) (b .inside q h) (b .named q h)))
+      (fine-if (ltb Q (filled (6 * n) B)) 11 Q (le-ltb Q (filled (6 * n) B) (b .few))))
+      (fine-lowest 12 Q (λ q. not (same (row 6 (B .triangles) q) (pattern q)))
+      (λ q h. rw (b .triangles q h, same-refl (pattern q))))
+
+  -- what the links name: places in the grid, distinct, and their slots full
+  pub names-of : 6 * n ≤ length (B .slots) → ((q : ℕ) → q < Q → codeIn (getD (B .links) q 0) ≤ 5)
+      → ((q : ℕ) → q < Q → cellIn (getD (B .links) q 0) < n) → ((q : ℕ) → q < Q → slotAt B (linked B q) ≡ firstVertex q)
+      → Named (6 * n) (B .slots) (table Q (linked B))
+  names-of room codes inside named =
+      record {
+        room = room;
+        below = λ q h. let l = len q h in rw (key q l) (let a = codes q l in let b = inside q l in omega arith);
+        full = λ q h. let l = len q h in rw (key q l) (λ e. let a = named q l in omega arith);
+        apart = λ p q l h. let b = len q h in let a : p < Q = omega arith in
+            rw (key p a, key q b) (λ e. let x = named p a in let y = named q b in let z = ap (slotAt B) e in omega arith);
+      }
+    where
+      len : (q : ℕ) → q < length (table Q (linked B)) → q < Q
+      len q h = omega (arith, length-table (linked B) Q)
+
+      key : (q : ℕ) → q < Q → getD (table Q (linked B)) q 0 ≡ linked B q
+      key q h = getD-table (linked B) Q q 0 h
+
+  -- each filled slot names a quad of its face
+  pub filled-named : 6 * n ≤ length (B .slots) → Book n B Q → (k : ℕ) → k < 6 * n → slotAt B k ≢ NONE
+      → (q : ℕ) × (q < Q) × (slotAt B k ≡ firstVertex q) × (linked B q ≡ k)
+  filled-named room b k h d =
+      let len = length-table (linked B) Q in
+      let i = no-other (table Q (linked B)) (6 * n) (B .slots) (names-of room (b .codes) (b .inside) (b .named)) (omega (arith, b .few)) k h d in
+      let l : i .0 < Q = omega (arith, i .1) in
+      let e : linked B (i .0) ≡ k = sym (getD-table (linked B) Q (i .0) 0 l) ∙ i .2 in
+      (i .0, l, ap (slotAt B) (sym e) ∙ b .named (i .0) l, e)
+
+  pub few-filled : 6 * n ≤ length (B .slots) → ((q : ℕ) → q < Q → codeIn (getD (B .links) q 0) ≤ 5)
+      → ((q : ℕ) → q < Q → cellIn (getD (B .links) q 0) < n) → ((q : ℕ) → q < Q → slotAt B (linked B q) ≡ firstVertex q)
+      → ((k : ℕ) → k < 6 * n → slotAt B k ≢ NONE → (q : ℕ) × (q < Q) × (slotAt B k ≡ firstVertex q) × (linked B q ≡ k))
+      → filled (6 * n) B ≤ Q
+  few-filled room codes inside named naming =
+      let len = length-table (linked B) Q in
+      let m = no-more (table Q (linked B)) (6 * n) (B .slots) (names-of room codes inside named)
+      (λ k h d. let i = naming k h d in (i .0, omega (arith, i .1), getD-table (linked B) Q (i .0) 0 (i .1) ∙ i .3)) in
+      omega arith
+
+  -- the quads read back are the links' faces, in their places
+  pub length-decode : (s : ℕ) → length (decode s Q B) ≡ Q
+  length-decode s = length-table (decoded s B) Q
+
+  pub key-decode : (s q : ℕ) → q < Q → keyAt (decode s Q B) q ≡ linked B q
+  key-decode s q h = ap (λ (x : Quad). x .key) (getD-table (decoded s B) Q q blank h)
+
+  pub words-decode : (s q : ℕ) → q < Q → (getD (decode s Q B) q blank) .words ≡ row s (B .vertices) q
+  words-decode s q h = ap (λ (x : Quad). x .words) (getD-table (decoded s B) Q q blank h)
+
+  pub distinct-decode : (s : ℕ) → ((p q : ℕ) → p < q → q < Q → linked B p ≢ linked B q) → Distinct (decode s Q B)
+  distinct-decode s d p q l h e =
+      let b : q < Q = omega (arith, length-decode s) in
+      d p q l b (sym (key-decode s p (omega arith)) ∙ e ∙ key-decode s q b)
+
+-- ---- the faces
+module _ (W : World) (outer g : List ℕ) (s : ℕ) (B : Lists) (Q : ℕ) (room : 6 * cells (W .size) ≤ length (B .slots)) where
+  N : ℕ
+  N = cells (W .size)
+
+  m : List Quad
+  m = decode s Q B
+
+  face-fine : (k : ℕ) → wrongFace W outer g (decode s Q B) k ≡ false → there k (decode s Q B) ≡ drawn W outer g (k / 6) (k % 6)
+  unfolding wrongFace
+  face-fine k = go (drawn W outer g (k / 6) (k % 6)) (there k (decode s Q B))
+    where
+      go : (a b : Bool) → cond a (not b) b ≡ false → b ≡ a
+      go true true e = refl
+      go true false e = absurd (true≢false e)
+      go false b e = e
+
+  fine-face : (k : ℕ) → there k (decode s Q B) ≡ drawn W outer g (k / 6) (k % 6) → wrongFace W outer g (decode s Q B) k ≡ false
+  unfolding wrongFace
+  fine-face k e = rw e (go (drawn W outer g (k / 6) (k % 6)))
+    where
+      go : (a : Bool) → cond a (not a) a ≡ false
+      go true = refl
+      go false = refl
+
+  vertex-fine : (q : ℕ) → wrongVertex W g s B q ≡ false
+      → row s (B .vertices) q ≡ W .wordsOf (typeAt g (linked B q / 6)) (linked B q % 6) (linked B q / 6)
+  unfolding wrongVertex
+  vertex-fine q e = same-true (row s (B .vertices) q) (W .wordsOf (typeAt g (linked B q / 6)) (linked B q % 6) (linked B q / 6)) (not-true _ e)
+
+  fine-vertex : (q : ℕ) → row s (B .vertices) q ≡ W .wordsOf (typeAt g (linked B q / 6)) (linked B q % 6) (linked B q / 6)
+      → wrongVertex W g s B q ≡ false
+  unfolding wrongVertex
+  fine-vertex q e = rw (e, same-refl (W .wordsOf (typeAt g (linked B q / 6)) (linked B q % 6) (linked B q / 6)))
+
+  there-of : (q : ℕ) → q < Q → there (linked B q) (decode s Q B) ≡ true
+  there-of q h = is-there (decode s Q B) q (linked B q) (omega (arith, length-decode N B Q s)) (key-decode N B Q s q h)
+
+  place-of : (k : ℕ) → there k (decode s Q B) ≡ true → (q : ℕ) × (q < Q) × (linked B q ≡ k)
+  place-of k e =
+      let p = placed k (decode s Q B) e in
+      let w = p .within in
+      let l : placeOf k (decode s Q B) < Q = omega (arith, length-decode N B Q s) in
+      (placeOf k (decode s Q B), l, sym (key-decode N B Q s (placeOf k (decode s Q B)) l) ∙ p .key)
+
+  -- LAW: no refusal of 11, 12, 15 or 16 is given exactly if the mesh is right
+  pub right-of-fine : (BAD-LINKS (cells (W .size)) B Q then BAD-TRIANGLES B Q) ≡ fine
+      → (WRONG-SET W outer g (decode s Q B) then WRONG-VERTEX W g s B Q) ≡ fine → Right W outer g s B Q
+  right-of-fine eb ef =
+      let b = book-of-fine (cells (W .size)) B Q eb in
+      let t = then-fine (WRONG-SET W outer g (decode s Q B)) (WRONG-VERTEX W g s B Q) ef in
+      let set : (k : ℕ) → k < 6 * cells (W .size) → there k (decode s Q B) ≡ drawn W outer g (k / 6) (k % 6) =
+      λ k h. face-fine k (lowest-fine 15 (6 * cells (W .size)) (wrongFace W outer g (decode s Q B)) (t .0) k h) in
+      record {
+        eachShown = λ c f hc hf d.
+            let u : keyOf c f / 6 ≡ c = omega arith in
+            let v : keyOf c f % 6 ≡ f = omega arith in
+            let r : there (keyOf c f) (decode s Q B) ≡ true = set (keyOf c f) (omega arith) ∙ rw (u, v) d in place-of (keyOf c f) r;
+        inside = λ q h. (b .codes q h, b .inside q h);
+        noOther = λ q h. let x = b .codes q h in let y = b .inside q h in sym (set (linked B q) (omega arith)) ∙ there-of q h;
+        once = λ p q l h e. let x = b .named p (omega arith) in let y = b .named q h in let z = ap (slotAt B) e in omega arith;
+        vertices = λ q h. vertex-fine q (lowest-fine 16 Q (wrongVertex W g s B) (t .1) q h);
+        triangles = b .triangles;
+        named = b .named;
+        naming = filled-named (cells (W .size)) B Q room b;
+      }
+
+  pub book-of-right : Right W outer g s B Q → Book (cells (W .size)) B Q
+  book-of-right r =
+      record {
+        codes = λ q h. r .inside q h .0;
+        inside = λ q h. r .inside q h .1;
+        named = r .named;
+        few = few-filled (cells (W .size)) B Q room (λ q h. r .inside q h .0) (λ q h. r .inside q h .1) (r .named) (r .naming);
+        triangles = r .triangles;
+      }
+
+  there-is-drawn : Right W outer g s B Q → (k : ℕ) → k < 6 * cells (W .size) → there k (decode s Q B) ≡ drawn W outer g (k / 6) (k % 6)
+  there-is-drawn r k h = go (drawn W outer g (k / 6) (k % 6)) refl
+    where
+      go : (d : Bool) → drawn W outer g (k / 6) (k % 6) ≡ d → there k (decode s Q B) ≡ d
+      go true e =
+          let i = r .eachShown (k / 6) (k % 6) (omega arith) (omega arith) e in
+          is-there (decode s Q B) (i .0) k (omega (arith, i .1, length-decode N B Q s)) (key-decode N B Q s (i .0) (i .1) ∙ i .2 ∙ omega arith)
+      go false e = both-ways (there k (decode s Q B)) (λ t. let i = place-of k t in true≢false (sym (r .noOther (i .0) (i .1)) ∙ rw (i .2) e))
+
+  pub fine-of-right : Right W outer g s B Q
+      → ((BAD-LINKS (cells (W .size)) B Q then BAD-TRIANGLES B Q) ≡ fine) × ((WRONG-SET W outer g (decode s Q B) then WRONG-VERTEX W g s B Q) ≡ fine)
+  fine-of-right r = (
+    fine-of-book (cells (W .size)) B Q (book-of-right r),
+    fine-then (WRONG-SET W outer g (decode s Q B)) (WRONG-VERTEX W g s B Q)
+        (fine-lowest 15 (6 * cells (W .size)) (wrongFace W outer g (decode s Q B)) (λ k h. fine-face k (there-is-drawn r k h)))
+        (fine-lowest 16 Q (wrongVertex W g s B) (λ q h. fine-vertex q (r .vertices q h))),
+  )
+
+  -- a right mesh, read back, shows what culling shows
+  pub shows-of-right : Sound W → length g ≡ cells (W .size) → Right W outer g s B Q → Shows W outer g (decode s Q B)
+  unfolding Shows
+  shows-of-right snd hg r c f hf = go (drawn W outer g c f) refl
+    where
+      once : Once (decode s Q B)
+      once = once-of-distinct (decode s Q B) (distinct-decode N B Q s (r .once))
+
+      inGrid : drawn W outer g c f ≡ true → c < cells (W .size)
+      inGrid d = on (decLt c (cells (W .size)))
+        where
+          on : Dec (c < cells (W .size)) → c < cells (W .size)
+          on (yes h) = h
+          on (no h) = absurd (true≢false (sym d ∙ not-drawn W snd outer g c f (omega arith)))
+
+      go : (d : Bool) → drawn W outer g c f ≡ d → at (keyOf c f) (decode s Q B) ≡ cond d (W .wordsOf (typeAt g c) f c ∷ []) []
+      go true d =
+          let i = r .eachShown c f (inGrid d) hf d in
+          let k = key-decode N B Q s (i .0) (i .1) ∙ i .2 in
+          let u : linked B (i .0) / 6 ≡ c = omega (arith, i .2) in
+          let v : linked B (i .0) % 6 ≡ f = omega (arith, i .2) in
+          (rw k at (at-there (decode s Q B) (i .0) once (omega (arith, i .1, length-decode N B Q s))))
+          ∙ ap (λ (w : List ℕ). w ∷ []) (words-decode N B Q s (i .0) (i .1) ∙ rw (u, v) at (r .vertices (i .0) (i .1)))
+      go false d =
+          absent (keyOf c f) (decode s Q B)
+          (both-ways (there (keyOf c f) (decode s Q B))
+          (λ t. let i = place-of (keyOf c f) t in
+          let u : linked B (i .0) / 6 ≡ c = omega (arith, i .2) in
+          let v : linked B (i .0) % 6 ≡ f = omega (arith, i .2) in
+          true≢false (sym (rw (u, v) at (r .noOther (i .0) (i .1))) ∙ d)))
+
+-- ---- a mesh that shows what culling shows, laid out, is right
+module _ (W : World) (outer g : List ℕ) (s highest : ℕ) (m : List Quad) (B : Lists) (hn : 6 * cells (W .size) ≤ 3221225472)
+    (fits : All (Fits (6 * cells (W .size)) s) m) (room : 6 * cells (W .size) ≤ length (B .slots)) where
+  pub right-of-shows : Shows W outer g m → Once m → Right W outer g s (layout (6 * cells (W .size)) s highest m B) (length m)
+  unfolding Shows
+  right-of-shows sh once =
+      record {
+        eachShown = λ c f hc hf d. shown-at c f hf d;
+        inside = inside;
+        noOther = λ q h. rw (key q h) (both q h .0);
+        once = λ p q l h. rw (key p (omega arith), key q h) (distinct-of-once m once p q l h);
+        vertices = λ q h. rw (key q h) (vertices-at (6 * cells (W .size)) s highest hn m B fits q h ∙ both q h .1);
+        triangles = triangles-at (6 * cells (W .size)) s highest hn m B fits;
+        named = λ q h. rw (key q h) (slot (keyAt m q) (below q h) ∙ rw (is-there m q (keyAt m q) h refl, place-is m q (distinct-of-once m once) h));
+        naming = naming;
+      }
+    where
+      after : Lists
+      after = layout (6 * cells (W .size)) s highest m B
+
+      key : (q : ℕ) → q < length m → linked (layout (6 * cells (W .size)) s highest m B) q ≡ keyAt m q
+      key = keys-at (6 * cells (W .size)) s highest hn m B fits
+
+      below : (q : ℕ) → q < length m → keyAt m q < 6 * cells (W .size)
+      below q h = all-at (Fits (6 * cells (W .size)) s) m q blank fits h .0
+
+      slot : (k : ℕ) → k < 6 * cells (W .size) → slotAt (layout (6 * cells (W .size)) s highest m B) k ≡ slotOf m k
+      slot = slots-at (6 * cells (W .size)) s highest hn m B fits room
+
+      one-of : (b : Bool) (x y : List ℕ) → cond b (x ∷ []) [] ≡ y ∷ [] → (b ≡ true) × (y ≡ x)
+      one-of true x y e = (refl, (cc))
+      one-of false x y e = let z : _≡_ {A = ℕ} 0 1 = cc in absurd (omega arith)
+
+      both : (q : ℕ) → q < length m
+          → (drawn W outer g (keyAt m q / 6) (keyAt m q % 6) ≡ true)
+          × ((getD m q blank) .words ≡ W .wordsOf (typeAt g (keyAt m q / 6)) (keyAt m q % 6) (keyAt m q / 6))
+      both q h =
+          let e : keyOf (keyAt m q / 6) (keyAt m q % 6) ≡ keyAt m q = omega arith in
+          one-of (drawn W outer g (keyAt m q / 6) (keyAt m q % 6)) _ ((getD m q blank) .words)
+          (sym (sh (keyAt m q / 6) (keyAt m q % 6) (omega arith)) ∙ rw e (at-there m q once h))
+
+      found : (k : ℕ) → there k m ≡ true → (q : ℕ) × (q < length m) × (placeOf k m ≡ q) × (linked (layout (6 * cells (W .size)) s highest m B) q ≡ k)
+      found k e = let p = placed k m e in (placeOf k m, p .within, refl, key (placeOf k m) (p .within) ∙ p .key)
+
+      shown-at : (c f : ℕ) → f < 6 → drawn W outer g c f ≡ true
+          → (q : ℕ) × (q < length m) × (linked (layout (6 * cells (W .size)) s highest m B) q ≡ keyOf c f)
+      shown-at c f hf d = let i = found (keyOf c f) (rw (sh c f hf, d)) in (i .0, i .1, i .3)
+
+      inside : (q : ℕ) → q < length m
+          → (codeIn (getD ((layout (6 * cells (W .size)) s highest m B) .links) q 0) ≤ 5)
+          × (cellIn (getD ((layout (6 * cells (W .size)) s highest m B) .links) q 0) < cells (W .size))
+      inside q h =
+          let b = below q h in
+          rw (links-at (6 * cells (W .size)) s highest hn m B fits q h) (link-inside (keyAt m q) (cells (W .size)) (omega arith) b)
+
+      naming : (k : ℕ) → k < 6 * cells (W .size) → slotAt (layout (6 * cells (W .size)) s highest m B) k ≢ NONE
+          → (q : ℕ) × (q < length m) × (slotAt (layout (6 * cells (W .size)) s highest m B) k ≡ firstVertex q)
+          × (linked (layout (6 * cells (W .size)) s highest m B) q ≡ k)
+      naming k h d = go (there k m) refl
+        where
+          go : (t : Bool) → there k m ≡ t
+              → (q : ℕ) × (q < length m) × (slotAt (layout (6 * cells (W .size)) s highest m B) k ≡ firstVertex q)
+              × (linked (layout (6 * cells (W .size)) s highest m B) q ≡ k)
+          go true e = let i = found k e in (i .0, i .1, slot k h ∙ rw (e, i .2), i .3)
+          go false e = absurd (d (slot k h ∙ rw e))
