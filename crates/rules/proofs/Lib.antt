@@ -6,4 +6,5 @@ pub mod Mending
 pub mod Laying
 pub mod Index
 pub mod Checking
+pub mod Courses
 pub mod Cases

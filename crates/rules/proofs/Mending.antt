@@ -394,3 +394,43 @@ module _ (W : World) (s : Sound W) (g : List ℕ) (hg : length g ≡ cells (W .s
       go (apart d l q) =
           alone d (face-apart W s g hg (e .cell) (told .inGrid) n f hf q) ∙ sym (due-far W s g hg (e .cell) (told .inGrid) n f hf (emptyType W) d q)
       go (out d l) = alone d (out-apart W s g hg (e .cell) (told .inGrid) n f hf l) ∙ beyond (emptyType W) l
+
+  -- what is drawn, is drawn once
+  pub added-new : (tested : Tested) → length (at (keyOf n f) ((added tested W e) .new)) ≤ 1
+  added-new tested = go (ℕ-discrete n (e .cell))
+    where
+      go : Dec (n ≡ e .cell) → length (at (keyOf n f) (quads W (e .type) (e .cell) (isOpen W e))) ≤ 1
+      go (yes q) = rw (quads-own W (e .type) (e .cell) n f hf (isOpen W e) q) (only-le (isOpen W e f) (W .wordsOf (e .type) f (e .cell)))
+      go (no d) = rw (quads-far W (e .type) (e .cell) n f hf (isOpen W e) d) (omega arith)
+
+  pub broken-new : length (at (keyOf n f) ((broken W e) .new)) ≤ 1
+  broken-new = go (view W s g hg (e .cell) (told .inGrid) n f hf)
+    where
+      gone : Apart W s g hg (e .cell) (told .inGrid) n f hf → length (at (keyOf n f) ((broken W e) .new)) ≤ 1
+      gone a = rw (reveals-none W s g hg (e .cell) (told .inGrid) n f hf (e .type) (givenAt e) a) (omega arith)
+
+      go : View W s g hg (e .cell) (told .inGrid) n f hf → length (at (keyOf n f) ((broken W e) .new)) ≤ 1
+      go (own q) = gone (own-apart W s g hg (e .cell) (told .inGrid) n f hf q)
+      go (facing d b q) =
+          rw (reveals-one W s g hg (e .cell) (told .inGrid) n f hf (e .type) (givenAt e) b)
+          (only-le (covering W (e .type) (opposite f) && isNormalCube W (givenAt e (opposite f))) (W .wordsOf (givenAt e (opposite f)) f n))
+      go (apart d l q) = gone (face-apart W s g hg (e .cell) (told .inGrid) n f hf q)
+      go (out d l) = gone (out-apart W s g hg (e .cell) (told .inGrid) n f hf l)
+
+-- ---- LAW: an honest entry of demand 3 keeps what a mesh shows
+module _ (W : World) (s : Sound W) (tested : Tested) (g : List ℕ) (hg : length g ≡ cells (W .size)) (m : List Quad) (shows : Shows W [] g m)
+    (e : Entry) (told : Told W g e) where
+  by-faces : (w : Work) (g′ : List ℕ) → ((n f : ℕ) → f < 6 → length (at (keyOf n f) (w .new)) ≤ 1)
+      → ((n f : ℕ) → f < 6 → worked w (keyOf n f) (due W [] g n f) ≡ due W [] g′ n f) → Shows W [] g′ (run (ops w) m)
+  unfolding Shows
+  by-faces w g′ few h n f hf =
+      at-work w (keyOf n f) m (shows-once W [] g m shows (keyOf n f)) (few n f hf) ∙ rw (shows n f hf) (h n f hf)
+
+  pub mends-entry : (k : Change) → TrueBy W g e k → MendsBy tested W g e k → Shows W [] (gridBy W g e k) (run (ops (workBy tested W e k)) m)
+  mends-entry Broken h t =
+      by-faces (broken W e) (set g (e .cell) (emptyType W)) (λ n f hf. broken-new W s g hg e told n f hf) (λ n f hf. broken-due W s g hg e told n f hf h)
+  mends-entry Added h t =
+      rw (t .cube)
+      (by-faces (added tested W e) (set g (e .cell) (e .type)) (λ n f hf. added-new W s g hg e told n f hf tested) (λ n f hf. added-due W s g hg e told n f hf tested t))
+  mends-entry CullFaces h t = absurd t
+  mends-entry AddFaces h t = absurd t

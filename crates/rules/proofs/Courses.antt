@@ -1,0 +1,284 @@
+-- What a log does to counts, places and faces. Assumes nothing.
+use mathlib.Core.Path.{_≡_, refl, sym, ap, _∙_, subst}
+use mathlib.Core.Logic.{_≢_, _↔_}
+use mathlib.Core.Bool.{Bool, true, false, cond, not, _&&_}
+use mathlib.Core.List.{List, [], _∷_, _++_}
+use mathlib.Core.Option.{Option, none, some}
+use Prim.Native.Nat.{ℕ, zero, suc, _+_, _-_, _*_, _≤_, _<_, max}
+use native.Mathlib.Omega.{arith}
+use lib.Dec.{leb}
+use lib.ListN.{length, getD, set, take, drop, length-append, length-set}
+use borrow.Author.Tests.{leb-true, leb-false, le-leb}
+use Rattle.rules.specs.Lists.{each, only}
+use Rattle.rules.specs.Cells.{cells, opposite, neighbour, keyOf}
+use Rattle.rules.specs.Mesh.{Quad, World, isNormalCube, covering, meshBy, quadsBy, quadAt, typeAt, at, there, placeOf}
+use Rattle.rules.specs.Update.{Change, Broken, Added, CullFaces, AddFaces, Entry, givenAt, blank, draw, shifts, removeAt, remove, movedBy, moved, Op, put, cut, step, run, moves, highest, Work, Tested, quadOf, sides, quads, hide, reveal, all, isOpen, withGiven, nothing, added, broken, workBy, work, cuts, puts, ops, needed, Course, courseFrom, emptyType, gridBy, gridAfter, gridLog, Told, TrueBy, Honest, MendsBy, Mends}
+use Rattle.rules.proofs.ListLaws.{All, all-append, all-take, all-drop, all-at, all-each, all-only, split}
+use Rattle.rules.proofs.Neighbours.{beside, opposite-lt}
+use Rattle.rules.proofs.Quads.{Once, placed, moved-le, length-removeAt, run-append, run-once, absent}
+use Rattle.rules.proofs.Laying.{Fits}
+use Rattle.rules.proofs.Mending.{Shows, Sound, mends-entry}
+
+-- ---- moves: at most five a removal, sixty an entry
+moves-append : (a b : List Op) (m : List Quad) → moves (a ++ b) m ≡ moves a m + moves b (run a m)
+moves-append [] b m = omega arith
+moves-append (o ∷ a) b m = omega (arith, moves-append a b (step o m))
+
+moves-cuts : (ks : List ℕ) (m : List Quad) → moves (cuts ks) m ≤ 5 * length ks
+moves-cuts [] m = omega arith
+moves-cuts (k ∷ ks) m = omega (arith, moves-cuts ks (remove k m), moved-le k m)
+
+moves-puts : (qs : List Quad) (m : List Quad) → moves (puts qs) m ≡ 0
+moves-puts [] m = refl
+moves-puts (q ∷ qs) m = omega (arith, moves-puts qs (draw q m))
+
+pub moves-ops : (w : Work) (m : List Quad) → moves (ops w) m ≤ 5 * (length (w .own) + length (w .facing))
+unfolding ops
+moves-ops w m =
+    let a = moves-append (cuts (w .own)) (puts (w .new) ++ cuts (w .facing)) m in
+    let b = moves-append (puts (w .new)) (cuts (w .facing)) (run (cuts (w .own)) m) in
+    let c = moves-cuts (w .own) m in
+    let d = moves-puts (w .new) (run (cuts (w .own)) m) in
+    let e = moves-cuts (w .facing) (run (puts (w .new)) (run (cuts (w .own)) m)) in
+    omega arith
+
+few {ℓ} : {A : Type ℓ} (n i : ℕ) (p : ℕ → List A) → ((k : ℕ) → length (p k) ≤ 1) → length (each n i p) ≤ n
+unfolding each
+few zero i p h = omega arith
+few (suc n) i p h = omega (arith, length-append (p i) (each n (suc i) p), few n (suc i) p h, h i)
+
+only-few {ℓ} : {A : Type ℓ} (b : Bool) (x : A) → length (only b x) ≤ 1
+only-few true x = omega arith
+only-few false x = omega arith
+
+pub few-own : (tested : Tested) (W : World) (e : Entry) (k : Change) → length ((workBy tested W e k) .own) ≤ 6
+few-own tested W e Broken = few 6 0 (λ f. only (all f) (keyOf (e .cell) f)) (λ f. only-few (all f) (keyOf (e .cell) f))
+few-own tested W e Added =
+    split (λ t. length ((cond t (added tested W e) nothing) .own) ≤ 6) (isNormalCube W (e .type))
+    (λ s. few 6 0 (λ f. only (all f) (keyOf (e .cell) f)) (λ f. only-few (all f) (keyOf (e .cell) f))) (λ s. omega arith)
+few-own tested W e CullFaces = few 6 0 (λ f. only (withGiven e f) (keyOf (e .cell) f)) (λ f. only-few (withGiven e f) (keyOf (e .cell) f))
+few-own tested W e AddFaces =
+    split (λ t. length ((cond t (record { own = []; new = quads W (e .type) (e .cell) (withGiven e); facing = [] }) nothing) .own) ≤ 6)
+    (isNormalCube W (e .type)) (λ s. omega arith) (λ s. omega arith)
+
+pub few-facing : (tested : Tested) (W : World) (e : Entry) (k : Change) → length ((workBy tested W e k) .facing) ≤ 6
+few-facing tested W e Broken = omega arith
+few-facing tested W e Added =
+    split (λ t. length ((cond t (added tested W e) nothing) .facing) ≤ 6) (isNormalCube W (e .type))
+    (λ s. few 6 0 (λ i. hide tested W (e .type) i (neighbour (W .size) (e .cell) i)) (λ i. one i (neighbour (W .size) (e .cell) i))) (λ s. omega arith)
+  where
+    one : (i : ℕ) (o : Option ℕ) → length (hide tested W (e .type) i o) ≤ 1
+    one i none = omega arith
+    one i (some n) = only-few (covering W (e .type) (tested i)) (keyOf n (opposite i))
+few-facing tested W e CullFaces = omega arith
+few-facing tested W e AddFaces =
+    split (λ t. length ((cond t (record { own = []; new = quads W (e .type) (e .cell) (withGiven e); facing = [] }) nothing) .facing) ≤ 6)
+    (isNormalCube W (e .type)) (λ s. omega arith) (λ s. omega arith)
+
+-- LAW: an entry moves at most sixty quads
+pub entry-moves : (tested : Tested) (W : World) (e : Entry) (m : List Quad) → moves (ops (work tested W e)) m ≤ 60
+entry-moves tested W e m =
+    omega (arith, moves-ops (work tested W e) m, few-own tested W e (e .change), few-facing tested W e (e .change))
+
+-- ---- counts
+draw-grows : (q : Quad) (m : List Quad) → length m ≤ length (draw q m)
+draw-grows q m =
+    split (λ t. length m ≤ length (cond t m (m ++ (q ∷ [])))) (there (q .key) m) (λ e. omega arith) (λ e. omega (arith, length-append m (q ∷ [])))
+
+remove-shrinks : (k : ℕ) (m : List Quad) → length (remove k m) ≤ length m
+unfolding remove
+remove-shrinks k m =
+    split (λ t. there k m ≡ t → length (cond t (removeAt (placeOf k m) m) m) ≤ length m) (there k m)
+    (λ x e. omega (arith, length-removeAt (placeOf k m) m (placed k m e .within))) (λ x e. omega arith) refl
+
+cuts-shrink : (ks : List ℕ) (m : List Quad) → length (run (cuts ks) m) ≤ length m
+cuts-shrink [] m = omega arith
+cuts-shrink (k ∷ ks) m = omega (arith, remove-shrinks k m, cuts-shrink ks (remove k m))
+
+puts-grow : (qs m : List Quad) → length m ≤ length (run (puts qs) m)
+puts-grow [] m = omega arith
+puts-grow (q ∷ qs) m = omega (arith, draw-grows q m, puts-grow qs (draw q m))
+
+highest-append : (a b : List Op) (p : ℕ) (m : List Quad) → highest p (a ++ b) m ≡ highest (highest p a m) b (run a m)
+highest-append [] b p m = refl
+highest-append (o ∷ a) b p m = highest-append a b (max p (length (step o m))) (step o m)
+
+highest-cuts : (ks : List ℕ) (p : ℕ) (m : List Quad) → length m ≤ p → highest p (cuts ks) m ≡ p
+highest-cuts [] p m l = refl
+highest-cuts (k ∷ ks) p m l =
+    let s = remove-shrinks k m in
+    let e : max p (length (remove k m)) ≡ p = omega arith in
+    ap (λ (h : ℕ). highest h (cuts ks) (remove k m)) e ∙ highest-cuts ks p (remove k m) (omega arith)
+
+highest-puts : (qs : List Quad) (p : ℕ) (m : List Quad) → length m ≤ p → highest p (puts qs) m ≡ max p (length (run (puts qs) m))
+highest-puts [] p m l = omega arith
+highest-puts (q ∷ qs) p m l =
+    let g = puts-grow qs (draw q m) in highest-puts qs (max p (length (draw q m))) (draw q m) (omega arith) ∙ omega arith
+
+-- LAW: the highest count on the way through an entry is that which NO_ROOM looks at
+pub highest-needed : (w : Work) (p : ℕ) (m : List Quad) → length m ≤ p → highest p (ops w) m ≡ max p (needed w m)
+unfolding ops needed
+highest-needed w p m l =
+    let a = highest-append (cuts (w .own)) (puts (w .new) ++ cuts (w .facing)) p m in
+    let b = highest-append (puts (w .new)) (cuts (w .facing)) (highest p (cuts (w .own)) m) (run (cuts (w .own)) m) in
+    let c = highest-cuts (w .own) p m l in
+    let s = cuts-shrink (w .own) m in
+    let d = highest-puts (w .new) p (run (cuts (w .own)) m) (omega arith) in
+    let f = highest-cuts (w .facing) (max p (length (run (puts (w .new)) (run (cuts (w .own)) m)))) (run (puts (w .new)) (run (cuts (w .own)) m)) (omega arith) in
+    a ∙ b ∙ rw (c, d) f
+
+-- LAW: NO_ROOM is given exactly if the highest count within the entry exceeds the room
+pub no-room : (w : Work) (room : ℕ) (m : List Quad) → length m ≤ room → (room < needed w m) ↔ (room < highest (length m) (ops w) m)
+no-room w room m h = let e = highest-needed w (length m) m (omega arith) in (λ l. omega arith, λ l. omega arith)
+
+pub run-le : (w : Work) (m : List Quad) → length (run (ops w) m) ≤ needed w m
+unfolding ops needed
+run-le w m =
+    let e = run-append (cuts (w .own)) (puts (w .new) ++ cuts (w .facing)) m ∙ run-append (puts (w .new)) (cuts (w .facing)) (run (cuts (w .own)) m) in
+    let s = cuts-shrink (w .facing) (run (puts (w .new)) (run (cuts (w .own)) m)) in
+    omega (arith, ap length e)
+
+-- ---- quads that fit stay quads that fit
+module _ (n s : ℕ) where
+  fits-remove : (k : ℕ) (m : List Quad) → All (Fits n s) m → All (Fits n s) (remove k m)
+  unfolding remove removeAt
+  fits-remove k m v =
+      split (λ t. there k m ≡ t → All (Fits n s) (cond t (removeAt (placeOf k m) m) m)) (there k m)
+      (λ x e. let w = placed k m e .within in at-place (placeOf k m) w) (λ x e. v) refl
+    where
+      put-in : (q : ℕ) (x : Quad) (l : List Quad) → Fits n s x → All (Fits n s) l → All (Fits n s) (set l q x)
+      put-in q x [] f v = tt
+      put-in zero x (y ∷ l) f v = (f, v .1)
+      put-in (suc q) x (y ∷ l) f v = (v .0, put-in q x l f (v .1))
+
+      at-place : (q : ℕ) → q < length m → All (Fits n s) (removeAt q m)
+      at-place q h =
+          split (λ t. All (Fits n s) (cond t (take q m ++ drop (suc q) m) (take (length m - 1) (set m q (getD m (length m - 1) blank))))) (shifts (length m) q)
+          (λ e. all-append (Fits n s) (take q m) (drop (suc q) m) (all-take (Fits n s) q m v) (all-drop (Fits n s) (suc q) m v))
+          (λ e. all-take (Fits n s) (length m - 1) (set m q (getD m (length m - 1) blank))
+          (put-in q (getD m (length m - 1) blank) m (all-at (Fits n s) m (length m - 1) blank v (omega arith)) v))
+
+  fits-cuts : (ks : List ℕ) (m : List Quad) → All (Fits n s) m → All (Fits n s) (run (cuts ks) m)
+  fits-cuts [] m v = v
+  fits-cuts (k ∷ ks) m v = fits-cuts ks (remove k m) (fits-remove k m v)
+
+  fits-puts : (qs m : List Quad) → All (Fits n s) qs → All (Fits n s) m → All (Fits n s) (run (puts qs) m)
+  fits-puts [] m w v = v
+  fits-puts (q ∷ qs) m w v =
+      fits-puts qs (draw q m) (w .1)
+      (split (λ t. All (Fits n s) (cond t m (m ++ (q ∷ [])))) (there (q .key) m) (λ e. v) (λ e. all-append (Fits n s) m (q ∷ []) v (w .0, tt)))
+
+  pub fits-ops : (w : Work) (m : List Quad) → All (Fits n s) (w .new) → All (Fits n s) m → All (Fits n s) (run (ops w) m)
+  unfolding ops
+  fits-ops w m h v =
+      rw (run-append (cuts (w .own)) (puts (w .new) ++ cuts (w .facing)) m, run-append (puts (w .new)) (cuts (w .facing)) (run (cuts (w .own)) m))
+      (fits-cuts (w .facing) (run (puts (w .new)) (run (cuts (w .own)) m)) (fits-puts (w .new) (run (cuts (w .own)) m) h (fits-cuts (w .own) m v)))
+
+-- ---- what an entry draws fits
+module _ (W : World) (snd : Sound W) (s : ℕ) (sized : (t f c : ℕ) → length (W .wordsOf t f c) ≡ s) where
+  N : ℕ
+  N = 6 * cells (W .size)
+
+  fits-quads : (t c : ℕ) (p : ℕ → Bool) → c < cells (W .size) → All (Fits (6 * cells (W .size)) s) (quads W t c p)
+  fits-quads t c p h =
+      all-each (Fits (6 * cells (W .size)) s) 6 0 (λ f. only (p f) (quadOf W t c f))
+      (λ f a b. all-only (Fits (6 * cells (W .size)) s) (p f) (quadOf W t c f) (omega arith, sized t f c))
+
+  pub fits-fresh : (test : ℕ → ℕ → Bool) (g : List ℕ) → All (Fits (6 * cells (W .size)) s) (meshBy W test g)
+  unfolding meshBy
+  fits-fresh test g = all-each (Fits (6 * cells (W .size)) s) (cells (W .size)) 0 (quadsBy W test g) (λ c a b. fits-quads (typeAt g c) c (test c) (omega arith))
+
+  pub fits-new : (tested : Tested) (e : Entry) → e .cell < cells (W .size) → (k : Change) → All (Fits (6 * cells (W .size)) s) ((workBy tested W e k) .new)
+  fits-new tested e h Broken =
+      all-each (Fits (6 * cells (W .size)) s) 6 0 (λ i. reveal W (e .type) (givenAt e i) i (neighbour (W .size) (e .cell) i))
+      (λ i a b. one i (omega arith) (neighbour (W .size) (e .cell) i) refl)
+    where
+      one : (i : ℕ) → i < 6 → (o : Option ℕ) → neighbour (W .size) (e .cell) i ≡ o → All (Fits (6 * cells (W .size)) s) (reveal W (e .type) (givenAt e i) i o)
+      one i hi none q = tt
+      one i hi (some k) q =
+          let b = beside (W .size) (snd .wide) (snd .long) (e .cell) k h i hi q .inside in let l = opposite-lt i hi in
+          all-only (Fits (6 * cells (W .size)) s) (covering W (e .type) i && isNormalCube W (givenAt e i)) (quadOf W (givenAt e i) k (opposite i))
+          (omega arith, sized (givenAt e i) (opposite i) k)
+  fits-new tested e h Added =
+      split (λ t. All (Fits (6 * cells (W .size)) s) ((cond t (added tested W e) nothing) .new)) (isNormalCube W (e .type))
+      (λ x. fits-quads (e .type) (e .cell) (isOpen W e) h) (λ x. tt)
+  fits-new tested e h CullFaces = tt
+  fits-new tested e h AddFaces =
+      split (λ t. All (Fits (6 * cells (W .size)) s) ((cond t (record { own = []; new = quads W (e .type) (e .cell) (withGiven e); facing = [] }) nothing) .new))
+      (isNormalCube W (e .type)) (λ x. fits-quads (e .type) (e .cell) (withGiven e) h) (λ x. tt)
+
+-- ---- a log
+
+-- a mesh of n faces, s words a quad, whose highest count was p, in a room
+pub record Sane (n s room : ℕ) (m : List Quad) (p : ℕ) : Type 0 where
+  pub fits : All (Fits n s) m
+  pub once : Once m
+  pub reached : length m ≤ p
+  pub within : p ≤ room
+
+pub sane-step : (n s room : ℕ) (w : Work) (m : List Quad) (p : ℕ) → Sane n s room m p → All (Fits n s) (w .new) → needed w m ≤ room
+    → Sane n s room (run (ops w) m) (highest p (ops w) m)
+sane-step n s room w m p h f l =
+    let e = highest-needed w p m (h .reached) in
+    let r = run-le w m in
+    let b = h .within in
+    record { fits = fits-ops n s w m f (h .fits); once = run-once (ops w) m (h .once); reached = omega arith; within = omega arith }
+
+-- LAW: through any log, whether it comes through or finds no room, the mesh stays one, and in its room
+pub course-sane : (n s room : ℕ) (work : ℕ → Work) (i k : ℕ) (m : List Quad) (v p : ℕ) → ((j : ℕ) → i ≤ j → j < i + k → All (Fits n s) ((work j) .new))
+    → Sane n s room m p → Sane n s room ((courseFrom room work i k m v p) .quads) ((courseFrom room work i k m v p) .highest)
+unfolding courseFrom
+course-sane n s room work i zero m v p f h = h
+course-sane n s room work i (suc k) m v p f h =
+    split (λ t. Sane n s room ((cond t after here) .quads) ((cond t after here) .highest)) (leb (needed (work i) m) room)
+    (λ e. course-sane n s room work (suc i) k (run (ops (work i)) m) (v + moves (ops (work i)) m) (highest p (ops (work i)) m)
+    (λ j a b. f j (omega arith) (omega arith))
+    (sane-step n s room (work i) m p h (f i (omega arith) (omega arith)) (leb-true (needed (work i) m) room e)))
+    (λ e. h)
+  where
+    after : Course
+    after = courseFrom room work (suc i) k (run (ops (work i)) m) (v + moves (ops (work i)) m) (highest p (ops (work i)) m)
+
+    here : Course
+    here = record { full = some i; quads = m; moved = v; highest = p }
+
+-- ---- an honest log that mends
+
+pub length-after : (W : World) (g : List ℕ) (e : Entry) (k : Change) → length (gridBy W g e k) ≡ length g
+length-after W g e Broken = length-set g (e .cell) (emptyType W)
+length-after W g e Added = length-set g (e .cell) (e .type)
+length-after W g e CullFaces = refl
+length-after W g e AddFaces = refl
+
+pub length-log : (W : World) (g : List ℕ) (es : List Entry) → length (gridLog W es g) ≡ length g
+length-log W g [] = refl
+length-log W g (e ∷ es) = length-log W (gridAfter W g e) es ∙ length-after W g e (e .change)
+
+-- LAW: a mesh that shows what culling shows, shows it of the new grid after an honest log of demand 3 that comes through
+pub mends-log : (W : World) → Sound W → (tested : Tested) (room : ℕ) (entry : ℕ → Entry) (i k : ℕ) (g : List ℕ) (m : List Quad) (v p : ℕ)
+    → length g ≡ cells (W .size) → Shows W [] g m
+    → Honest W g (each k i (λ j. entry j ∷ [])) → Mends tested W g (each k i (λ j. entry j ∷ []))
+    → (courseFrom room (λ j. work tested W (entry j)) i k m v p) .full ≡ none
+    → Shows W [] (gridLog W (each k i (λ j. entry j ∷ [])) g) ((courseFrom room (λ j. work tested W (entry j)) i k m v p) .quads)
+unfolding courseFrom each
+mends-log W s tested room entry i zero g m v p hg sh ho me fu = sh
+mends-log W s tested room entry i (suc k) g m v p hg sh ho me fu =
+    split (λ t. (cond t after here) .full ≡ none
+    → Shows W [] (gridLog W (each k (suc i) (λ j. entry j ∷ [])) (gridAfter W g (entry i))) ((cond t after here) .quads))
+    (leb (needed (work tested W (entry i)) m) room)
+    (λ e q. mends-log W s tested room entry (suc i) k (gridAfter W g (entry i)) (run (ops (work tested W (entry i))) m)
+    (v + moves (ops (work tested W (entry i))) m) (highest p (ops (work tested W (entry i))) m)
+    (length-after W g (entry i) ((entry i) .change) ∙ hg)
+    (mends-entry W s tested g hg m sh (entry i) (ho .0) ((entry i) .change) (ho .1) (me .0)) (ho .2) (me .1) q)
+    (λ e q. absurd (some-none (sym q))) fu
+  where
+    after : Course
+    after =
+        courseFrom room (λ j. work tested W (entry j)) (suc i) k (run (ops (work tested W (entry i))) m)
+        (v + moves (ops (work tested W (entry i))) m) (highest p (ops (work tested W (entry i))) m)
+
+    here : Course
+    here = record { full = some i; quads = m; moved = v; highest = p }
+
+    some-none : {a : ℕ} → _≢_ {A = Option ℕ} none (some a)
+    some-none {a} e = let z : _≡_ {A = ℕ} 0 1 = cc in omega arith
