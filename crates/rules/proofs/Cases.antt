@@ -151,7 +151,7 @@ addedNull = quadsIn (withAbove 0) ∷ []
 unfoldable pub cases : List (List ℕ)
 cases = freshCases ++ (removalCases ++ (mended 3 ∷ mended 4 ∷ addedNull ∷ (linkWord 5 0 ∷ []) ∷ []))
 fresh-are : freshCases ≡ (6 ∷ []) ∷ (10 ∷ 12 ∷ []) ∷ (8 ∷ []) ∷ (54 ∷ []) ∷ (5 ∷ []) ∷ []
-unfolding freshCases answers.badLimits answers.BAD-TYPES answers.badCounts lowestFrom answers.badType answers.BAD-NUMBER answers.notACube types.isCube every types.classed types.classOf types.classAt types.classOn ieee.eq ieee.ofBits ieee.lt answers.roomOf meshBy each neighbour
+unfolding freshCases answers._then_ answers.refuseIf answers.badLimits answers.BAD-TYPES answers.badCounts lowestFrom answers.badType answers.BAD-NUMBER answers.notACube types.isCube every types.classed types.classOf types.classAt types.classOn ieee.eq ieee.ofBits ieee.lt answers.roomOf meshBy each neighbour
 fresh-are = refl
 
 removals-are : removalCases ≡ (0 ∷ 1 ∷ 2 ∷ 3 ∷ 5 ∷ 6 ∷ 7 ∷ 8 ∷ 9 ∷ []) ∷ (0 ∷ 1 ∷ 2 ∷ 9 ∷ 4 ∷ 5 ∷ 6 ∷ 7 ∷ 8 ∷ []) ∷ []
@@ -159,15 +159,15 @@ unfolding removalCases removeAt each
 removals-are = refl
 
 mended-bottom : mended 3 ≡ 11 ∷ 10 ∷ []
-unfolding mended answers.badLimits answers.BAD-TYPES answers.badCounts lowestFrom answers.badType answers.BAD-NUMBER answers.notACube types.isCube every types.classed types.classOf types.classAt types.classOn ieee.eq ieee.ofBits ieee.lt answers.roomOf meshBy each neighbour count laid slotted answers.badLink answers.BAD-LINKS same answers.badEntry answers.BAD-ENTRY courseFrom entryAt needed ops remove removeAt types.quadWords
+unfolding mended answers._then_ answers.refuseIf answers.badLimits answers.BAD-TYPES answers.badCounts lowestFrom answers.badType answers.BAD-NUMBER answers.notACube types.isCube every types.classed types.classOf types.classAt types.classOn ieee.eq ieee.ofBits ieee.lt answers.roomOf meshBy each neighbour count laid slotted answers.badLink answers.BAD-LINKS same answers.badEntry answers.BAD-ENTRY courseFrom entryAt needed ops remove removeAt types.quadWords
 mended-bottom = refl
 
 mended-top : mended 4 ≡ 10 ∷ 11 ∷ []
-unfolding mended answers.badLimits answers.BAD-TYPES answers.badCounts lowestFrom answers.badType answers.BAD-NUMBER answers.notACube types.isCube every types.classed types.classOf types.classAt types.classOn ieee.eq ieee.ofBits ieee.lt answers.roomOf meshBy each neighbour count laid slotted answers.badLink answers.BAD-LINKS same answers.badEntry answers.BAD-ENTRY courseFrom entryAt needed ops remove removeAt types.quadWords
+unfolding mended answers._then_ answers.refuseIf answers.badLimits answers.BAD-TYPES answers.badCounts lowestFrom answers.badType answers.BAD-NUMBER answers.notACube types.isCube every types.classed types.classOf types.classAt types.classOn ieee.eq ieee.ofBits ieee.lt answers.roomOf meshBy each neighbour count laid slotted answers.badLink answers.BAD-LINKS same answers.badEntry answers.BAD-ENTRY courseFrom entryAt needed ops remove removeAt types.quadWords
 mended-top = refl
 
 null-is : addedNull ≡ 6 ∷ []
-unfolding addedNull answers.badLimits answers.BAD-TYPES answers.badCounts lowestFrom answers.badType answers.BAD-NUMBER answers.notACube types.isCube every types.classed types.classOf types.classAt types.classOn ieee.eq ieee.ofBits ieee.lt answers.roomOf meshBy each neighbour count laid slotted answers.badLink answers.BAD-LINKS same answers.badEntry answers.BAD-ENTRY courseFrom entryAt needed ops remove removeAt types.quadWords
+unfolding addedNull answers._then_ answers.refuseIf answers.badLimits answers.BAD-TYPES answers.badCounts lowestFrom answers.badType answers.BAD-NUMBER answers.notACube types.isCube every types.classed types.classOf types.classAt types.classOn ieee.eq ieee.ofBits ieee.lt answers.roomOf meshBy each neighbour count laid slotted answers.badLink answers.BAD-LINKS same answers.badEntry answers.BAD-ENTRY courseFrom entryAt needed ops remove removeAt types.quadWords
 null-is = refl
 
 -- the ten cases of 01, one after the other; the sixth has two rows
@@ -215,5 +215,5 @@ output =
     ++ line 0 1 5 ++ line 1 1 4 ++ line 2 1 0 ++ line 3 1 1 ++ line 4 1 2 ++ line 5 1 3
 
 pub program-example : printed file ≡ output
-unfolding file printed badFile digits buildFrom cubeWords cube.cubeWord cube.cornerWord cube.uvWord cube.uvOf cube.lastNaming cube.corners cube.uvEnds cube.axes ieee.toBits ieee.sub ieee.div ieee.mul ieee.ofInt answers.badAtlas answers.BAD-TEXTURE types.quadWords types.quadWord types.order types.movedWord answers.badLimits answers.BAD-TYPES answers.badCounts lowestFrom answers.badType answers.BAD-NUMBER answers.notACube types.isCube every count types.classed types.classOf types.classAt types.classOn ieee.eq ieee.ofBits ieee.lt answers.roomOf meshBy each neighbour laid slotted answers.badLink answers.BAD-LINKS same answers.badEntry answers.BAD-ENTRY courseFrom entryAt needed ops remove removeAt
+unfolding file answers._then_ answers.refuseIf printed badFile digits buildFrom cubeWords cube.cubeWord cube.cornerWord cube.uvWord cube.uvOf cube.lastNaming cube.corners cube.uvEnds cube.axes ieee.toBits ieee.sub ieee.div ieee.mul ieee.ofInt answers.badAtlas answers.BAD-TEXTURE types.quadWords types.quadWord types.order types.movedWord answers.badLimits answers.BAD-TYPES answers.badCounts lowestFrom answers.badType answers.BAD-NUMBER answers.notACube types.isCube every count types.classed types.classOf types.classAt types.classOn ieee.eq ieee.ofBits ieee.lt answers.roomOf meshBy each neighbour laid slotted answers.badLink answers.BAD-LINKS same answers.badEntry answers.BAD-ENTRY courseFrom entryAt needed ops remove removeAt
 program-example = refl

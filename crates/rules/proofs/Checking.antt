@@ -23,17 +23,21 @@ use Rattle.rules.proofs.Mending.{due, Shows, Sound, not-drawn}
 
 -- ---- verdicts
 pub then-fine : (a b : Verdict) → (a then b) ≡ fine → (a ≡ fine) × (b ≡ fine)
+unfolding _then_
 then-fine fine b e = (refl, e)
 then-fine (refuse n p) b e = let z : _≡_ {A = ℕ} 0 1 = cc in absurd (omega arith)
 
-pub fine-then : (a b : Verdict) → a ≡ fine → b ≡ fine → (a then b) ≡ fine
-fine-then a b p q = rw p q
+pub fine-then : {a b : Verdict} → a ≡ fine → b ≡ fine → (a then b) ≡ fine
+unfolding _then_
+fine-then p q = rw p q
 
 pub if-fine : (b : Bool) (n p : ℕ) → refuseIf b n p ≡ fine → b ≡ false
+unfolding refuseIf
 if-fine true n p e = let z : _≡_ {A = ℕ} 0 1 = cc in absurd (omega arith)
 if-fine false n p e = refl
 
 pub fine-if : (b : Bool) (n p : ℕ) → b ≡ false → refuseIf b n p ≡ fine
+unfolding refuseIf
 fine-if b n p e = rw e
 
 pub lowest-fine : (number n : ℕ) (bad : ℕ → Bool) → refuseLowest number n bad ≡ fine → (k : ℕ) → k < n → bad k ≡ false
@@ -89,8 +93,7 @@ module _ (n : ℕ) (B : Lists) (Q : ℕ) where
   pub fine-of-book : Book n B Q → (BAD-LINKS n B Q then BAD-TRIANGLES B Q) ≡ fine
   unfolding BAD-LINKS
   fine-of-book b =
-      fine-then (refuseLowest 11 Q (badLink n B) then refuseIf (ltb Q (filled (6 * n) B)) 11 Q) (BAD-TRIANGLES B Q)
-      (fine-then (refuseLowest 11 Q (badLink n B)) (refuseIf (ltb Q (filled (6 * n) B)) 11 Q)
+      fine-then (fine-then
       (fine-lowest 11 Q (badLink n B) (λ q h. fine-link q (b .codes q h) (b .inside q h) (b .named q h)))
       (fine-if (ltb Q (filled (6 * n) B)) 11 Q (le-ltb Q (filled (6 * n) B) (b .few))))
       (fine-lowest 12 Q (λ q. not (same (row 6 (B .triangles) q) (pattern q)))
@@ -240,7 +243,7 @@ module _ (W : World) (outer g : List ℕ) (s : ℕ) (B : Lists) (Q : ℕ) (room 
       → ((BAD-LINKS (cells (W .size)) B Q then BAD-TRIANGLES B Q) ≡ fine) × ((WRONG-SET W outer g (decode s Q B) then WRONG-VERTEX W g s B Q) ≡ fine)
   fine-of-right r = (
     fine-of-book (cells (W .size)) B Q (book-of-right r),
-    fine-then (WRONG-SET W outer g (decode s Q B)) (WRONG-VERTEX W g s B Q)
+    fine-then
         (fine-lowest 15 (6 * cells (W .size)) (wrongFace W outer g (decode s Q B)) (λ k h. fine-face k (there-is-drawn r k h)))
         (fine-lowest 16 Q (wrongVertex W g s B) (λ q h. fine-vertex q (r .vertices q h))),
   )

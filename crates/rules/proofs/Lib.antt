@@ -7,4 +7,6 @@ pub mod Laying
 pub mod Index
 pub mod Checking
 pub mod Courses
+pub mod Refusals
+pub mod Demands
 pub mod Cases

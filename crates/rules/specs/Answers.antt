@@ -20,11 +20,11 @@ pub data Verdict : Type 0 where
 
 -- those that apply are tried in order: the first one stands
 infixr 20 _then_
-abbrev pub _then_ : Verdict → Verdict → Verdict
+unfoldable pub _then_ : Verdict → Verdict → Verdict
 fine then v = v
 refuse n p then v = refuse n p
 
-abbrev pub refuseIf : Bool → ℕ → ℕ → Verdict
+unfoldable pub refuseIf : Bool → ℕ → ℕ → Verdict
 refuseIf b n p = cond b (refuse n p) fine
 
 -- the lowest of n that is bad, where there is one

@@ -1,0 +1,338 @@
+-- The demands on meshes, as theorems on the calls' rules. Assumes nothing.
+use mathlib.Core.Path.{_≡_, refl, sym, ap, _∙_, subst}
+use mathlib.Core.Logic.{_≢_, _↔_}
+use mathlib.Core.Bool.{Bool, true, false, cond, not, _&&_, _||_, true≢false, false≢true}
+use mathlib.Core.List.{List, [], _∷_, _++_}
+use mathlib.Core.Option.{Option, none, some}
+use Prim.Native.Nat.{ℕ, zero, suc, _+_, _-_, _*_, _/_, _%_, _≤_, _<_, min, max}
+use native.Mathlib.Nat.{mul-le-mul-left}
+use native.Mathlib.Omega.{arith}
+use native.Mathlib.Decide.{ℕ-discrete, decLt}
+use lib.Dec.{eqb, leb, ltb}
+use lib.ListN.{length, getD, set, drop, length-set, length-drop}
+use lib.Seq.{getD-set-same, getD-set-other, length-take-le}
+use borrow.Author.Tests.{eqb-true, eq-eqb, ltb-false, le-ltb, leb-false, lt-leb}
+use Rattle.rules.specs.Lists.{each, table, row}
+use Rattle.rules.specs.Cells.{Size, cells, keyOf}
+use Rattle.rules.specs.Types.{Types, floats, quadWord, quadWords, cubeOf}
+use Rattle.rules.specs.Mesh.{Quad, World, Lists, drawn, culled, decode, layout}
+use Rattle.rules.specs.Update.{Change, Broken, Added, CullFaces, AddFaces, Entry, entryAt, Tested, work, Course, courseFrom, blank, u32At, emptyType, gridBy, gridAfter, gridLog, Told, TrueBy, Honest, Mends}
+use Rattle.rules.specs.Answers.{Verdict, fine, refuse, _then_, refuseIf, refuseLowest, outOf, badLimits, BAD-SIZE, BAD-GRID, badCounts, badType, BAD-TYPES, BAD-NUMBER, NOT-A-CUBE, BAD-OUTER, BAD-CELL, SHORT-SLOTS, roomOf, BAD-COUNT, BAD-LINKS, BAD-TRIANGLES, badEntry, BAD-ENTRY, NO-ROOM, WRONG-SET, WRONG-VERTEX}
+use Rattle.rules.specs.Check.{linked, Right}
+use Rattle.rules.specs.Calls.{Answer, answered, refused, Scene, wordsIn, world, span, faces, room, typesVerdict, Outcome, freshMesh, meshVerdict, meshBy, meshGrid, lentVerdict, updateVerdict, entriesOf, course, courseAnswer, updateBy, updateMeshBy, openVerdict, bookVerdict, faceVerdict, checkVerdict, checkBy, checkMesh}
+use Rattle.rules.proofs.ListLaws.{All, all-of, split, not-true, length-table, length-each}
+use Rattle.rules.proofs.Quads.{Once}
+use Rattle.rules.proofs.Laying.{Fits, length-vertices, length-triangles, length-links, length-slots, once-of-distinct, decode-layout}
+use Rattle.rules.proofs.Checking.{then-fine, fine-then, if-fine, fine-if, lowest-fine, fine-lowest, or-false, Book, book-of-fine, length-decode, key-decode, words-decode, distinct-decode, right-of-fine, fine-of-right, shows-of-right, right-of-shows}
+use Rattle.rules.proofs.Mending.{Sound, Shows, shows-once, fresh-shows}
+use Rattle.rules.proofs.Courses.{fits-fresh, fits-new, Sane, course-sane, mends-log, length-log}
+use Rattle.rules.proofs.Refusals.{Within, MESH, UPDATE, CHECK, mesh-numbers, update-numbers, check-numbers, zero-fine}
+
+-- ---- what the refusals leave
+module _ (S : Scene) where
+  -- words of a quad
+  words-sized : (t f c : ℕ) → length (wordsIn S t f c) ≡ span S
+  unfolding quadWords
+  words-sized t f c = length-each (floats (S .types)) 4 0 _ (λ i. length-table (quadWord (cubeOf (S .types) t) (floats (S .types)) (S .d) f _ i) (floats (S .types)))
+
+  -- sizes within their limits
+  pub record Limits : Type 0 where
+    pub wide : 0 < S .size .w
+    pub long : 0 < S .size .l
+    pub small : cells (S .size) ≤ 1048576
+
+  out-false : (n low high : ℕ) → outOf n low high ≡ false → (low ≤ n) × (n ≤ high)
+  out-false n low high e = let a = or-false (ltb n low) (ltb high n) e in (ltb-false n low (a .0), ltb-false high n (a .1))
+
+  pub limits : BAD-SIZE (S .size) ≡ fine → Limits
+  unfolding badLimits
+  limits e =
+      let f = if-fine (badLimits (S .size)) 2 0 e in
+      let a = or-false (outOf (S .size .w) 1 1024 || outOf (S .size .h) 1 1024 || outOf (S .size .l) 1 1024) (ltb 1048576 (cells (S .size))) f in
+      let b = or-false (outOf (S .size .w) 1 1024 || outOf (S .size .h) 1 1024) (outOf (S .size .l) 1 1024) (a .0) in
+      let c = or-false (outOf (S .size .w) 1 1024) (outOf (S .size .h) 1 1024) (b .0) in
+      record {
+        wide = out-false (S .size .w) 1 1024 (c .0) .0;
+        long = out-false (S .size .l) 1 1024 (b .1) .0;
+        small = ltb-false 1048576 (cells (S .size)) (a .1);
+      }
+
+  pub sound : BAD-SIZE (S .size) ≡ fine → typesVerdict S ≡ fine → Sound (world S)
+  unfolding BAD-TYPES badCounts
+  sound es et =
+      let l = limits es in
+      let t = then-fine (BAD-TYPES (S .types)) (BAD-NUMBER (S .d) (S .centre) 0 then NOT-A-CUBE (S .types) (S .centre)) et in
+      let u = then-fine (refuseIf (badCounts (S .types)) 3 255) (refuseLowest 3 (length (S .types .kinds)) (badType (S .types))) (t .0) in
+      let f = if-fine (badCounts (S .types)) 3 255 (u .0) in
+      let a = or-false (outOf (length (S .types .kinds)) 1 255 || not (eqb (length (S .types .covers)) (length (S .types .kinds)))) _ f in
+      let b = or-false (outOf (length (S .types .kinds)) 1 255) (not (eqb (length (S .types .covers)) (length (S .types .kinds)))) (a .0) in
+      let k = out-false (length (S .types .kinds)) 1 255 (b .0) .1 in
+      let c = eqb-true (length (S .types .covers)) (length (S .types .kinds)) (not-true _ (b .1)) in
+      record { wide = l .wide; long = l .long; few = k; fewSets = omega arith }
+
+  -- room for r quads is room in each list
+  pub record Room (B : Lists) (r : ℕ) : Type 0 where
+    pub vertices : span S * r ≤ length (B .vertices)
+    pub triangles : 6 * r ≤ length (B .triangles)
+    pub links : r ≤ length (B .links)
+
+  pub room-for : (B : Lists) (r : ℕ) → r ≤ room S B → Room B r
+  unfolding roomOf
+  room-for B r h = go (S .types .coloured) refl
+    where
+      go : (b : Bool) → S .types .coloured ≡ b → Room B r
+      go true e =
+          record { vertices = rw e (let k : r ≤ length (B .vertices) / 48 = omega (arith, rw e at h) in omega arith); triangles = omega arith; links = omega arith }
+      go false e =
+          record { vertices = rw e (let k : r ≤ length (B .vertices) / 32 = omega (arith, rw e at h) in omega arith); triangles = omega arith; links = omega arith }
+
+  same-room : (A B : Lists) → length (A .vertices) ≡ length (B .vertices) → length (A .triangles) ≡ length (B .triangles)
+      → length (A .links) ≡ length (B .links) → room S A ≡ room S B
+  unfolding roomOf
+  same-room A B a b c = rw (a, b, c)
+
+-- ---- a mesh laid out in lent lists is accepted, if it shows what culling shows
+module _ (S : Scene) (outer g : List ℕ) (B : Lists) (highest : ℕ) (m : List Quad)
+    (size-fine : BAD-SIZE (S .size) ≡ fine) (grid-fine : BAD-GRID (S .size) g ≡ fine) (types-fine : typesVerdict S ≡ fine)
+    (outer-fine : BAD-OUTER outer ≡ fine) (cells-fine : BAD-CELL (S .types) g ≡ fine) (slots-fine : SHORT-SLOTS (S .size) B ≡ fine)
+    (sane : Sane (faces S) (span S) (room S B) m highest) where
+  abbrev after : Lists
+  after = layout (faces S) (span S) highest m B
+
+  small : faces S ≤ 3221225472
+  small = let l = limits S size-fine .small in omega arith
+
+  slots-room : faces S ≤ length (B .slots)
+  slots-room = ltb-false (length (B .slots)) (faces S) (if-fine (ltb (length (B .slots)) (faces S)) 9 0 slots-fine)
+
+  pub laid-accepted : Shows (world S) outer g m → checkVerdict S outer g (layout (faces S) (span S) highest m B) (length m) ≡ fine
+  laid-accepted sh =
+      fine-then
+      (fine-then size-fine (fine-then grid-fine (fine-then types-fine (fine-then outer-fine (fine-then cells-fine (fine-then
+      (fine-if (ltb (length (after .slots)) (faces S)) 9 0 (le-ltb (length (after .slots)) (faces S) (omega (arith, slots-len, slots-room))))
+      (fine-if (ltb (room S after) (length m)) 10 0 (le-ltb (room S after) (length m) (omega (arith, rooms, sane .reached, sane .within)))))))))
+      ) (fine-then (r .0) (r .1))
+    where
+      inRoom : Room S B highest
+      inRoom = room-for S B highest (sane .within)
+
+      slots-len : length (after .slots) ≡ length (B .slots)
+      slots-len = length-slots (faces S) (span S) highest small m B (sane .fits) slots-room
+
+      rooms : room S after ≡ room S B
+      rooms =
+          same-room S after B (length-vertices (faces S) (span S) highest small m B (sane .fits) (sane .reached) (inRoom .vertices))
+          (length-triangles (faces S) (span S) highest small m B (sane .fits) (sane .reached) (inRoom .triangles))
+          (length-links (faces S) (span S) highest small m B (sane .fits) (sane .reached) (inRoom .links))
+
+      r : (bookVerdict S after (length m) ≡ fine) × (faceVerdict S outer g after (length m) ≡ fine)
+      r =
+          fine-of-right (world S) outer g (span S) after (length m) (omega (arith, slots-len, slots-room))
+          (right-of-shows (world S) outer g (span S) highest m B small (sane .fits) slots-room sh (sane .once))
+
+-- ---- DEMAND 3, first half: the check accepts exactly the right meshes
+
+-- an answer of 0 is a verdict with nothing to refuse
+accepted : (S : Scene) (outer g : List ℕ) (B : Lists) (Q : ℕ) → (checkMesh S outer g B Q) .number ≡ 0 → checkVerdict S outer g B Q ≡ fine
+accepted S outer g B Q e = zero-fine CHECK refl (checkVerdict S outer g B Q) (check-numbers S outer g B Q) e
+
+pub accepts-exactly : (S : Scene) (outer g : List ℕ) (B : Lists) (Q : ℕ) → openVerdict S outer g B Q ≡ fine
+    → (checkMesh S outer g B Q ≡ answered 0 0) ↔ Right (world S) outer g (span S) B Q
+accepts-exactly S outer g B Q eo = (λ e. right e, λ r. ap checkBy (fine-then eo (fine-then (book r .0) (book r .1))))
+  where
+    slots-room : faces S ≤ length (B .slots)
+    slots-room =
+        let a = then-fine (BAD-SIZE (S .size)) _ eo .1 in
+        let b = then-fine (BAD-GRID (S .size) g) _ a .1 in
+        let c = then-fine (typesVerdict S) _ b .1 in
+        let d = then-fine (BAD-OUTER outer) _ c .1 in
+        let f = then-fine (BAD-CELL (S .types) g) _ d .1 in
+        let h = then-fine (SHORT-SLOTS (S .size) B) _ f .0 in
+        ltb-false (length (B .slots)) (faces S) (if-fine (ltb (length (B .slots)) (faces S)) 9 0 h)
+
+    book : Right (world S) outer g (span S) B Q → (bookVerdict S B Q ≡ fine) × (faceVerdict S outer g B Q ≡ fine)
+    book r = fine-of-right (world S) outer g (span S) B Q slots-room r
+
+    right : checkMesh S outer g B Q ≡ answered 0 0 → Right (world S) outer g (span S) B Q
+    right e =
+        let v = accepted S outer g B Q (ap (λ (a : Answer). a .number) e) in
+        let b = then-fine (openVerdict S outer g B Q) _ v .1 in
+        let c = then-fine (bookVerdict S B Q) (faceVerdict S outer g B Q) b in
+        right-of-fine (world S) outer g (span S) B Q slots-room (c .0) (c .1)
+
+-- ---- DEMAND 3: every culled fresh mesh passes for its own outer list
+pub fresh-accepted : (S : Scene) (outer g : List ℕ) (B : Lists) → (meshGrid S outer g true B) .answer .number ≡ 0
+    → checkMesh S outer g ((meshGrid S outer g true B) .lists) ((meshGrid S outer g true B) .answer .quads) ≡ answered 0 0
+fresh-accepted S outer g B e = go (meshVerdict S outer g true B) refl e
+  where
+    fresh : List Quad
+    fresh = culled (world S) outer g
+
+    passes : meshVerdict S outer g true B ≡ fine → checkVerdict S outer g (layout (faces S) (span S) (length (culled (world S) outer g)) (culled (world S) outer g) B) (length (culled (world S) outer g)) ≡ fine
+    passes v =
+        let a = then-fine (BAD-SIZE (S .size)) _ v in
+        let b = then-fine (BAD-GRID (S .size) g) _ (a .1) in
+        let c = then-fine (typesVerdict S) _ (b .1) in
+        let d = then-fine (BAD-OUTER outer) _ (c .1) in
+        let f = then-fine (BAD-CELL (S .types) g) _ (d .1) in
+        let h = then-fine (SHORT-SLOTS (S .size) B) (NO-ROOM (floats (S .types)) B (length (culled (world S) outer g))) (f .1) in
+        let snd = sound S (a .0) (c .0) in
+        let hg = eqb-true (length g) (cells (S .size)) (not-true _ (if-fine (not (eqb (length g) (cells (S .size)))) 2 0 (b .0))) in
+        let sh = fresh-shows (world S) snd outer g hg in
+        laid-accepted S outer g B (length (culled (world S) outer g)) (culled (world S) outer g) (a .0) (b .0) (c .0) (d .0) (f .0) (h .0)
+        (record {
+          fits = fits-fresh (world S) snd (span S) (words-sized S) (drawn (world S) outer g) g;
+          once = shows-once (world S) outer g (culled (world S) outer g) sh;
+          reached = omega arith;
+          within = ltb-false (room S B) (length (culled (world S) outer g)) (if-fine (ltb (room S B) (length (culled (world S) outer g))) 14 0 (h .1));
+        })
+        sh
+
+    go : (v : Verdict) → meshVerdict S outer g true B ≡ v → (meshBy v S (culled (world S) outer g) B) .answer .number ≡ 0
+        → checkMesh S outer g ((meshBy v S (culled (world S) outer g) B) .lists) ((meshBy v S (culled (world S) outer g) B) .answer .quads) ≡ answered 0 0
+    go fine v e = ap checkBy (passes v)
+    go (refuse n p) v e = absurd (refused-not-zero n p v e)
+      where
+        refused-not-zero : (n p : ℕ) → meshVerdict S outer g true B ≡ refuse n p → n ≡ 0 → ⊥
+        refused-not-zero n p v e =
+            let f = zero-fine MESH refl (meshVerdict S outer g true B) (mesh-numbers S outer g true B) (ap (λ (x : Verdict). (checkBy x) .number) v ∙ e) in
+            let z : _≡_ {A = ℕ} 0 1 = cc in omega arith
+
+-- ---- DEMAND 3, second half: a mended mesh passes
+
+-- codes of the grid stay types
+codes-after : (S : Scene) (g : List ℕ) (e : Entry) (k : Change) → Told (world S) g e → TrueBy (world S) g e k
+    → ((c : ℕ) → c < length g → getD g c 0 < length (S .types .kinds))
+    → (c : ℕ) → c < length (gridBy (world S) g e k) → getD (gridBy (world S) g e k) c 0 < length (S .types .kinds)
+codes-after S g e k told h codes c l = go k h l
+  where
+    on : (t : ℕ) → t < length (S .types .kinds) → c < length (set g (e .cell) t) → getD (set g (e .cell) t) c 0 < length (S .types .kinds)
+    on t ht l = at-cell (ℕ-discrete c (e .cell))
+      where
+        n : length (set g (e .cell) t) ≡ length g
+        n = length-set g (e .cell) t
+
+        at-cell : Dec (c ≡ e .cell) → getD (set g (e .cell) t) c 0 < length (S .types .kinds)
+        at-cell (yes q) = rw (q, getD-set-same g (e .cell) t 0 (omega (arith, n))) ht
+        at-cell (no d) = rw (getD-set-other g (e .cell) c t 0 d) (codes c (omega (arith, n)))
+
+    go : (k : Change) → TrueBy (world S) g e k → c < length (gridBy (world S) g e k) → getD (gridBy (world S) g e k) c 0 < length (S .types .kinds)
+    go Broken h l = on (emptyType (world S)) (h .1) l
+    go Added h l = on (e .type) (told .listed) l
+    go CullFaces h l = absurd h
+    go AddFaces h l = absurd h
+
+codes-log : (S : Scene) (g : List ℕ) (es : List Entry) → Honest (world S) g es
+    → ((c : ℕ) → c < length g → getD g c 0 < length (S .types .kinds))
+    → (c : ℕ) → c < length (gridLog (world S) es g) → getD (gridLog (world S) es g) c 0 < length (S .types .kinds)
+codes-log S g [] h codes = codes
+codes-log S g (e ∷ es) h codes = codes-log S (gridAfter (world S) g e) es (h .2) (codes-after S g e (e .change) (h .0) (h .1) codes)
+
+-- a lent mesh that passes 9 to 12 is one, in its room
+module _ (S : Scene) (B : Lists) (Q : ℕ) (size-fine : BAD-SIZE (S .size) ≡ fine) (slots-fine : SHORT-SLOTS (S .size) B ≡ fine)
+    (count-fine : BAD-COUNT (floats (S .types)) B Q ≡ fine) (book-fine : bookVerdict S B Q ≡ fine) where
+  book : Book (cells (S .size)) B Q
+  book = book-of-fine (cells (S .size)) B Q book-fine
+
+  counted : Q ≤ room S B
+  counted = ltb-false (room S B) Q (if-fine (ltb (room S B) Q) 10 0 count-fine)
+
+  pub lent-sane : Sane (faces S) (span S) (room S B) (decode (span S) Q B) Q
+  lent-sane =
+      record {
+        fits = all-of (Fits (faces S) (span S)) (decode (span S) Q B) blank fit;
+        once = once-of-distinct (decode (span S) Q B) (distinct-decode (cells (S .size)) B Q (span S) apart);
+        reached = omega (arith, length-decode (cells (S .size)) B Q (span S));
+        within = counted;
+      }
+    where
+      apart : (p q : ℕ) → p < q → q < Q → linked B p ≢ linked B q
+      apart p q l h e =
+          let x = book .named p (omega arith) in let y = book .named q h in
+          let z = ap (λ (k : ℕ). getD (B .slots) k 4294967295) e in omega arith
+
+      fit : (q : ℕ) → q < length (decode (span S) Q B) → Fits (faces S) (span S) (getD (decode (span S) Q B) q blank)
+      fit q h =
+          let l : q < Q = omega (arith, length-decode (cells (S .size)) B Q (span S)) in
+          let x = book .codes q l in let y = book .inside q l in
+          let r = room-for S B Q counted .vertices in
+          let a : suc q ≤ Q = l in
+          let u = mul-le-mul-left (span S) a in
+          (rw (key-decode (cells (S .size)) B Q (span S) q l) (omega arith),
+          rw (words-decode (cells (S .size)) B Q (span S) q l)
+          (length-take-le (span S) (drop (span S * q) (B .vertices)) (rw length-drop (omega arith))))
+
+-- the entries of an accepted log are in the grid
+entry-inside : (n types : ℕ) (log : List ℕ) → BAD-ENTRY n types log ≡ fine → (k : ℕ) → k < length log / 12 → (entryAt log k) .cell < n
+unfolding BAD-ENTRY badEntry entryAt
+entry-inside n types log e k h =
+    let a = then-fine (refuseLowest 13 (length log / 12) (badEntry n types log)) _ e .0 in
+    let b = lowest-fine 13 (length log / 12) (badEntry n types log) a k h in
+    let c = or-false (leb 16777216 k || leb n (u32At log (12 * k)) || ltb 3 (getD log (12 * k + 4) 0) || leb types (getD log (12 * k + 5) 0)) _ b .0 in
+    let d = or-false (leb 16777216 k || leb n (u32At log (12 * k)) || ltb 3 (getD log (12 * k + 4) 0)) (leb types (getD log (12 * k + 5) 0)) c .0 in
+    let f = or-false (leb 16777216 k || leb n (u32At log (12 * k))) (ltb 3 (getD log (12 * k + 4) 0)) d .0 in
+    leb-false n (u32At log (12 * k)) (or-false (leb 16777216 k) (leb n (u32At log (12 * k))) f .1)
+
+module _ (tested : Tested) (S : Scene) (g log : List ℕ) (B : Lists) (Q : ℕ) where
+  abbrev c : Course
+  c = course tested S log B Q
+
+  abbrev grid : List ℕ
+  grid = gridLog (world S) (entriesOf log) g
+
+  -- a log that is not refused comes through
+  through : (v : Verdict) → updateVerdict S log B Q ≡ v → (updateBy v S c B) .answer .number ≡ 0 → (updateVerdict S log B Q ≡ fine) × (c .full ≡ none)
+  through fine v e = (v, none-of (c .full) refl e)
+    where
+      none-of : (o : Option ℕ) → c .full ≡ o → (courseAnswer c o) .number ≡ 0 → c .full ≡ none
+      none-of none q e = q
+      none-of (some k) q e = absurd (omega arith)
+  through (refuse n p) v e =
+      let f = zero-fine UPDATE refl (updateVerdict S log B Q) (update-numbers S log B Q) (ap (λ (x : Verdict). (checkBy x) .number) v ∙ e) in
+      let z : _≡_ {A = ℕ} 0 1 = cc in absurd (omega arith)
+
+  mended : checkVerdict S [] g B Q ≡ fine → Honest (world S) g (entriesOf log) → Mends tested (world S) g (entriesOf log)
+      → updateVerdict S log B Q ≡ fine → c .full ≡ none
+      → checkVerdict S [] grid (layout (faces S) (span S) (c .highest) (c .quads) B) (length (c .quads)) ≡ fine
+  mended ec ho me eu fu =
+      let o = then-fine (openVerdict S [] g B Q) _ ec in
+      let bf = then-fine (bookVerdict S B Q) (faceVerdict S [] g B Q) (o .1) in
+      let a = then-fine (BAD-SIZE (S .size)) _ (o .0) in
+      let b = then-fine (BAD-GRID (S .size) g) _ (a .1) in
+      let t = then-fine (typesVerdict S) _ (b .1) in
+      let d = then-fine (BAD-OUTER []) _ (t .1) in
+      let f = then-fine (BAD-CELL (S .types) g) _ (d .1) in
+      let h = then-fine (SHORT-SLOTS (S .size) B) (BAD-COUNT (floats (S .types)) B Q) (f .1) in
+      let u = then-fine (BAD-SIZE (S .size)) _ eu .1 in
+      let w = then-fine (typesVerdict S) _ u .1 in
+      let en = then-fine (lentVerdict S B Q) (BAD-ENTRY (cells (S .size)) (length (S .types .kinds)) log) w .1 in
+      let snd = sound S (a .0) (t .0) in
+      let hg = eqb-true (length g) (cells (S .size)) (not-true _ (if-fine (not (eqb (length g) (cells (S .size)))) 2 0 (b .0))) in
+      let lg = length-log (world S) g (entriesOf log) in
+      let room-ok = ltb-false (length (B .slots)) (faces S) (if-fine (ltb (length (B .slots)) (faces S)) 9 0 (h .0)) in
+      let right = right-of-fine (world S) [] g (span S) B Q room-ok (bf .0) (bf .1) in
+      let sh = shows-of-right (world S) [] g (span S) B Q room-ok snd hg right in
+      let codes : (k : ℕ) → k < length g → getD g k 0 < length (S .types .kinds) =
+      λ k l. leb-false (length (S .types .kinds)) (getD g k 0) (lowest-fine 8 (length g) (λ k. leb (length (S .types .kinds)) (getD g k 0)) (f .0) k l) in
+      laid-accepted S [] grid B (c .highest) (c .quads) (a .0)
+      (fine-if (not (eqb (length grid) (cells (S .size)))) 2 0 (rw (eq-eqb (length grid) (cells (S .size)) (lg ∙ hg))))
+      (t .0) (d .0)
+      (fine-lowest 8 (length grid) (λ k. leb (length (S .types .kinds)) (getD grid k 0))
+      (λ k l. lt-leb (length (S .types .kinds)) (getD grid k 0) (codes-log S g (entriesOf log) ho codes k l)))
+      (h .0)
+      (course-sane (faces S) (span S) (room S B) (λ k. work tested (world S) (entryAt log k)) 0 (length log / 12) (decode (span S) Q B) 0 Q
+      (λ j x y. fits-new (world S) snd (span S) (words-sized S) tested (entryAt log j)
+      (entry-inside (cells (S .size)) (length (S .types .kinds)) log en j (omega arith)) ((entryAt log j) .change))
+      (lent-sane S B Q (a .0) (h .0) (h .1) (bf .0)))
+      (mends-log (world S) snd tested (room S B) (entryAt log) 0 (length log / 12) g (decode (span S) Q B) 0 Q hg sh ho me fu)
+
+  -- if a mesh passes with no outer face named, it passes for the new grid after any unrefused, honest log of Added and Broken alone
+  -- that fills only empty cells with cubes that cover the side tested as the side itself
+  pub mended-accepted : (checkMesh S [] g B Q) .number ≡ 0 → Honest (world S) g (entriesOf log) → Mends tested (world S) g (entriesOf log)
+      → (updateMeshBy tested S log B Q) .answer .number ≡ 0
+      → checkMesh S [] (gridLog (world S) (entriesOf log) g) ((updateMeshBy tested S log B Q) .lists) ((updateMeshBy tested S log B Q) .answer .quads)
+      ≡ answered 0 0
+  mended-accepted ec ho me eu =
+      let t = through (updateVerdict S log B Q) refl eu in
+      let m = mended (accepted S [] g B Q ec) ho me (t .0) (t .1) in
+      rw (t .0, t .1) (ap checkBy m)

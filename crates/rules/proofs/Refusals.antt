@@ -1,0 +1,119 @@
+-- Each call answers a result or one numbered refusal of 01, and a refusal changes nothing. Assumes nothing.
+use mathlib.Core.Path.{_≡_, refl, sym, ap, _∙_}
+use mathlib.Core.Logic.{_≢_}
+use mathlib.Core.Bool.{Bool, true, false}
+use mathlib.Core.List.{List, [], _∷_}
+use mathlib.Core.Option.{Option, none, some}
+use Prim.Native.Nat.{ℕ, zero, suc}
+use native.Mathlib.Omega.{arith}
+use Rattle.rules.specs.Lists.{member}
+use Rattle.rules.specs.Cube.{Shape}
+use Rattle.rules.specs.Mesh.{Quad, Lists}
+use Rattle.rules.specs.Update.{Tested, Course}
+use Rattle.rules.specs.Answers.{Verdict, fine, refuse, _then_, refuseIf, BAD-NUMBER, BAD-TEXTURE, BAD-TYPES, BAD-LINKS, BAD-ENTRY}
+use Rattle.rules.specs.Calls.{Answer, CubeOutcome, cubeVerdict, cubeBy, generateVoxelMesh, Scene, typesVerdict, Outcome, meshVerdict, meshBy, meshGrid, freshMesh, updateVerdict, course, updateBy, updateMeshBy, bookVerdict, checkVerdict, checkBy, checkMesh}
+
+-- ---- one numbered refusal
+
+-- nothing is refused, or one of these numbers is given
+pub data Within (ns : List ℕ) : Verdict → Type 0 where
+  none-given : Within ns fine
+  given : {n p : ℕ} → member n ns ≡ true → Within ns (refuse n p)
+
+infixr 20 _and-then_
+_and-then_ : {ns : List ℕ} {a b : Verdict} → Within ns a → Within ns b → Within ns (a then b)
+unfolding _then_
+none-given and-then w = w
+given h and-then w = given h
+
+if-given : {ns : List ℕ} (b : Bool) (n p : ℕ) → member n ns ≡ true → Within ns (refuseIf b n p)
+unfolding refuseIf
+if-given true n p h = given h
+if-given false n p h = none-given
+
+-- in the words of 01: Cube: 4, 5, 7, 9. Mesh: 2, 3, 4, 6, 7, 8, 9, 14. Update: 2, 3, 4, 6, 9 to 14. Check: 2, 3, 4, 6 to 12, 15, 16
+abbrev pub CUBE : List ℕ
+CUBE = 4 ∷ 5 ∷ 7 ∷ 9 ∷ []
+
+abbrev pub MESH : List ℕ
+MESH = 2 ∷ 3 ∷ 4 ∷ 6 ∷ 7 ∷ 8 ∷ 9 ∷ 14 ∷ []
+
+abbrev pub UPDATE : List ℕ
+UPDATE = 2 ∷ 3 ∷ 4 ∷ 6 ∷ 9 ∷ 10 ∷ 11 ∷ 12 ∷ 13 ∷ 14 ∷ []
+
+abbrev pub CHECK : List ℕ
+CHECK = 2 ∷ 3 ∷ 4 ∷ 6 ∷ 7 ∷ 8 ∷ 9 ∷ 10 ∷ 11 ∷ 12 ∷ 15 ∷ 16 ∷ []
+
+pub cube-numbers : (q : Shape) (out : List ℕ) → Within CUBE (cubeVerdict q out)
+unfolding BAD-NUMBER BAD-TEXTURE
+cube-numbers q out = if-given _ _ _ refl and-then if-given _ _ _ refl and-then (if-given _ _ _ refl and-then if-given _ _ _ refl) and-then if-given _ _ _ refl
+
+types-numbers : {ns : List ℕ} → member 3 ns ≡ true → member 4 ns ≡ true → member 6 ns ≡ true → (S : Scene) → Within ns (typesVerdict S)
+unfolding BAD-TYPES BAD-NUMBER
+types-numbers a b c S = (if-given _ _ _ a and-then if-given _ _ _ a) and-then if-given _ _ _ b and-then if-given _ _ _ c
+
+pub mesh-numbers : (S : Scene) (outer g : List ℕ) (culling : Bool) (B : Lists) → Within MESH (meshVerdict S outer g culling B)
+mesh-numbers S outer g culling B =
+    if-given _ _ _ refl and-then if-given _ _ _ refl and-then types-numbers refl refl refl S and-then if-given _ _ _ refl and-then if-given _ _ _ refl
+    and-then if-given _ _ _ refl and-then if-given _ _ _ refl
+
+book-numbers : {ns : List ℕ} → member 11 ns ≡ true → member 12 ns ≡ true → (S : Scene) (B : Lists) (Q : ℕ) → Within ns (bookVerdict S B Q)
+unfolding BAD-LINKS
+book-numbers a b S B Q = (if-given _ _ _ a and-then if-given _ _ _ a) and-then if-given _ _ _ b
+
+pub update-numbers : (S : Scene) (log : List ℕ) (B : Lists) (Q : ℕ) → Within UPDATE (updateVerdict S log B Q)
+unfolding BAD-ENTRY
+update-numbers S log B Q =
+    if-given _ _ _ refl and-then types-numbers refl refl refl S and-then (if-given _ _ _ refl and-then if-given _ _ _ refl and-then book-numbers refl refl S B Q)
+    and-then (if-given _ _ _ refl and-then if-given _ _ _ refl)
+
+pub check-numbers : (S : Scene) (outer g : List ℕ) (B : Lists) (Q : ℕ) → Within CHECK (checkVerdict S outer g B Q)
+check-numbers S outer g B Q =
+    (if-given _ _ _ refl and-then if-given _ _ _ refl and-then types-numbers refl refl refl S and-then if-given _ _ _ refl and-then if-given _ _ _ refl
+    and-then if-given _ _ _ refl and-then if-given _ _ _ refl)
+    and-then book-numbers refl refl S B Q and-then if-given _ _ _ refl and-then if-given _ _ _ refl
+
+-- ---- number 0 is given exactly where nothing is refused
+
+-- no list of 01 has the number 0
+pub zero-fine : (ns : List ℕ) → member 0 ns ≡ false → (v : Verdict) → Within ns v → (checkBy v) .number ≡ 0 → v ≡ fine
+zero-fine ns h fine w e = refl
+zero-fine ns h (refuse n p) (given k) e = let z : _≡_ {A = Bool} true false = sym k ∙ ap (λ (i : ℕ). member i ns) e ∙ h in absurd (clash z)
+  where
+    clash : true ≡ false → ⊥
+    clash z = let y : _≡_ {A = ℕ} 0 1 = cc in omega arith
+
+-- ---- a refused call changes no lent list
+
+pub cube-refused : (q : Shape) (out : List ℕ) → (generateVoxelMesh q out) .answer .number ≢ 0 → (generateVoxelMesh q out) .out ≡ out
+cube-refused q out h = go (cubeVerdict q out) h
+  where
+    go : (v : Verdict) → (cubeBy v q out) .answer .number ≢ 0 → (cubeBy v q out) .out ≡ out
+    go fine d = absurd (d refl)
+    go (refuse n p) d = refl
+
+pub mesh-refused : (S : Scene) (outer g : List ℕ) (culling : Bool) (B : Lists)
+    → (meshGrid S outer g culling B) .answer .number ≢ 0 → (meshGrid S outer g culling B) .lists ≡ B
+mesh-refused S outer g culling B h = go (meshVerdict S outer g culling B) h
+  where
+    go : (v : Verdict) → (meshBy v S (freshMesh S outer g culling) B) .answer .number ≢ 0 → (meshBy v S (freshMesh S outer g culling) B) .lists ≡ B
+    go fine d = absurd (d refl)
+    go (refuse n p) d = refl
+
+-- only an update out of room, 14, keeps the entries before the one it stopped at
+pub update-refused : (tested : Tested) (S : Scene) (log : List ℕ) (B : Lists) (Q : ℕ)
+    → (updateMeshBy tested S log B Q) .answer .number ≢ 0 → (updateMeshBy tested S log B Q) .answer .number ≢ 14
+    → (updateMeshBy tested S log B Q) .lists ≡ B
+update-refused tested S log B Q h k = go (updateVerdict S log B Q) h k
+  where
+    c : Course
+    c = course tested S log B Q
+
+    through : (o : Option ℕ) → (c .full ≡ o) → (updateBy fine S c B) .answer .number ≢ 0 → (updateBy fine S c B) .answer .number ≢ 14
+        → (updateBy fine S c B) .lists ≡ B
+    through none e a b = absurd (a (rw e))
+    through (some i) e a b = absurd (b (rw e))
+
+    go : (v : Verdict) → (updateBy v S c B) .answer .number ≢ 0 → (updateBy v S c B) .answer .number ≢ 14 → (updateBy v S c B) .lists ≡ B
+    go fine a b = through (c .full) refl a b
+    go (refuse n p) a b = refl
