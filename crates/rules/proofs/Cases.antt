@@ -14,17 +14,17 @@ use Rattle.rules.specs.Cube.{Shape, cubeWords}
 use Rattle.rules.specs.Mesh.{Quad, Lists, meshBy, laid, slotted}
 use Rattle.rules.specs.Update.{Entry, Added, Broken, removeAt, remove, shifts, entryAt, ops, needed, courseFrom}
 use Rattle.rules.specs.Answers as answers
-use Rattle.rules.specs.Calls.{Scene, Answer, Outcome, meshGrid, updateMesh}
+use Rattle.rules.specs.Calls.{Scene, Answer, Outcome, wordsIn, meshGrid, updateMesh}
 use Rattle.rules.specs.Program.{printed, badFile, digits, buildFrom}
 
 -- 0.0, 1.0, and three of one
-abbrev ZERO : ℕ
+abbrev pub ZERO : ℕ
 ZERO = 0
 
-abbrev ONE : ℕ
+abbrev pub ONE : ℕ
 ONE = 0x3f80_0000
 
-abbrev all : ℕ → Triple
+abbrev pub all : ℕ → Triple
 all v = record { x = v; y = v; z = v }
 
 -- a unit cube about the origin, each face with tile 0,0 of an atlas of one
@@ -43,7 +43,7 @@ unit =
     }
 
 -- its words, worked out once
-abbrev UNIT-WORDS : List ℕ
+abbrev pub UNIT-WORDS : List ℕ
 UNIT-WORDS =
     0xbf000000 ∷ 0x3f000000 ∷ 0x3f000000 ∷ 0 ∷ 0x3f800000 ∷ 0 ∷ 0 ∷ 0 ∷
     0x3f000000 ∷ 0x3f000000 ∷ 0x3f000000 ∷ 0 ∷ 0x3f800000 ∷ 0 ∷ 0x3f800000 ∷ 0 ∷
@@ -76,7 +76,7 @@ unfolding cubeWords each cube.cubeWord cube.cornerWord cube.uvWord cube.uvOf cub
 unit-words = refl
 
 -- types: 0 Null covering nothing, 1 a cube covering all, 2 Null covering all, 3 a cube covering only Bottom, 4 only Top
-abbrev scene : ℕ → ℕ → ℕ → Scene
+abbrev pub scene : ℕ → ℕ → ℕ → Scene
 scene w h l =
     record {
       size = record { w = w; h = h; l = l };
@@ -92,7 +92,7 @@ scene w h l =
     }
 
 -- room for n quads and c cells, filled with sevens
-abbrev lent : ℕ → ℕ → Lists
+abbrev pub lent : ℕ → ℕ → Lists
 lent n c =
     record { vertices = replicate (32 * n) 7; triangles = replicate (6 * n) 7; links = replicate n 7; slots = replicate (6 * c) 7 }
 
@@ -185,6 +185,26 @@ pub ten-cases : cases
     ∷ []
 unfolding cases
 ten-cases = rw (fresh-are, removals-are, mended-bottom, mended-top, null-is)
+
+-- ---- a quad's words: the cube's vertices 0, 1, 3, 2 of Top, one cell along x
+
+abbrev HALF : ℕ
+HALF = 0x3f00_0000
+
+abbrev MINUS-HALF : ℕ
+MINUS-HALF = 0xbf00_0000
+
+abbrev ONE-AND-HALF : ℕ
+ONE-AND-HALF = 0x3fc0_0000
+
+pub quad-example : wordsIn (scene 2 1 1) 1 0 1
+    ≡ HALF ∷ HALF ∷ HALF ∷ ZERO ∷ ONE ∷ ZERO ∷ ZERO ∷ ZERO
+    ∷ ONE-AND-HALF ∷ HALF ∷ HALF ∷ ZERO ∷ ONE ∷ ZERO ∷ ONE ∷ ZERO
+    ∷ HALF ∷ HALF ∷ MINUS-HALF ∷ ZERO ∷ ONE ∷ ZERO ∷ ZERO ∷ ONE
+    ∷ ONE-AND-HALF ∷ HALF ∷ MINUS-HALF ∷ ZERO ∷ ONE ∷ ZERO ∷ ONE ∷ ONE
+    ∷ []
+unfolding types.quadWords types.quadWord types.order types.movedWord each ieee.toBits ieee.add ieee.mul ieee.ofInt ieee.ofBits
+quad-example = refl
 
 -- ---- the program's example
 

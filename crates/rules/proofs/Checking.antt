@@ -153,13 +153,19 @@ module _ (n : ℕ) (B : Lists) (Q : ℕ) where
       let b : q < Q = omega (arith, length-decode s) in
       d p q l b (sym (key-decode s p (omega arith)) ∙ e ∙ key-decode s q b)
 
+  pub there-of : (s q : ℕ) → q < Q → there (linked B q) (decode s Q B) ≡ true
+  there-of s q h = is-there (decode s Q B) q (linked B q) (omega (arith, length-decode s)) (key-decode s q h)
+
+  pub place-of : (s k : ℕ) → there k (decode s Q B) ≡ true → (placeOf k (decode s Q B) < Q) × (linked B (placeOf k (decode s Q B)) ≡ k)
+  place-of s k e =
+      let p = placed k (decode s Q B) e in
+      let w = p .within in
+      let l : placeOf k (decode s Q B) < Q = omega (arith, length-decode s) in (l, sym (key-decode s (placeOf k (decode s Q B)) l) ∙ p .key)
+
 -- ---- the faces
 module _ (W : World) (outer g : List ℕ) (s : ℕ) (B : Lists) (Q : ℕ) (room : 6 * cells (W .size) ≤ length (B .slots)) where
   N : ℕ
   N = cells (W .size)
-
-  m : List Quad
-  m = decode s Q B
 
   face-fine : (k : ℕ) → wrongFace W outer g (decode s Q B) k ≡ false → there k (decode s Q B) ≡ drawn W outer g (k / 6) (k % 6)
   unfolding wrongFace
@@ -188,16 +194,6 @@ module _ (W : World) (outer g : List ℕ) (s : ℕ) (B : Lists) (Q : ℕ) (room 
   unfolding wrongVertex
   fine-vertex q e = rw (e, same-refl (W .wordsOf (typeAt g (linked B q / 6)) (linked B q % 6) (linked B q / 6)))
 
-  there-of : (q : ℕ) → q < Q → there (linked B q) (decode s Q B) ≡ true
-  there-of q h = is-there (decode s Q B) q (linked B q) (omega (arith, length-decode N B Q s)) (key-decode N B Q s q h)
-
-  place-of : (k : ℕ) → there k (decode s Q B) ≡ true → (q : ℕ) × (q < Q) × (linked B q ≡ k)
-  place-of k e =
-      let p = placed k (decode s Q B) e in
-      let w = p .within in
-      let l : placeOf k (decode s Q B) < Q = omega (arith, length-decode N B Q s) in
-      (placeOf k (decode s Q B), l, sym (key-decode N B Q s (placeOf k (decode s Q B)) l) ∙ p .key)
-
   -- LAW: no refusal of 11, 12, 15 or 16 is given exactly if the mesh is right
   pub right-of-fine : (BAD-LINKS (cells (W .size)) B Q then BAD-TRIANGLES B Q) ≡ fine
       → (WRONG-SET W outer g (decode s Q B) then WRONG-VERTEX W g s B Q) ≡ fine → Right W outer g s B Q
@@ -210,9 +206,9 @@ module _ (W : World) (outer g : List ℕ) (s : ℕ) (B : Lists) (Q : ℕ) (room 
         eachShown = λ c f hc hf d.
             let u : keyOf c f / 6 ≡ c = omega arith in
             let v : keyOf c f % 6 ≡ f = omega arith in
-            let r : there (keyOf c f) (decode s Q B) ≡ true = set (keyOf c f) (omega arith) ∙ rw (u, v) d in place-of (keyOf c f) r;
+            let r : there (keyOf c f) (decode s Q B) ≡ true = set (keyOf c f) (omega arith) ∙ rw (u, v) d in let i = place-of N B Q s (keyOf c f) r in (placeOf (keyOf c f) (decode s Q B), i .0, i .1);
         inside = λ q h. (b .codes q h, b .inside q h);
-        noOther = λ q h. let x = b .codes q h in let y = b .inside q h in sym (set (linked B q) (omega arith)) ∙ there-of q h;
+        noOther = λ q h. let x = b .codes q h in let y = b .inside q h in sym (set (linked B q) (omega arith)) ∙ there-of N B Q s q h;
         once = λ p q l h e. let x = b .named p (omega arith) in let y = b .named q h in let z = ap (slotAt B) e in omega arith;
         vertices = λ q h. vertex-fine q (lowest-fine 16 Q (wrongVertex W g s B) (t .1) q h);
         triangles = b .triangles;
@@ -237,7 +233,7 @@ module _ (W : World) (outer g : List ℕ) (s : ℕ) (B : Lists) (Q : ℕ) (room 
       go true e =
           let i = r .eachShown (k / 6) (k % 6) (omega arith) (omega arith) e in
           is-there (decode s Q B) (i .0) k (omega (arith, i .1, length-decode N B Q s)) (key-decode N B Q s (i .0) (i .1) ∙ i .2 ∙ omega arith)
-      go false e = both-ways (there k (decode s Q B)) (λ t. let i = place-of k t in true≢false (sym (r .noOther (i .0) (i .1)) ∙ rw (i .2) e))
+      go false e = both-ways (there k (decode s Q B)) (λ t. let i = place-of N B Q s k t in true≢false (sym (r .noOther (placeOf k (decode s Q B)) (i .0)) ∙ rw (i .1) e))
 
   pub fine-of-right : Right W outer g s B Q
       → ((BAD-LINKS (cells (W .size)) B Q then BAD-TRIANGLES B Q) ≡ fine) × ((WRONG-SET W outer g (decode s Q B) then WRONG-VERTEX W g s B Q) ≡ fine)
@@ -274,10 +270,11 @@ module _ (W : World) (outer g : List ℕ) (s : ℕ) (B : Lists) (Q : ℕ) (room 
       go false d =
           absent (keyOf c f) (decode s Q B)
           (both-ways (there (keyOf c f) (decode s Q B))
-          (λ t. let i = place-of (keyOf c f) t in
-          let u : linked B (i .0) / 6 ≡ c = omega (arith, i .2) in
-          let v : linked B (i .0) % 6 ≡ f = omega (arith, i .2) in
-          true≢false (sym (rw (u, v) at (r .noOther (i .0) (i .1))) ∙ d)))
+          (λ t. let i = place-of N B Q s (keyOf c f) t in
+          let q : ℕ = placeOf (keyOf c f) (decode s Q B) in
+          let u : linked B q / 6 ≡ c = omega (arith, i .1) in
+          let v : linked B q % 6 ≡ f = omega (arith, i .1) in
+          true≢false (sym (rw (u, v) at (r .noOther q (i .0))) ∙ d)))
 
 -- ---- a mesh that shows what culling shows, laid out, is right
 module _ (W : World) (outer g : List ℕ) (s highest : ℕ) (m : List Quad) (B : Lists) (hn : 6 * cells (W .size) ≤ 3221225472)

@@ -118,3 +118,20 @@ no-more (x ∷ ks) n S h c =
             let b = h .below 0 (omega arith) in let r = h .room in
             absurd (d (rw e (getD-set-same S x NONE NONE (omega arith))))
         go (no e) = let i = c k l (rw (getD-set-other S x k NONE NONE e) at d) in later k e (i .0) (i .1) (i .2)
+
+count-le : (n : ℕ) (p : ℕ → Bool) → count n p ≤ n
+unfolding count
+count-le zero p = omega arith
+count-le (suc n) p = omega (arith, count-le n p, one-le (p n))
+  where
+    one-le : (b : Bool) → cond b 1 0 ≤ 1
+    one-le true = omega arith
+    one-le false = omega arith
+
+-- no more places than slots
+pub full-le : (ks : List ℕ) (n : ℕ) (S : List ℕ) → Named n S ks → length ks ≤ n
+full-le ks n S h = omega (arith, go ks S h, count-le n (isFull S))
+  where
+    go : (ks S : List ℕ) → Named n S ks → length ks ≤ fullIn n S
+    go [] S h = omega arith
+    go (k ∷ ks) S h = omega (arith, go ks (set S k NONE) (named-rest n k S ks h), first-emptied n k S ks h)

@@ -9,4 +9,7 @@ pub mod Checking
 pub mod Courses
 pub mod Refusals
 pub mod Demands
+pub mod Idle
+pub mod OneOutcome
 pub mod Cases
+pub mod Witness
