@@ -11,8 +11,8 @@ use Rattle.rules.specs.Types as types
 use Rattle.rules.specs.Types.{Types}
 use Rattle.rules.specs.Cube as cube
 use Rattle.rules.specs.Cube.{Shape, cubeWords}
-use Rattle.rules.specs.Mesh.{Quad, Lists, meshBy, laid, slotted}
-use Rattle.rules.specs.Update.{Entry, Added, Broken, removeAt, remove, shifts, entryAt, ops, needed, courseFrom}
+use Rattle.rules.specs.Mesh.{Quad, World, Lists, meshBy, laid, slotted}
+use Rattle.rules.specs.Update.{Entry, Broken, removeAt, remove, entryAt, source, work, ops, run, needed, courseFrom}
 use Rattle.rules.specs.Answers as answers
 use Rattle.rules.specs.Calls.{Scene, Answer, Outcome, wordsIn, meshGrid, updateMesh}
 use Rattle.rules.specs.Program.{printed, badFile, digits, buildFrom}
@@ -150,6 +150,7 @@ addedNull = quadsIn (withAbove 0) ∷ []
 -- what the cases work out
 unfoldable pub cases : List (List ℕ)
 cases = freshCases ++ (removalCases ++ (mended 3 ∷ mended 4 ∷ addedNull ∷ (linkWord 5 0 ∷ []) ∷ []))
+
 fresh-are : freshCases ≡ (6 ∷ []) ∷ (10 ∷ 12 ∷ []) ∷ (8 ∷ []) ∷ (54 ∷ []) ∷ (5 ∷ []) ∷ []
 unfolding freshCases answers._then_ answers.refuseIf answers.badLimits answers.BAD-TYPES answers.badCounts lowestFrom answers.badType answers.BAD-NUMBER answers.notACube types.isCube every types.classed types.classOf types.classAt types.classOn ieee.eq ieee.ofBits ieee.lt answers.roomOf meshBy each neighbour
 fresh-are = refl
@@ -205,6 +206,28 @@ pub quad-example : wordsIn (scene 2 1 1) 1 0 1
     ∷ []
 unfolding types.quadWords types.quadWord types.order types.movedWord each ieee.toBits ieee.add ieee.mul ieee.ofInt ieee.ofBits
 quad-example = refl
+
+-- ---- Broken draws from the neighbour's type as given: type 1 goes from cell 0, and cell 1 shows its Left side as type 3's
+
+abbrev told : World
+told =
+    record {
+      size = record { w = 2; h = 1; l = 1 };
+      kinds = 0 ∷ 1 ∷ 0 ∷ 1 ∷ [];
+      covers = 0 ∷ 63 ∷ 0 ∷ 63 ∷ [];
+      wordsOf = λ t f c. t ∷ f ∷ c ∷ [];
+    }
+
+abbrev dug : Entry
+dug = record { cell = 0; change = Broken; type = 1; given = 255 ∷ 255 ∷ 3 ∷ 255 ∷ 255 ∷ 255 ∷ [] }
+
+abbrev wordLists : List Quad → List (List ℕ)
+wordLists [] = []
+wordLists (q ∷ m) = q .words ∷ wordLists m
+
+pub broken-example : wordLists (run (ops (work source told dug)) []) ≡ (3 ∷ 3 ∷ 1 ∷ []) ∷ []
+unfolding ops remove each neighbour
+broken-example = refl
 
 -- ---- the program's example
 

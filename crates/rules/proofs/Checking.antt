@@ -66,9 +66,11 @@ module _ (n : ℕ) (B : Lists) (Q : ℕ) where
   unfolding badLink
   link-fine q e =
       let a = or-false (ltb 5 (codeIn (getD (B .links) q 0)) || leb n (cellIn (getD (B .links) q 0))) (not (eqb (slotAt B (linked B q)) (firstVertex q))) e in
-      let b = or-false (ltb 5 (codeIn (getD (B .links) q 0))) (leb n (cellIn (getD (B .links) q 0))) (a .0) in
-      (ltb-false 5 (codeIn (getD (B .links) q 0)) (b .0), leb-false n (cellIn (getD (B .links) q 0)) (b .1),
-      eqb-true (slotAt B (linked B q)) (firstVertex q) (not-true _ (a .1)))
+      let b = or-false (ltb 5 (codeIn (getD (B .links) q 0))) (leb n (cellIn (getD (B .links) q 0))) (a .0) in (
+        ltb-false 5 (codeIn (getD (B .links) q 0)) (b .0),
+        leb-false n (cellIn (getD (B .links) q 0)) (b .1),
+        eqb-true (slotAt B (linked B q)) (firstVertex q) (not-true _ (a .1)),
+      )
 
   fine-link : (q : ℕ) → codeIn (getD (B .links) q 0) ≤ 5 → cellIn (getD (B .links) q 0) < n → slotAt B (linked B q) ≡ firstVertex q
       → badLink n B q ≡ false

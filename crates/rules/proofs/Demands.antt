@@ -257,10 +257,11 @@ module _ (S : Scene) (B : Lists) (Q : ℕ) (size-fine : BAD-SIZE (S .size) ≡ f
           let x = book .codes q l in let y = book .inside q l in
           let r = room-for S B Q counted .vertices in
           let a : suc q ≤ Q = l in
-          let u = mul-le-mul-left (span S) a in
-          (rw (key-decode (cells (S .size)) B Q (span S) q l) (omega arith),
-          rw (words-decode (cells (S .size)) B Q (span S) q l)
-          (length-take-le (span S) (drop (span S * q) (B .vertices)) (rw length-drop (omega arith))))
+          let u = mul-le-mul-left (span S) a in (
+            rw (key-decode (cells (S .size)) B Q (span S) q l) (omega arith),
+            rw (words-decode (cells (S .size)) B Q (span S) q l)
+                (length-take-le (span S) (drop (span S * q) (B .vertices)) (rw length-drop (omega arith))),
+          )
 
 -- the entries of an accepted log are in the grid
 entry-inside : (n types : ℕ) (log : List ℕ) → BAD-ENTRY n types log ≡ fine → (k : ℕ) → k < length log / 12 → (entryAt log k) .cell < n

@@ -353,15 +353,27 @@ module _ (W : World) (s : Sound W) (g : List ℕ) (hg : length g ≡ cells (W .s
       go : View W s g hg (e .cell) (told .inGrid) n f hf
           → worked (added tested W e) (keyOf n f) (due W [] g n f) ≡ due W [] (set g (e .cell) (e .type)) n f
       go (own q) =
-          rw (hides-none W s g hg (e .cell) (told .inGrid) n f hf tested (e .type) (own-apart W s g hg (e .cell) (told .inGrid) n f hf q),
-          sides-own W (e .type) (e .cell) n f hf all q, quads-own W (e .type) (e .cell) n f hf (isOpen W e) q, q,
-          after-own W s g hg (e .cell) (told .inGrid) n f hf (e .type), h .cube, told .neighbours f hf)
+          rw (
+            hides-none W s g hg (e .cell) (told .inGrid) n f hf tested (e .type) (own-apart W s g hg (e .cell) (told .inGrid) n f hf q),
+            sides-own W (e .type) (e .cell) n f hf all q,
+            quads-own W (e .type) (e .cell) n f hf (isOpen W e) q,
+            q,
+            after-own W s g hg (e .cell) (told .inGrid) n f hf (e .type),
+            h .cube,
+            told .neighbours f hf,
+          )
           (ap (λ (b : Bool). only b (W .wordsOf (e .type) f (e .cell))) (open-is (e .type) (neighbour (W .size) (e .cell) f) refl))
       go (facing d b q) =
-          rw (hides-one W s g hg (e .cell) (told .inGrid) n f hf tested (e .type) b,
-          sides-far W (e .type) (e .cell) n f hf all d, quads-far W (e .type) (e .cell) n f hf (isOpen W e) d,
-          h .alike (opposite f) (opposite-lt f hf), q, getD-set-other g (e .cell) n (e .type) 255 d,
-          after-own W s g hg (e .cell) (told .inGrid) n f hf (e .type), empty-covers W (typeAt g (e .cell)) (opposite f) (h .wasEmpty))
+          rw (
+            hides-one W s g hg (e .cell) (told .inGrid) n f hf tested (e .type) b,
+            sides-far W (e .type) (e .cell) n f hf all d,
+            quads-far W (e .type) (e .cell) n f hf (isOpen W e) d,
+            h .alike (opposite f) (opposite-lt f hf),
+            q,
+            getD-set-other g (e .cell) n (e .type) 255 d,
+            after-own W s g hg (e .cell) (told .inGrid) n f hf (e .type),
+            empty-covers W (typeAt g (e .cell)) (opposite f) (h .wasEmpty),
+          )
           (hidden (isNormalCube W (typeAt g n)) (covering W (e .type) (opposite f)) (W .wordsOf (typeAt g n) f n))
       go (apart d l q) =
           alone d (face-apart W s g hg (e .cell) (told .inGrid) n f hf q) ∙ sym (due-far W s g hg (e .cell) (told .inGrid) n f hf (e .type) d q)
@@ -383,13 +395,25 @@ module _ (W : World) (s : Sound W) (g : List ℕ) (hg : length g ≡ cells (W .s
 
       go : View W s g hg (e .cell) (told .inGrid) n f hf → worked (broken W e) (keyOf n f) (due W [] g n f) ≡ due W [] (set g (e .cell) (emptyType W)) n f
       go (own q) =
-          rw (reveals-none W s g hg (e .cell) (told .inGrid) n f hf (e .type) (givenAt e) (own-apart W s g hg (e .cell) (told .inGrid) n f hf q),
-          sides-own W (e .type) (e .cell) n f hf all q, q, after-own W s g hg (e .cell) (told .inGrid) n f hf (emptyType W), empty-cube W (emptyType W) empty)
+          rw (
+            reveals-none W s g hg (e .cell) (told .inGrid) n f hf (e .type) (givenAt e) (own-apart W s g hg (e .cell) (told .inGrid) n f hf q),
+            sides-own W (e .type) (e .cell) n f hf all q,
+            q,
+            after-own W s g hg (e .cell) (told .inGrid) n f hf (emptyType W),
+            empty-cube W (emptyType W) empty,
+          )
       go (facing d b q) =
-          rw (reveals-one W s g hg (e .cell) (told .inGrid) n f hf (e .type) (givenAt e) b,
-          sides-far W (e .type) (e .cell) n f hf all d, told .neighbours (opposite f) (opposite-lt f hf), b, q,
-          getD-set-other g (e .cell) n (emptyType W) 255 d, after-own W s g hg (e .cell) (told .inGrid) n f hf (emptyType W),
-          empty-covers W (emptyType W) (opposite f) empty, ← h .0)
+          rw (
+            reveals-one W s g hg (e .cell) (told .inGrid) n f hf (e .type) (givenAt e) b,
+            sides-far W (e .type) (e .cell) n f hf all d,
+            told .neighbours (opposite f) (opposite-lt f hf),
+            b,
+            q,
+            getD-set-other g (e .cell) n (emptyType W) 255 d,
+            after-own W s g hg (e .cell) (told .inGrid) n f hf (emptyType W),
+            empty-covers W (emptyType W) (opposite f) empty,
+            ← h .0,
+          )
           (revealed (isNormalCube W (typeAt g n)) (covering W (e .type) (opposite f)) (W .wordsOf (typeAt g n) f n))
       go (apart d l q) =
           alone d (face-apart W s g hg (e .cell) (told .inGrid) n f hf q) ∙ sym (due-far W s g hg (e .cell) (told .inGrid) n f hf (emptyType W) d q)

@@ -95,8 +95,10 @@ module _ (s : Size) (hw : 0 < s .w) (hl : 0 < s .l) where
         let b = ltb-true (yOf s c + 1) (s .h) (t .0) in
         let i = cell-of c in
         found 0 (xOf s c) (yOf s c + 1) (zOf s c) (x-lt c) (omega arith) (z-lt c) (omega (arith, t .1))
-        (λ k. (λ q. omega (arith, k .y-is, ap (yOf s) q),
-        rw (lt-ltb 0 (yOf s n) (omega (arith, k .y-is))) (ap some (omega (arith, t .1)))))
+        (λ k. (
+          λ q. omega (arith, k .y-is, ap (yOf s) q),
+          rw (lt-ltb 0 (yOf s n) (omega (arith, k .y-is))) (ap some (omega (arith, t .1))),
+        ))
     beside (suc zero) hf e =
         let t = onlyIf-some (ltb 0 (yOf s c)) (c - s .l * s .w) n e in
         let b = ltb-true 0 (yOf s c) (t .0) in
@@ -104,30 +106,38 @@ module _ (s : Size) (hw : 0 < s .w) (hl : 0 < s .l) where
         let u = up (yOf s c) (s .l) (s .w) b in
         let y = y-lt c hc in
         found 1 (xOf s c) (yOf s c - 1) (zOf s c) (x-lt c) (omega arith) (z-lt c) (omega (arith, t .1))
-        (λ k. (λ q. omega (arith, k .y-is, ap (yOf s) q),
-        rw (lt-ltb (yOf s n + 1) (s .h) (omega (arith, k .y-is))) (ap some (omega (arith, t .1)))))
+        (λ k. (
+          λ q. omega (arith, k .y-is, ap (yOf s) q),
+          rw (lt-ltb (yOf s n + 1) (s .h) (omega (arith, k .y-is))) (ap some (omega (arith, t .1))),
+        ))
     beside (suc (suc zero)) hf e =
         let t = onlyIf-some (ltb (xOf s c + 1) (s .w)) (c + 1) n e in
         let b = ltb-true (xOf s c + 1) (s .w) (t .0) in
         let i = cell-of c in
         found 2 (xOf s c + 1) (yOf s c) (zOf s c) b (y-lt c hc) (z-lt c) (omega (arith, t .1))
-        (λ k. (λ q. omega (arith, k .x-is, ap (xOf s) q),
-        rw (lt-ltb 0 (xOf s n) (omega (arith, k .x-is))) (ap some (omega (arith, t .1)))))
+        (λ k. (
+          λ q. omega (arith, k .x-is, ap (xOf s) q),
+          rw (lt-ltb 0 (xOf s n) (omega (arith, k .x-is))) (ap some (omega (arith, t .1))),
+        ))
     beside (suc (suc (suc zero))) hf e =
         let t = onlyIf-some (ltb 0 (xOf s c)) (c - 1) n e in
         let b = ltb-true 0 (xOf s c) (t .0) in
         let i = cell-of c in
         let x = x-lt c in
         found 3 (xOf s c - 1) (yOf s c) (zOf s c) (omega arith) (y-lt c hc) (z-lt c) (omega (arith, t .1))
-        (λ k. (λ q. omega (arith, k .x-is, ap (xOf s) q),
-        rw (lt-ltb (xOf s n + 1) (s .w) (omega (arith, k .x-is))) (ap some (omega (arith, t .1)))))
+        (λ k. (
+          λ q. omega (arith, k .x-is, ap (xOf s) q),
+          rw (lt-ltb (xOf s n + 1) (s .w) (omega (arith, k .x-is))) (ap some (omega (arith, t .1))),
+        ))
     beside (suc (suc (suc (suc zero)))) hf e =
         let t = onlyIf-some (ltb (zOf s c + 1) (s .l)) (c + s .w) n e in
         let b = ltb-true (zOf s c + 1) (s .l) (t .0) in
         let i = cell-of c in
         found 4 (xOf s c) (yOf s c) (zOf s c + 1) (x-lt c) (y-lt c hc) b (omega (arith, t .1))
-        (λ k. (λ q. omega (arith, k .z-is, ap (zOf s) q),
-        rw (lt-ltb 0 (zOf s n) (omega (arith, k .z-is))) (ap some (omega (arith, t .1)))))
+        (λ k. (
+          λ q. omega (arith, k .z-is, ap (zOf s) q),
+          rw (lt-ltb 0 (zOf s n) (omega (arith, k .z-is))) (ap some (omega (arith, t .1))),
+        ))
     beside (suc (suc (suc (suc (suc zero))))) hf e =
         let t = onlyIf-some (ltb 0 (zOf s c)) (c - s .w) n e in
         let b = ltb-true 0 (zOf s c) (t .0) in
@@ -135,6 +145,8 @@ module _ (s : Size) (hw : 0 < s .w) (hl : 0 < s .l) where
         let d = down (zOf s c) (s .w) b in
         let z = z-lt c in
         found 5 (xOf s c) (yOf s c) (zOf s c - 1) (x-lt c) (y-lt c hc) (omega arith) (omega (arith, t .1))
-        (λ k. (λ q. omega (arith, k .z-is, ap (zOf s) q),
-        rw (lt-ltb (zOf s n + 1) (s .l) (omega (arith, k .z-is))) (ap some (omega (arith, t .1)))))
+        (λ k. (
+          λ q. omega (arith, k .z-is, ap (zOf s) q),
+          rw (lt-ltb (zOf s n + 1) (s .l) (omega (arith, k .z-is))) (ap some (omega (arith, t .1))),
+        ))
     beside (suc (suc (suc (suc (suc (suc f)))))) hf e = absurd (omega arith)
