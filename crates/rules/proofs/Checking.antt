@@ -15,7 +15,7 @@ use Rattle.rules.specs.Mesh.{Quad, World, Lists, NONE, typeAt, isNormalC
 use Rattle.rules.specs.Update.{blank}
 use Rattle.rules.specs.Answers.{Verdict, fine, refuse, _then_, refuseIf, refuseLowest, slotAt, badLink, filled, BAD-LINKS, BAD-TRIANGLES, wrongFace, WRONG-SET, wrongVertex, WRONG-VERTEX}
 use Rattle.rules.specs.Check.{linked, Right}
-use Rattle.rules.proofs.ListLaws.{All, all-at, split, both-ways, not-true, lowest-none, lowest-good, same-true, same-refl, length-table, getD-table}
+use Rattle.rules.proofs.ListLaws.{All, all-at, split, both-ways, or-false, not-true, lowest-none, lowest-good, same-true, same-refl, length-table, getD-table}
 use Rattle.rules.proofs.Quads.{Once, Placed, placed, absent}
 use Rattle.rules.proofs.Laying.{Fits, keyAt, Distinct, link-inside, keys-at, links-at, vertices-at, triangles-at, slots-at, is-there, at-there, place-is, distinct-of-once, once-of-distinct}
 use Rattle.rules.proofs.Index.{Named, In, no-other, no-more}
@@ -47,10 +47,6 @@ lowest-fine number n bad e k h =
 pub fine-lowest : (number n : ℕ) (bad : ℕ → Bool) → ((k : ℕ) → k < n → bad k ≡ false) → refuseLowest number n bad ≡ fine
 fine-lowest number n bad h =
     fine-if (ltb (lowest n bad) n) number (lowest n bad) (le-ltb (lowest n bad) n (omega (arith, lowest-none n bad h)))
-
-pub or-false : (a b : Bool) → (a || b) ≡ false → (a ≡ false) × (b ≡ false)
-or-false true b e = absurd (true≢false e)
-or-false false b e = (refl, e)
 
 -- ---- links, slots and triangles
 pub record Book (n : ℕ) (B : Lists) (Q : ℕ) : Type 0 where

@@ -20,10 +20,10 @@ use Rattle.rules.specs.Update.{Change, Broken, Added, CullFaces, AddFace
 use Rattle.rules.specs.Answers.{Verdict, fine, refuse, _then_, refuseIf, refuseLowest, outOf, badLimits, BAD-SIZE, BAD-GRID, badCounts, badType, BAD-TYPES, BAD-NUMBER, NOT-A-CUBE, BAD-OUTER, BAD-CELL, SHORT-SLOTS, roomOf, BAD-COUNT, BAD-LINKS, BAD-TRIANGLES, badEntry, BAD-ENTRY, NO-ROOM, WRONG-SET, WRONG-VERTEX}
 use Rattle.rules.specs.Check.{linked, Right}
 use Rattle.rules.specs.Calls.{Answer, answered, refused, Scene, wordsIn, world, span, faces, room, typesVerdict, Outcome, freshMesh, meshVerdict, meshBy, meshGrid, lentVerdict, updateVerdict, entriesOf, course, courseAnswer, updateBy, updateMeshBy, openVerdict, bookVerdict, faceVerdict, checkVerdict, checkBy, checkMesh}
-use Rattle.rules.proofs.ListLaws.{All, all-of, split, not-true, length-table, length-each}
+use Rattle.rules.proofs.ListLaws.{All, all-of, split, or-false, not-true, length-table, length-each}
 use Rattle.rules.proofs.Quads.{Once}
 use Rattle.rules.proofs.Laying.{Fits, length-vertices, length-triangles, length-links, length-slots, once-of-distinct, decode-layout}
-use Rattle.rules.proofs.Checking.{then-fine, fine-then, if-fine, fine-if, lowest-fine, fine-lowest, or-false, Book, book-of-fine, length-decode, key-decode, words-decode, distinct-decode, right-of-fine, fine-of-right, shows-of-right, right-of-shows}
+use Rattle.rules.proofs.Checking.{then-fine, fine-then, if-fine, fine-if, lowest-fine, fine-lowest, Book, book-of-fine, length-decode, key-decode, words-decode, distinct-decode, right-of-fine, fine-of-right, shows-of-right, right-of-shows}
 use Rattle.rules.proofs.Mending.{Sound, Shows, shows-once, fresh-shows}
 use Rattle.rules.proofs.Courses.{fits-fresh, fits-new, Sane, course-sane, mends-log, length-log}
 use Rattle.rules.proofs.Refusals.{Within, MESH, UPDATE, CHECK, mesh-numbers, update-numbers, check-numbers, zero-fine}

@@ -1,5 +1,6 @@
 -- The laws, leaves first.
 pub mod ListLaws
+pub mod Searches
 pub mod Neighbours
 pub mod Quads
 pub mod Mending

@@ -1,7 +1,7 @@
 -- Laws on rows, stretches and searches. Assumes nothing.
 use mathlib.Core.Path.{_≡_, refl, sym, ap, _∙_, subst}
 use mathlib.Core.Logic.{_≢_}
-use mathlib.Core.Bool.{Bool, true, false, cond, not, _&&_, true≢false, false≢true}
+use mathlib.Core.Bool.{Bool, true, false, cond, not, _&&_, _||_, true≢false, false≢true}
 use mathlib.Core.List.{List, [], _∷_, _++_, append-assoc, append-nil}
 use Prim.Native.Nat.{ℕ, zero, suc, _+_, _-_, _*_, _≤_, _<_}
 use native.Mathlib.Omega.{arith}
@@ -32,6 +32,10 @@ not-false false e = refl
 pub and-true : (a b : Bool) → (a && b) ≡ true → (a ≡ true) × (b ≡ true)
 and-true true b e = (refl, e)
 and-true false b e = absurd (false≢true e)
+
+pub or-false : (a b : Bool) → (a || b) ≡ false → (a ≡ false) × (b ≡ false)
+or-false true b e = absurd (true≢false e)
+or-false false b e = (refl, e)
 
 -- ---- each: a reading of a list that takes one list after the other piece by piece
 pub record Reads {ℓ} (A : Type ℓ) (M : Type 0) : Type ℓ where
@@ -147,10 +151,10 @@ every-true (suc n) p e k h = let a = and-true (every n p) (p n) e in last (a .1)
     last a (yes q) r = ap p q ∙ a
     last a (no d) r = r (omega arith)
 
-pub every-of : (n : ℕ) (p : ℕ → Bool) → ((k : ℕ) → k < n → p k ≡ true) → every n p ≡ true
+pub every-all : (n : ℕ) (p : ℕ → Bool) → ((k : ℕ) → k < n → p k ≡ true) → every n p ≡ true
 unfolding every
-every-of zero p h = refl
-every-of (suc n) p h = rw (every-of n p (λ k l. h k (omega arith)), h n (omega arith))
+every-all zero p h = refl
+every-all (suc n) p h = rw (every-all n p (λ k l. h k (omega arith)), h n (omega arith))
 
 -- ---- the same numbers
 pub same-true : (xs ys : List ℕ) → same xs ys ≡ true → xs ≡ ys

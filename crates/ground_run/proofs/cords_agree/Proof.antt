@@ -1,0 +1,27 @@
+use mathlib.Core.Path.{ap}
+use native.Mathlib.Omega.{arith}
+use borrow.Author.Needs.{needs}
+use Rattle.rules.specs.Cells.{Triple}
+use Rattle.util.specs.Grid.{sizeOf}
+use Rattle.util.proofs.Cells.{inside}
+use Rattle.ground_run.proofs.cords_agree.Statement.{statement}
+use Rattle.ground_run.proofs.cords_agree.Tie as tie
+
+three-d-cords-requires : tie.Need-three-d-cords-requires
+three-d-cords-requires c κs = search needs
+
+one-d-cords-requires : tie.Need-one-d-cords-requires
+one-d-cords-requires c κs =
+    let t = c .before in
+    let e = c .three-d-cords .ensures in
+    let x = ap (λ (v : Triple). v .x) e in
+    let y = ap (λ (v : Triple). v .y) e in
+    let z = ap (λ (v : Triple). v .z) e in
+    let i = inside (sizeOf (t .args .dims)) (t .args .cell) (t .pre .0 .sides .wide) (t .pre .0 .sides .long) (t .pre .1) in
+    (t .pre .0, omega arith, omega arith, omega arith)
+
+returns : tie.Need-returns
+returns c = search needs
+
+pub cords-agree-spec : {M : Type 1} → statement M
+cords-agree-spec = tie.close (tie.spec three-d-cords-requires one-d-cords-requires returns)

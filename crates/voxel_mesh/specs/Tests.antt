@@ -1,0 +1,34 @@
+-- The types' tests, as the rules see them. Definitions only.
+use Prim.Native.Nat.{ℕ, _*_, _<_, _≤_}
+use mathlib.Core.Path.{_≡_}
+use lib.ListN.{length}
+use lib.Dec.{T}
+use Rattle.rules.specs.Floats.{finite}
+use mathlib.Core.Bool.{Bool}
+use mathlib.Core.List.{List}
+use Rattle.rules.specs.Cells.{Triple}
+use Rattle.rules.specs.Cube.{floatsOf}
+use Rattle.rules.specs.Types.{Types, positionOf}
+use Rattle.rules.specs.Answers.{Verdict, _then_, BAD-TYPES, BAD-NUMBER, NOT-A-CUBE}
+
+abbrev pub typesOf : Bool → List ℕ → List ℕ → List ℕ → Types
+typesOf coloured kinds covers cubes = record { coloured = coloured; kinds = kinds; covers = covers; cubes = cubes }
+
+-- 3, 4 (no padding is given) and 6
+abbrev pub typesVerdict : Types → Triple → Triple → Verdict
+typesVerdict T d centre = BAD-TYPES T then BAD-NUMBER d centre 0 then NOT-A-CUBE T centre
+
+-- 24 vertices of 8 to 12 words
+pub record Words (cube : List ℕ) (floats : ℕ) : Type 0 where
+  pub least : 8 ≤ floats
+  pub most : floats ≤ 12
+  pub whole : 24 * floats ≤ length cube
+
+-- every position is finite
+abbrev pub Placed : List ℕ → ℕ → Type 0
+Placed cube floats = (i axis : ℕ) → i < 24 → axis < 3 → T (finite (positionOf cube floats i axis))
+
+-- the counts are right
+pub record Counted (coloured : Bool) (kinds cubes : List ℕ) : Type 0 where
+  pub few : length kinds ≤ 255
+  pub whole : length cubes ≡ 24 * floatsOf coloured * length kinds

@@ -1,0 +1,300 @@
+// One cube's vertices: 24 of 8 words, or of 12 with colour, each word the bits of an f32.
+use floats::Triple;
+use floats::corner_word;
+use floats::is_finite_bits;
+use floats::uv_word;
+ghost use mathlib.Core.Path.{_≡_};
+ghost use mathlib.Core.Bool.{true, not, _&&_};
+ghost use mathlib.Core.List.{[], _++_};
+ghost use Prim.Native.Nat.{ℕ, _+_, _-_, _*_, _/_, _<_, _≤_};
+ghost use lib.ListN.{length, getD, drop};
+ghost use lib.Dec.{T, ltb};
+ghost use Rattle.rules.specs.Lists.{every, lowest, table};
+ghost use Rattle.rules.specs.Floats.{finite, finite3};
+ghost use Rattle.rules.specs.Cube.{floatsOf, isHigh, isEnd, lastNaming, atlasAlong, uvOf, normalOf, cubeWord, cubeWords, cubeTriangles};
+ghost use Rattle.rules.specs.Answers.{fine, entries, badTile, badAtlas};
+ghost use Rattle.rules.specs.Calls.{generateVoxelMesh};
+ghost use Rattle.floats.specs.Triples.{tripleOf};
+ghost use Rattle.voxel_mesh.specs.Outcome.{shapeOf, verdictOf, verdictIn, outcome, Accepted};
+
+pub mod types; // types.rt: the tests of the types
+
+// What a cube is made from; each float is its bits.
+pub struct Shape {
+    pub d: Triple,
+    pub centre: Triple,
+    pub atlas_width: u32,
+    pub atlas_height: u32,
+    pub padding: u32,
+    pub coloured: bool,
+    pub colour: u32,
+    pub alpha: u32,
+}
+
+// What the call answers.
+pub enum Cubed {
+    Done,
+    BadNumber,
+    BadAtlas,
+    BadFace(usize),
+    ShortRoom,
+}
+
+// Bit v: vertex v is on the high side of x, y, z.
+const HIGH: [u32; 3] = [0x990f66, 0xc3c30f, 0x0f66c3];
+
+// Bit v: vertex v is at the tile's end of u, v.
+const END: [u32; 2] = [0x969696, 0x3c3c3c];
+
+// The axis of each face.
+const AXES: [usize; 6] = [1, 1, 0, 0, 2, 2];
+
+// The triangles of the cube's faces.
+const TRIANGLES: [u32; 36] = [
+    0,
+    1,
+    3,
+    2,
+    3,
+    1,
+    4,
+    5,
+    7,
+    6,
+    7,
+    5,
+    8,
+    9,
+    11,
+    10,
+    11,
+    9,
+    12,
+    13,
+    15,
+    14,
+    15,
+    13,
+    16,
+    17,
+    19,
+    18,
+    19,
+    17,
+    20,
+    21,
+    23,
+    22,
+    23,
+    21,
+];
+
+pub fn cube_triangles() -> [u32; 36]
+    ensures { λ r. ⌜ r ≡ cubeTriangles ⌝ }
+{
+    TRIANGLES
+}
+
+// The words of a vertex.
+pub fn floats_of(coloured: bool) -> usize
+    ensures { λ r. ⌜ r ≡ floatsOf coloured ⌝ }
+{
+    if coloured { 12 } else { 8 }
+}
+
+fn is_high(vertex: usize, axis: usize) -> bool
+    requires { ⌜ (vertex < 24) × (axis < 3) ⌝ }
+    ensures { λ r. ⌜ r ≡ isHigh vertex axis ⌝ }
+{
+    (HIGH[axis] >> vertex) % 2 == 1
+}
+
+fn is_end(vertex: usize, axis: usize) -> bool
+    requires { ⌜ (vertex < 24) × (axis < 2) ⌝ }
+    ensures { λ r. ⌜ r ≡ isEnd vertex axis ⌝ }
+{
+    (END[axis] >> vertex) % 2 == 1
+}
+
+fn normal_word(face: usize, axis: usize) -> u32
+    requires { ⌜ face < 6 ⌝ }
+    ensures { λ r. ⌜ r ≡ normalOf face axis ⌝ }
+{
+    if AXES[face] != axis {
+        return 0;
+    }
+    if face % 2 == 0 {
+        0x3f80_0000
+    } else {
+        0xbf80_0000
+    }
+}
+
+impl Shape {
+    fn has_numbers(self) -> bool
+        ensures { λ r. ⌜ r ≡ (finite3 (tripleOf (self .d)) && finite3 (tripleOf (self .centre)) && finite (self .padding)) ⌝ }
+    {
+        let d = self.d;
+        let centre = self.centre;
+        d.is_finite() & centre.is_finite() & is_finite_bits(self.padding)
+    }
+
+    fn atlas_along(self, axis: usize) -> u32
+        ensures { λ r. ⌜ r ≡ atlasAlong (shapeOf self []) axis ⌝ }
+    {
+        if axis == 0 {
+            self.atlas_width
+        } else {
+            self.atlas_height
+        }
+    }
+}
+
+// Whether the tiles of the whole entries are below 4,096.
+fn has_tiles(texture: &[u32]) -> bool
+    ensures { λ r. ⌜ r ≡ every (entries (now (texture .entry))) (λ i. not (badTile (now (texture .entry)) i)) ⌝ }
+{
+    let n = texture.len() / 3;
+    let mut ok = true;
+    let mut i: usize = 0;
+    while i < n {
+        let a = texture[3 * i + 1];
+        let b = texture[3 * i + 2];
+        ok = ok & !((4095 < a) | (4095 < b));
+        i += 1;
+    }
+    ok
+}
+
+fn is_bad_atlas(shape: Shape, texture: &[u32]) -> bool
+    ensures { λ r. ⌜ r ≡ badAtlas (shapeOf shape (now (texture .entry))) ⌝ }
+{
+    let wide = shape.atlas_width;
+    let tall = shape.atlas_height;
+    (wide < 1) | (4096 < wide) | ((tall < 1) | (4096 < tall)) | !has_tiles(texture)
+}
+
+// The lowest whole entry whose face is over 5, or their number.
+fn lowest_bad_face(texture: &[u32]) -> usize
+    ensures { λ r. ⌜ r ≡ lowest (entries (now (texture .entry))) (λ i. ltb 5 (getD (now (texture .entry)) (3 * i) 0)) ⌝ }
+{
+    let n = texture.len() / 3;
+    let mut i: usize = 0;
+    while i < n {
+        if 5 < texture[3 * i] {
+            return i;
+        }
+        i += 1;
+    }
+    i
+}
+
+// The refusals in their order, for room for that many words.
+fn verdict(shape: Shape, texture: &[u32], room: usize) -> Cubed
+    ensures { λ r. ⌜ verdictOf r ≡ verdictIn (shapeOf shape (now (texture .entry))) room ⌝ }
+{
+    if !shape.has_numbers() {
+        return Cubed::BadNumber;
+    }
+    if is_bad_atlas(shape, texture) {
+        return Cubed::BadAtlas;
+    }
+    let bad = lowest_bad_face(texture);
+    if bad < texture.len() / 3 {
+        return Cubed::BadFace(bad);
+    }
+    if texture.len() != 18 {
+        return Cubed::BadFace(6);
+    }
+    if room < 24 * floats_of(shape.coloured) {
+        return Cubed::ShortRoom;
+    }
+    Cubed::Done
+}
+
+// The last entry that names the face, or 6.
+fn last_naming(texture: &[u32], face: usize) -> usize
+    requires { ⌜ (length (now texture) ≡ 18) × (face < 6) ⌝ }
+    ensures { λ r. ⌜ r ≡ lastNaming (now (texture .entry)) face 6 ⌝ }
+{
+    let mut last: usize = 6;
+    let mut i: usize = 0;
+    while i < 6 {
+        if texture[3 * i] == face as u32 {
+            last = i;
+        }
+        i += 1;
+    }
+    last
+}
+
+// A uv coordinate of a vertex: axis 0 for u and 1 for v.
+fn uv_of(shape: Shape, texture: &[u32], vertex: usize, axis: usize) -> u32
+    requires { ⌜ Accepted (shapeOf shape (now texture)) × (vertex < 24) × (axis < 2) ⌝ }
+    ensures { λ r. ⌜ r ≡ uvOf (shapeOf shape (now (texture .entry))) vertex axis ⌝ }
+{
+    let atlas = shape.atlas_along(axis);
+    let end = is_end(vertex, axis);
+    let n = last_naming(texture, vertex / 4);
+    if n < 6 {
+        uv_word(end, true, texture[3 * n + 1 + axis], atlas, shape.padding)
+    } else {
+        uv_word(end, false, 0, atlas, shape.padding)
+    }
+}
+
+// Word k of a vertex.
+fn cube_word(shape: Shape, texture: &[u32], vertex: usize, k: usize) -> u32
+    requires { ⌜ Accepted (shapeOf shape (now texture)) × (vertex < 24) ⌝ }
+    ensures { λ r. ⌜ r ≡ cubeWord (shapeOf shape (now (texture .entry))) vertex k ⌝ }
+{
+    if k < 3 {
+        let d = shape.d;
+        let centre = shape.centre;
+        return corner_word(is_high(vertex, k), d.along(k), centre.along(k));
+    }
+    if k < 6 {
+        return normal_word(vertex / 4, k - 3);
+    }
+    if k < 8 {
+        return uv_of(shape, texture, vertex, k - 6);
+    }
+    if k < 11 { shape.colour } else { shape.alpha }
+}
+
+fn write_vertex(shape: Shape, texture: &[u32], vertex: usize, out: &mut [u32])
+    requires { ⌜ Accepted (shapeOf shape (now texture)) × (vertex < 24) ⌝ }
+    ensures { λ _. ⌜ now (out .exit) ≡ table (length (now (out .entry))) (cubeWord (shapeOf shape (now (texture .entry))) vertex) ⌝ }
+{
+    let mut k: usize = 0;
+    while k < out.len() {
+        out[k] = cube_word(shape, texture, vertex, k);
+        k += 1;
+    }
+}
+
+fn write_cube(shape: Shape, texture: &[u32], out: &mut [u32])
+    requires { ⌜ Accepted (shapeOf shape (now texture)) × (24 * floatsOf (shape .coloured) ≤ length (now out)) ⌝ }
+    ensures { λ _. ⌜ now (out .exit) ≡ cubeWords (shapeOf shape (now (texture .entry))) ++ drop (24 * floatsOf (shape .coloured)) (now (out .entry)) ⌝ }
+{
+    let floats = floats_of(shape.coloured);
+    let mut vertex: usize = 0;
+    while vertex < 24 {
+        let at = vertex * floats;
+        let end = at + floats;
+        write_vertex(shape, texture, vertex, &mut out[at..end]);
+        vertex += 1;
+    }
+}
+
+// Writes the vertices of one cube at the start of the room, or refuses and writes nothing.
+pub fn generate_voxel_mesh(shape: Shape, texture: &[u32], out: &mut [u32]) -> Cubed
+    ensures { λ r. ⌜ outcome r (now (out .exit)) ≡ generateVoxelMesh (shapeOf shape (now (texture .entry))) (now (out .entry)) ⌝ }
+{
+    let room = out.len();
+    let answer = verdict(shape, texture, room);
+    if let Cubed::Done = answer {
+        write_cube(shape, texture, out);
+    }
+    answer
+}
