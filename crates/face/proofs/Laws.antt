@@ -1,15 +1,14 @@
 -- Laws of faces and link words. Assumes nothing.
-use mathlib.Core.Path.{_≡_, refl, sym, ap, _∙_}
+use mathlib.Core.Path.{_≡_, refl, ap, _∙_}
 use mathlib.Core.Bool.{Bool, true, false, cond}
-use Prim.Native.Nat.{ℕ, zero, suc, _+_, _-_, _*_, _/_, _%_, _^_, _≤_, _<_}
+use Prim.Native.Nat.{ℕ, zero, suc, _-_, _*_, _/_, _%_, _^_, _≤_, _<_}
 use native.Mathlib.Omega.{arith}
 use lib.Dec.{eqb, ltb}
 use lib.Bits.{bitAnd, and-high}
-use borrow.Author.Tests.{ltb-false, eqb-true, eq-eqb, le-ltb, lt-ltb}
+use borrow.Author.Tests.{ltb-false, eqb-true}
 use Rattle.rules.specs.Cells.{UNIT, opposite, code, linkWord, cellIn, codeIn, keyOf, keyIn, linkOf}
 use Rattle.face.specs.declared.Face.{Face}
 use Rattle.face.specs.declared.Face.the-variants.{Top, Bottom, Right, Left, Back, Forward}
-use Rattle.face.specs.declared.FoundFace.{FoundFace}
 use Rattle.face.specs.declared.FoundFace.the-variants as Found
 use Rattle.face.specs.Face.{number, faceAt, faceOfCode, faceOfWord}
 
@@ -97,6 +96,9 @@ key-link c f h k = omega arith
 
 pub link-key : (c f : ℕ) → f < 6 → linkOf (keyOf c f) ≡ linkWord c f
 link-key c f h = omega arith
+
+pub link-back : (word : ℕ) → codeIn word ≤ 5 → linkOf (keyIn word) ≡ word
+link-back word h = link-key (cellIn word) (code (codeIn word)) (omega arith) ∙ omega arith
 
 pub opposite-opposite : (f : ℕ) → opposite (opposite f) ≡ f
 opposite-opposite zero = refl

@@ -1,7 +1,7 @@
 -- Laws of side sets. Assumes nothing.
 use mathlib.Core.Path.{_≡_, refl, sym, ap, ap₂, _∙_}
 use mathlib.Core.Bool.{cond}
-use Prim.Native.Nat.{ℕ, zero, suc, _+_, _*_, _/_, _%_, _^_, _≤_, _<_}
+use Prim.Native.Nat.{ℕ, zero, suc, _+_, _*_, _/_, _%_, _^_, _<_}
 use native.Mathlib.Nat.{add-comm, add-zero, suc-add, add-suc, zero-add, mul-comm, mod-lt, mod-one, mod-eq-of-lt, pow-suc}
 use native.Mathlib.Nat.{not-suc-le-zero, le-of-suc-le-suc}
 use native.Mathlib.Omega.{arith}
@@ -12,7 +12,7 @@ use lib.Dec.{eqb, lit<}
 use lib.ListN.{getD}
 use lib.Pow.{pow-pos}
 use Rattle.rules.specs.Lists.{count, each, table}
-use Rattle.rules.specs.Cells.{has, quadsOf, rank}
+use Rattle.rules.specs.Cells.{quadsOf, rank}
 
 -- a face in the set counts as its bit
 bit : (d : ℕ) → d < 2 → cond (eqb d 1) 1 0 ≡ ones d

@@ -1,5 +1,5 @@
 -- The faces of 01 by their numbers. Definitions only.
-use Prim.Native.Nat.{ℕ, zero, suc, _*_}
+use Prim.Native.Nat.{ℕ, zero, suc}
 use mathlib.Core.Bool.{cond}
 use lib.Dec.{eqb, ltb}
 use Rattle.rules.specs.Cells.{code, cellIn, codeIn}

@@ -1,20 +1,8 @@
 // Cells, quads and vertices, the six faces, the link word of a cell and a face, and side sets.
 ghost use mathlib.Core.Path.{_≡_};
 ghost use Prim.Native.Nat.{_*_, _/_, _^_, _≤_, _<_};
-ghost use Rattle.rules.specs.Cells.{
-  UNIT,
-  opposite,
-  code,
-  linkWord,
-  cellIn,
-  codeIn,
-  keyOf,
-  keyIn,
-  firstVertex,
-  has,
-  quadsOf,
-  rank,
-};
+ghost use Rattle.rules.specs.Cells.{UNIT, opposite, code, linkWord, cellIn, codeIn, keyOf, keyIn};
+ghost use Rattle.rules.specs.Cells.{firstVertex, has, quadsOf, rank};
 ghost use Rattle.face.specs.Face.{number, faceAt, faceOfCode, faceOfWord};
 
 pub struct Cell(pub u32);

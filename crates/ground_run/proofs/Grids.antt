@@ -1,5 +1,5 @@
 -- A grid of a known size meets what is asked of one. Assumes nothing.
-use mathlib.Core.Path.{_≡_, sym, subst, _∙_}
+use mathlib.Core.Path.{_≡_, sym, subst}
 use mathlib.Core.Bool.{false}
 use Prim.Native.Nat.{ℕ, _<_}
 use Rattle.rules.specs.Cells.{Size, cells}

@@ -196,7 +196,7 @@ module _ (W : World) (snd : Sound W) (s : ℕ) (sized : (t f c : ℕ) → length
       one : (i : ℕ) → i < 6 → (o : Option ℕ) → neighbour (W .size) (e .cell) i ≡ o → All (Fits (6 * cells (W .size)) s) (reveal W (e .type) (givenAt e i) i o)
       one i hi none q = tt
       one i hi (some k) q =
-          let b = beside (W .size) (snd .wide) (snd .long) (e .cell) k h i hi q .inside in let l = opposite-lt i hi in
+          let b = beside (W .size) (snd .wide) (snd .long) (e .cell) h i k q .inside in let l = opposite-lt i hi in
           all-only (Fits (6 * cells (W .size)) s) (covering W (e .type) i && isNormalCube W (givenAt e i)) (quadOf W (givenAt e i) k (opposite i))
           (omega arith, sized (givenAt e i) (opposite i) k)
   fits-new tested e h Added =

@@ -190,7 +190,7 @@ none-some {k} e = let z : _≡_ {A = ℕ} 0 1 = cc in omega arith
 
 module _ (W : World) (s : Sound W) (g : List ℕ) (hg : length g ≡ cells (W .size)) (c : ℕ) (hc : c < cells (W .size)) (n f : ℕ) (hf : f < 6) where
   near : (i k : ℕ) → i < 6 → neighbour (W .size) c i ≡ some k → Beside (W .size) c i k
-  near i k hi e = beside (W .size) (s .wide) (s .long) c k hc i hi e
+  near i k hi e = beside (W .size) (s .wide) (s .long) c hc i k e
 
   -- the key is no neighbour's face towards c
   abbrev Apart : Type 0
@@ -212,7 +212,7 @@ module _ (W : World) (s : Sound W) (g : List ℕ) (hg : length g ≡ cells (W .s
           on : Dec (k ≡ c) → View
           on (yes q) =
               let e′ : neighbour (W .size) n f ≡ some c = e ∙ ap some q in
-              facing d (beside (W .size) (s .wide) (s .long) n c h f hf e′ .back) e′
+              facing d (beside (W .size) (s .wide) (s .long) n h f c e′ .back) e′
           on (no r) = apart d h (λ q. r (cc))
 
       go : Dec (n ≡ c) → Dec (n < cells (W .size)) → View
@@ -313,7 +313,7 @@ module _ (W : World) (s : Sound W) (g : List ℕ) (hg : length g ≡ cells (W .s
       → (outside (standing g o) || not (covering W (standing g o) (opposite f))) ≡ shown W [] (set g (e .cell) t) f o
   open-is t none q = refl
   open-is t (some k) q =
-      let b = beside (W .size) (s .wide) (s .long) (e .cell) k (told .inGrid) f hf q in
+      let b = beside (W .size) (s .wide) (s .long) (e .cell) (told .inGrid) f k q in
       rw (getD-set-other g (e .cell) k t 255 (b .other)) (go (outside (typeAt g k)) refl)
     where
       go : (b : Bool) → outside (typeAt g k) ≡ b

@@ -1,11 +1,12 @@
 -- Laws of the steps from a cell to its neighbours. Assumes nothing.
-use mathlib.Core.Path.{_≡_, refl, sym, ap, _∙_, subst}
+use mathlib.Core.Path.{_≡_, sym, subst}
 use Prim.Native.Nat.{ℕ, _+_, _*_, _^_, _≤_, _<_}
 use native.Mathlib.Nat.{mul-le-mul-right}
 use native.Mathlib.Omega.{arith}
-use Rattle.rules.specs.Cells.{Size, Triple, cells, xOf, yOf, zOf, coordinates}
-use Rattle.util.specs.Grid.{Sides, Within}
-use Rattle.util.proofs.Cells.{Inside, inside, cellAt-coordinates, layer-fits}
+use Rattle.rules.specs.Cells.{Size, Triple, cells, yOf, zOf, coordinates}
+use Rattle.util.specs.Grid.{Within}
+use Rattle.rules.proofs.Neighbours.{inside-of, cellAt-coordinates}
+use Rattle.util.proofs.Cells.{layer-fits}
 
 -- A step ahead along an axis fits a word, and a step back goes to no number below 0. The steps are a layer along y, 1 along x
 -- and a row along z; the coordinates are v.
@@ -22,10 +23,11 @@ steps s c k h e = subst (λ (v : Triple). Steps s c v) (sym e) here
   where
     here : Steps s c (coordinates s c)
     here =
-        let i = inside s c (k .sides .wide) (k .sides .long) h in
+        let i = inside-of s c (k .sides .wide) (k .sides .long) h in
         let layer = layer-fits s (k .sides) in
         let whole = cellAt-coordinates s c in
-        let layers : 0 < yOf s c → 1 * s .l * s .w ≤ yOf s c * s .l * s .w = λ up. mul-le-mul-right (s .w) (mul-le-mul-right (s .l) up) in
+        let layers : 0 < yOf s c → 1 * s .l * s .w ≤ yOf s c * s .l * s .w =
+        λ up. mul-le-mul-right (s .w) (mul-le-mul-right (s .l) up) in
         let rows : 0 < zOf s c → 1 * s .w ≤ zOf s c * s .w = mul-le-mul-right (s .w) in
         record {
           top = (omega arith, omega arith);

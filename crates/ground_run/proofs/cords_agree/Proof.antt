@@ -3,7 +3,7 @@ use native.Mathlib.Omega.{arith}
 use borrow.Author.Needs.{needs}
 use Rattle.rules.specs.Cells.{Triple}
 use Rattle.util.specs.Grid.{sizeOf}
-use Rattle.util.proofs.Cells.{inside}
+use Rattle.rules.proofs.Neighbours.{inside-of}
 use Rattle.ground_run.proofs.cords_agree.Statement.{statement}
 use Rattle.ground_run.proofs.cords_agree.Tie as tie
 
@@ -17,7 +17,7 @@ one-d-cords-requires c κs =
     let x = ap (λ (v : Triple). v .x) e in
     let y = ap (λ (v : Triple). v .y) e in
     let z = ap (λ (v : Triple). v .z) e in
-    let i = inside (sizeOf (t .args .dims)) (t .args .cell) (t .pre .0 .sides .wide) (t .pre .0 .sides .long) (t .pre .1) in
+    let i = inside-of (sizeOf (t .args .dims)) (t .args .cell) (t .pre .0 .sides .wide) (t .pre .0 .sides .long) (t .pre .1) in
     (t .pre .0, omega arith, omega arith, omega arith)
 
 returns : tie.Need-returns

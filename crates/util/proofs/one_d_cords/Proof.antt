@@ -2,7 +2,8 @@ use native.Mathlib.Nat.{le-of-lt}
 use native.Mathlib.Omega.{arith}
 use borrow.Author.Needs.{needs}
 use Rattle.util.specs.Grid.{sizeOf}
-use Rattle.util.proofs.Cells.{cellAt-in, plane-fits}
+use Rattle.rules.proofs.Neighbours.{cellAt-in}
+use Rattle.util.proofs.Cells.{plane-fits}
 use Rattle.util.proofs.one_d_cords.Statement.{statement}
 use Rattle.util.proofs.one_d_cords.Tie as tie
 

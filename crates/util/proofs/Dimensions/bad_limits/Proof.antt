@@ -1,6 +1,5 @@
 use mathlib.Core.Path.{_≡_, sym, ap, _∙_}
 use mathlib.Core.Bool.{Bool, true, false, cond}
-use Prim.Native.Nat.{ℕ}
 use borrow.Author.Needs.{needs}
 use lib.Dec.{ltb}
 use Rattle.rules.specs.Cells.{cells}
