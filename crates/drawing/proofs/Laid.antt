@@ -111,27 +111,40 @@ pub below-more : (j k s : ℕ) (m : List Quad) → j ≤ k → Below j s m → B
 below-more j k s [] l h = tt
 below-more j k s (q ∷ m) l h = let a = h .0 .0 in ((omega arith, h .0 .1), below-more j k s m l (h .1))
 
+-- a quad drawn past the others: its row in each of the three lists
+module _ (s R n highest : ℕ) (B : Lists) (rooms : Rooms s R n B) (m : List Quad) (x : Quad) (low : length m ≤ highest) (fit : suc (length m) ≤ R) where
+  pub vertices-drawn : Sized s (λ q y. y .words) m → length (x .words) ≡ s
+      → put (s * length m) (x .words) (laid s (λ q y. y .words) highest m (B .vertices))
+      ≡ laid s (λ q y. y .words) (max highest (suc (length m))) (m ++ (x ∷ [])) (B .vertices)
+  vertices-drawn sized w =
+      let r = rooms .vertices in let u = mul-le-mul-left s fit in draw-laid s (λ q y. y .words) highest (B .vertices) m x sized w low (omega arith)
+
+  pub triangles-drawn : put (6 * length m) (pattern (length m)) (laid 6 (λ q y. pattern q) highest m (B .triangles))
+      ≡ laid 6 (λ q y. pattern q) (max highest (suc (length m))) (m ++ (x ∷ [])) (B .triangles)
+  triangles-drawn =
+      let r = rooms .triangles in
+      draw-laid 6 (λ q y. pattern q) highest (B .triangles) m x (fixed 6 (λ q y. pattern q) (λ i y. refl) m) refl low (omega arith)
+
+  pub links-drawn : highest ≤ R → set (laid 1 (λ q y. linkOf (y .key) ∷ []) highest m (B .links)) (length m) (linkOf (x .key))
+      ≡ laid 1 (λ q y. linkOf (y .key) ∷ []) (max highest (suc (length m))) (m ++ (x ∷ [])) (B .links)
+  links-drawn h =
+      let r = rooms .links in
+      let f = fixed 1 (λ q y. linkOf (y .key) ∷ []) (λ i y. refl) m in
+      let l = length-laid 1 (λ q y. linkOf (y .key) ∷ []) highest m (B .links) f low (omega arith) in
+      set-put (length m) (linkOf (x .key)) (laid 1 (λ q y. linkOf (y .key) ∷ []) highest m (B .links)) (omega arith)
+      ∙ draw-laid 1 (λ q y. linkOf (y .key) ∷ []) highest (B .links) m x f refl low (omega arith)
+
 module _ (s R n : ℕ) (B : Lists) (rooms : Rooms s R n B) where
-  -- a quad drawn past the others
+  -- face k drawn, after those below it
   pub drawn-laid : (k : ℕ) (m : List Quad) (x : Quad) → Below k s m → x .key ≡ k → length (x .words) ≡ s → k < n → suc (length m) ≤ R
       → drawnAt s (length m) x (layout k s (length m) m B) ≡ layout (suc k) s (suc (length m)) (m ++ (x ∷ [])) B
   unfolding drawnAt
   drawn-laid k m x b e w hk hr =
       let top : max (length m) (suc (length m)) ≡ suc (length m) = omega arith in
-      let rv = rooms .vertices in let rt = rooms .triangles in let rl = rooms .links in let rs = rooms .slots in
-      let mv = mul-le-mul-left s hr in
-      let v : put (s * length m) (x .words) (laid s (λ q y. y .words) (length m) m (B .vertices)) ≡ laid s (λ q y. y .words) (suc (length m)) (m ++ (x ∷ [])) (B .vertices) =
-      draw-laid s (λ q y. y .words) (length m) (B .vertices) m x (words-sized k s m b) w (omega arith) (omega arith)
-      ∙ ap (λ (h : ℕ). laid s (λ q y. y .words) h (m ++ (x ∷ [])) (B .vertices)) top in
-      let t : put (6 * length m) (pattern (length m)) (laid 6 (λ q y. pattern q) (length m) m (B .triangles)) ≡ laid 6 (λ q y. pattern q) (suc (length m)) (m ++ (x ∷ [])) (B .triangles) =
-      draw-laid 6 (λ q y. pattern q) (length m) (B .triangles) m x (fixed 6 (λ q y. pattern q) (λ i y. refl) m) refl (omega arith) (omega arith)
-      ∙ ap (λ (h : ℕ). laid 6 (λ q y. pattern q) h (m ++ (x ∷ [])) (B .triangles)) top in
-      let f = fixed 1 (λ q y. linkOf (y .key) ∷ []) (λ i y. refl) m in
-      let ll = length-laid 1 (λ q y. linkOf (y .key) ∷ []) (length m) m (B .links) f (omega arith) (omega arith) in
-      let l : set (laid 1 (λ q y. linkOf (y .key) ∷ []) (length m) m (B .links)) (length m) (linkOf (x .key)) ≡ laid 1 (λ q y. linkOf (y .key) ∷ []) (suc (length m)) (m ++ (x ∷ [])) (B .links) =
-      set-put (length m) (linkOf (x .key)) (laid 1 (λ q y. linkOf (y .key) ∷ []) (length m) m (B .links)) (omega arith)
-      ∙ draw-laid 1 (λ q y. linkOf (y .key) ∷ []) (length m) (B .links) m x f refl (omega arith) (omega arith)
-      ∙ ap (λ (h : ℕ). laid 1 (λ q y. linkOf (y .key) ∷ []) h (m ++ (x ∷ [])) (B .links)) top in
+      let rs = rooms .slots in
+      let v = rw top at (vertices-drawn s R n (length m) B rooms m x (omega arith) hr (words-sized k s m b) w) in
+      let t = rw top at (triangles-drawn s R n (length m) B rooms m x (omega arith) hr) in
+      let l = rw top at (links-drawn s R n (length m) B rooms m x (omega arith) hr (omega arith)) in
       let new = not-there k m (keys-below k s m b) in
       let z : set (slotted k m (B .slots)) (x .key) (firstVertex (length m)) ≡ slotted (suc k) (m ++ (x ∷ [])) (B .slots) =
       ap (λ (j : ℕ). set (slotted k m (B .slots)) j (firstVertex (length m))) e
