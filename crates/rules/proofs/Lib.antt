@@ -1,6 +1,7 @@
 -- The laws, leaves first.
 pub mod ListLaws
 pub mod Searches
+pub mod Sets
 pub mod Neighbours
 pub mod Quads
 pub mod Mending
