@@ -1,0 +1,56 @@
+use borrow.Author.Needs.{needs}
+use Rattle.mesh_metadata.proofs.insert.Statement.{statement}
+use Rattle.mesh_metadata.proofs.insert.Tie as tie
+
+wide-requires : tie.Need-wide-requires
+wide-requires c κs = search needs
+
+link-requires : tie.Need-link-requires
+link-requires c κs = search needs
+
+mul-links : tie.Need-mul-links
+mul-links c = search needs
+
+slice-write-links : tie.Need-slice-write-links
+slice-write-links c = search needs
+
+key-requires : tie.Need-key-requires
+key-requires c κs = search needs
+
+wide-requires-2 : tie.Need-wide-requires-2
+wide-requires-2 c κs = search needs
+
+first-vertex-requires : tie.Need-first-vertex-requires
+first-vertex-requires c κs = search needs
+
+mul-slots : tie.Need-mul-slots
+mul-slots c = search needs
+
+slice-write-slots : tie.Need-slice-write-slots
+slice-write-slots c = search needs
+
+same-length : tie.Need-same-length
+same-length c = search needs
+
+same-length-2 : tie.Need-same-length-2
+same-length-2 c = search needs
+
+returns : tie.Need-returns
+returns c = (cc, cc)
+
+pub insert-spec : {M : Type 1} → statement M
+insert-spec =
+    tie.close
+    (tie.spec
+    wide-requires
+    link-requires
+    mul-links
+    slice-write-links
+    key-requires
+    wide-requires-2
+    first-vertex-requires
+    mul-slots
+    slice-write-slots
+    same-length
+    same-length-2
+    returns)
