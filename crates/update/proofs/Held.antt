@@ -23,6 +23,7 @@ use Rattle.mesh_metadata.specs.Index.{renum}
 use Rattle.mesh_metadata.proofs.Meshes.{slots-removed, slots-drawn, few}
 use Rattle.drawing.specs.Drawn.{drawnAt}
 use Rattle.drawing.proofs.Laid.{Rooms, vertices-drawn, triangles-drawn, links-drawn}
+use Rattle.update.specs.Courses.{isFilled}
 use Rattle.update.specs.Flat.{State, removedAt, flatPut, flatCut, flatStep, flatRun}
 
 -- the state of a mesh m whose highest count was h, laid out over what B held; v quads have moved
@@ -88,6 +89,13 @@ module _ (s R n : ℕ) (B : Lists) (rooms : Rooms s R n B) (exact : length (B .s
         rw (slot-is j l)
         (split (λ t. eqb (cond t (firstVertex (placeOf j m)) NONE) NONE ≡ not t) (there j m)
         (λ e. ne-eqb (firstVertex (placeOf j m)) NONE (λ z. omega arith)) (λ e. refl))
+
+    pub filled-is : (j : ℕ) → j < n → isFilled (layout n s h m B) j ≡ there j m
+    filled-is j l = rw (slot-none j l) (twice (there j m))
+      where
+        twice : (b : Bool) → not (not b) ≡ b
+        twice true = refl
+        twice false = refl
 
     slot-place : (j : ℕ) → j < n → there j m ≡ true → slotAt (layout n s h m B) j / 4 ≡ placeOf j m
     slot-place j l e = let a : slotAt (layout n s h m B) j ≡ 4 * placeOf j m = slot-is j l ∙ rw e in rw a (omega arith)
