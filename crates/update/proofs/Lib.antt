@@ -1,3 +1,4 @@
 pub mod Held
 pub mod Needed
 pub mod Flows
+pub mod Works

@@ -108,7 +108,7 @@ needed-is w m o a b =
     omega arith
 
 -- ---- faces named by one list for each face are named once
-member-only : (k j : ℕ) (b : Bool) → member k (only b j) ≡ true → k ≡ j
+pub member-only : (k j : ℕ) (b : Bool) → member k (only b j) ≡ true → k ≡ j
 member-only k j true e = split (λ t. eqb k j ≡ t → cond t true false ≡ true → k ≡ j) (eqb k j) (λ s r l. eqb-true k j r) (λ s r l. absurd (false≢true l)) refl e
 member-only k j false e = absurd (false≢true e)
 
