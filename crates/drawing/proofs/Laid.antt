@@ -14,7 +14,7 @@ use Rattle.rules.specs.Lists.{each, only, table, count, isNil}
 use Rattle.rules.specs.Cells.{keyOf, linkOf, firstVertex, has, rank, quadsOf}
 use Rattle.rules.specs.Mesh.{Quad, Lists, NONE, at, there, placeOf, pattern, laid, slotOf, slotted, layout}
 use Rattle.rules.proofs.ListLaws.{All, all-append, all-each, all-only, split, length-table, getD-table, table-is, getD-row, length-row}
-use Rattle.rules.proofs.Quads.{at-append, absent}
+use Rattle.rules.proofs.Slotting.{slot-kept, slot-new}
 use Rattle.rules.proofs.Laying.{Sized, length-laid}
 use Rattle.vav.specs.Rows.{put}
 use Rattle.vav.proofs.Laid.{draw-laid}
@@ -42,34 +42,6 @@ set-put q v xs h =
     rw (e, f) (set-split xs q v h)
 
 -- ---- slots
-pub at-other : (j : ℕ) (m : List Quad) (x : Quad) → j ≢ x .key → at j (m ++ (x ∷ [])) ≡ at j m
-at-other j m x d = at-append j m (x ∷ []) ∙ rw (ne-eqb j (x .key) d, append-nil (at j m))
-
-pub at-new : (m : List Quad) (x : Quad) → at (x .key) m ≡ [] → at (x .key) (m ++ (x ∷ [])) ≡ x .words ∷ []
-at-new m x z = at-append (x .key) m (x ∷ []) ∙ rw (z, eq-eqb (x .key) (x .key) refl)
-
-place-kept : (j : ℕ) (m : List Quad) (x : Quad) → there j m ≡ true → placeOf j (m ++ (x ∷ [])) ≡ placeOf j m
-place-kept j [] x e = absurd (false≢true e)
-place-kept j (q ∷ m) x e =
-    split (λ t. not (isNil (only t (q .words) ++ at j m)) ≡ true → cond t 0 (suc (placeOf j (m ++ (x ∷ [])))) ≡ cond t 0 (suc (placeOf j m))) (eqb j (q .key))
-    (λ s r. refl) (λ s r. ap suc (place-kept j m x r)) e
-
-pub place-new : (m : List Quad) (x : Quad) → at (x .key) m ≡ [] → placeOf (x .key) (m ++ (x ∷ [])) ≡ length m
-place-new [] x z = rw (eq-eqb (x .key) (x .key) refl)
-place-new (q ∷ m) x z =
-    split (λ t. only t (q .words) ++ at (x .key) m ≡ [] → cond t 0 (suc (placeOf (x .key) (m ++ (x ∷ [])))) ≡ suc (length m)) (eqb (x .key) (q .key))
-    (λ s r. absurd (let y : _≡_ {A = ℕ} 0 1 = cc in omega arith)) (λ s r. ap suc (place-new m x r)) z
-
--- a quad of another face changes no slot; its own names it
-pub slot-kept : (j : ℕ) (m : List Quad) (x : Quad) → j ≢ x .key → slotOf (m ++ (x ∷ [])) j ≡ slotOf m j
-slot-kept j m x d =
-    rw (at-other j m x d)
-    (split (λ t. there j m ≡ t → cond t (firstVertex (placeOf j (m ++ (x ∷ [])))) NONE ≡ cond t (firstVertex (placeOf j m)) NONE) (there j m)
-    (λ s e. ap firstVertex (place-kept j m x e)) (λ s e. refl) refl)
-
-pub slot-new : (m : List Quad) (x : Quad) → at (x .key) m ≡ [] → slotOf (m ++ (x ∷ [])) (x .key) ≡ firstVertex (length m)
-slot-new m x z = rw (at-new m x z) (ap firstVertex (place-new m x z))
-
 not-there : (k : ℕ) (m : List Quad) → All (λ q. q .key < k) m → at k m ≡ []
 not-there k [] h = refl
 not-there k (q ∷ m) h = rw (ne-eqb k (q .key) (λ e. let l = h .0 in omega arith)) (not-there k m (h .1))

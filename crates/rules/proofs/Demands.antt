@@ -31,7 +31,7 @@ use Rattle.rules.proofs.Refusals.{Within, MESH, UPDATE, CHECK, mesh-num
 -- ---- what the refusals leave
 module _ (S : Scene) where
   -- words of a quad
-  words-sized : (t f c : ℕ) → length (wordsIn S t f c) ≡ span S
+  pub words-sized : (t f c : ℕ) → length (wordsIn S t f c) ≡ span S
   unfolding quadWords
   words-sized t f c = length-each (floats (S .types)) 4 0 _ (λ i. length-table (quadWord (cubeOf (S .types) t) (floats (S .types)) (S .d) f _ i) (floats (S .types)))
 
@@ -264,7 +264,7 @@ module _ (S : Scene) (B : Lists) (Q : ℕ) (size-fine : BAD-SIZE (S .size) ≡ f
           )
 
 -- the entries of an accepted log are in the grid
-entry-inside : (n types : ℕ) (log : List ℕ) → BAD-ENTRY n types log ≡ fine → (k : ℕ) → k < length log / 12 → (entryAt log k) .cell < n
+pub entry-inside : (n types : ℕ) (log : List ℕ) → BAD-ENTRY n types log ≡ fine → (k : ℕ) → k < length log / 12 → (entryAt log k) .cell < n
 unfolding BAD-ENTRY badEntry entryAt
 entry-inside n types log e k h =
     let a = then-fine (refuseLowest 13 (length log / 12) (badEntry n types log)) _ e .0 in

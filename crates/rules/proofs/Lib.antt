@@ -6,6 +6,7 @@ pub mod Neighbours
 pub mod Quads
 pub mod Mending
 pub mod Laying
+pub mod Slotting
 pub mod Index
 pub mod Checking
 pub mod Courses

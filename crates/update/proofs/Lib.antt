@@ -2,3 +2,4 @@ pub mod Held
 pub mod Needed
 pub mod Flows
 pub mod Works
+pub mod Whole
