@@ -4,18 +4,18 @@ use mathlib.Core.List.{List, [], _∷_, _++_, append-nil}
 use mathlib.Core.Option.{Option, none, some}
 use Prim.Native.Nat.{ℕ, zero, suc, _+_, _*_, _/_, _≤_, _<_}
 use native.Mathlib.Omega.{arith}
-use lib.ListN.{length, getD, take, drop, length-take, drop-of-length-le}
-use lib.Seq.{length-take-le, getD-take}
+use lib.ListN.{length, take, drop, drop-of-length-le}
+use lib.Seq.{length-take-le, take-at}
 use borrow.Author.Tests.{ltb-false}
 use Rattle.rules.specs.Lists.{table}
-use Rattle.rules.specs.Cells.{cells, firstVertex, codeIn, cellIn}
-use Rattle.rules.specs.Mesh.{Quad, Lists, NONE, decode, layout, slotted, slotOf}
+use Rattle.rules.specs.Cells.{cells}
+use Rattle.rules.specs.Mesh.{Quad, Lists, decode, layout, slotted, slotOf}
 use Rattle.rules.specs.Update.{Tested, Entry, entryAt, work, Course, courseFrom}
 use Rattle.rules.specs.Types.{floats}
-use Rattle.rules.specs.Answers.{fine, _then_, slotAt, BAD-SIZE, SHORT-SLOTS, BAD-COUNT, BAD-ENTRY}
-use Rattle.rules.specs.Check.{linked}
+use Rattle.rules.specs.Answers.{fine, _then_, BAD-SIZE, SHORT-SLOTS, BAD-COUNT, BAD-ENTRY}
 use Rattle.rules.specs.Calls.{Scene, world, span, faces, room, typesVerdict, lentVerdict, bookVerdict, updateVerdict, course}
-use Rattle.rules.proofs.Checking.{then-fine, if-fine, Book, book-of-fine}
+use Rattle.rules.proofs.ListLaws.{length-table}
+use Rattle.rules.proofs.Checking.{then-fine, if-fine, book-of-fine, length-decode}
 use Rattle.rules.proofs.Demands.{words-sized, limits, sound, Room, room-for, lent-sane, entry-inside}
 use Rattle.rules.proofs.Courses.{Sane}
 use Rattle.rules.proofs.Idle.{layout-stands}
@@ -49,5 +49,77 @@ with-rest n s h m B r =
 
 -- what an accepted update starts from
 module _ (tested : Tested) (S : Scene) (log : List ℕ) (B : Lists) (Q : ℕ) (v : updateVerdict S log B Q ≡ fine) where
-  start : State
+  abbrev pub start : State
   start = record { lists = within (faces S) B; quads = Q; moved = 0 }
+
+  size-fine : BAD-SIZE (S .size) ≡ fine
+  size-fine = then-fine (BAD-SIZE (S .size)) _ v .0
+
+  types-fine : typesVerdict S ≡ fine
+  types-fine = then-fine (typesVerdict S) _ (then-fine (BAD-SIZE (S .size)) _ v .1) .0
+
+  lent-fine : lentVerdict S B Q ≡ fine
+  lent-fine =
+      then-fine (lentVerdict S B Q) (BAD-ENTRY (cells (S .size)) (length (S .types .kinds)) log)
+      (then-fine (typesVerdict S) _ (then-fine (BAD-SIZE (S .size)) _ v .1) .1) .0
+
+  entry-fine : BAD-ENTRY (cells (S .size)) (length (S .types .kinds)) log ≡ fine
+  entry-fine =
+      then-fine (lentVerdict S B Q) (BAD-ENTRY (cells (S .size)) (length (S .types .kinds)) log)
+      (then-fine (typesVerdict S) _ (then-fine (BAD-SIZE (S .size)) _ v .1) .1) .1
+
+  slots-fine : SHORT-SLOTS (S .size) B ≡ fine
+  slots-fine = then-fine (SHORT-SLOTS (S .size) B) _ lent-fine .0
+
+  count-fine : BAD-COUNT (floats (S .types)) B Q ≡ fine
+  count-fine = then-fine (BAD-COUNT (floats (S .types)) B Q) (bookVerdict S B Q) (then-fine (SHORT-SLOTS (S .size) B) _ lent-fine .1) .0
+
+  book-fine : bookVerdict S B Q ≡ fine
+  book-fine = then-fine (BAD-COUNT (floats (S .types)) B Q) (bookVerdict S B Q) (then-fine (SHORT-SLOTS (S .size) B) _ lent-fine .1) .1
+
+  slots-room : faces S ≤ length (B .slots)
+  slots-room = ltb-false (length (B .slots)) (faces S) (if-fine _ 9 0 slots-fine)
+
+  exact : length ((within (faces S) B) .slots) ≡ faces S
+  exact = length-take-le (faces S) (B .slots) slots-room
+
+  pub rooms : Rooms (span S) (room S B) (faces S) (within (faces S) B)
+  rooms =
+      let r = room-for S B (room S B) (omega arith) in
+      record { vertices = r .vertices; triangles = r .triangles; links = r .links; slots = omega (arith, exact) }
+
+  small : faces S ≤ 1073741823
+  small = let l = limits S size-fine .small in omega arith
+
+  counted : Q ≤ room S B
+  counted = ltb-false (room S B) Q (if-fine _ 10 0 count-fine)
+
+  -- the lists at the start are the layout of what they hold
+  starts : start ≡ held (faces S) (span S) (within (faces S) B) Q (decode (span S) Q B) 0
+  unfolding slotted
+  starts =
+      let n : ℕ = faces S in
+      let m : List Quad = decode (span S) Q B in
+      let st = sym (layout-stands (cells (S .size)) (span S) B Q slots-room (book-of-fine (cells (S .size)) B Q book-fine) (room-for S B Q counted .links)) in
+      let q = sym (length-decode (cells (S .size)) B Q (span S)) in
+      let z : take (faces S) (B .slots) ≡ table (faces S) (slotOf (decode (span S) Q B)) ++ drop (faces S) (take (faces S) (B .slots)) =
+      ap (λ (b : Lists). take (faces S) (b .slots)) st
+      ∙ take-at (table (faces S) (slotOf (decode (span S) Q B))) (drop (faces S) (B .slots)) (faces S) (length-table (slotOf (decode (span S) Q B)) (faces S))
+      ∙ sym (rw (drop-of-length-le (take (faces S) (B .slots)) {i = faces S} (omega (arith, exact))) (append-nil (table (faces S) (slotOf (decode (span S) Q B))))) in
+      λ i. record {
+        lists = record { vertices = (st i) .vertices; triangles = (st i) .triangles; links = (st i) .links; slots = z i };
+        quads = q i;
+        moved = 0;
+      }
+
+  -- LAW: the log on the lists is the rule's course
+  pub whole : flowFrom (span S) (room S B) (λ k. work tested (world S) (entryAt log k)) 0 (length log / 12) start
+      ≡ flowOf (faces S) (span S) (within (faces S) B) (course tested S log B Q) ((course tested S log B Q) .full)
+  whole =
+      let sane = lent-sane S B Q size-fine slots-fine count-fine book-fine in
+      ap (flowFrom (span S) (room S B) (λ k. work tested (world S) (entryAt log k)) 0 (length log / 12)) starts
+      ∙ flow-held (span S) (room S B) (faces S) (within (faces S) B) rooms exact small (λ k. work tested (world S) (entryAt log k)) 0 (length log / 12)
+      (decode (span S) Q B) 0 Q
+      (λ j a b. good-work (world S) (sound S size-fine types-fine) (span S) (words-sized S) (entryAt log j)
+      (entry-inside (cells (S .size)) (length (S .types .kinds)) log entry-fine j (omega arith)) tested)
+      (record { fits = sane .fits; once = sane .once; reached = sane .reached; within = sane .within })

@@ -1,0 +1,3 @@
+pub mod Chains
+pub mod Books
+pub mod Admitting

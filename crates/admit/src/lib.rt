@@ -1,0 +1,253 @@
+// The tests of lent input that mesh, update and check share, each with its refusal.
+use answers::Refusal;
+use answers::Verdict;
+use book::book_verdict;
+use floats::Triple;
+use util::Dimensions;
+use voxel_mesh::floats_of;
+use voxel_mesh::types::types_verdict;
+ghost use mathlib.Core.Path.{_≡_};
+ghost use mathlib.Core.Bool.{not};
+ghost use mathlib.Core.List.{List};
+ghost use Prim.Native.Nat.{ℕ, _+_, _*_, _^_, _≤_, _<_, min};
+ghost use lib.ListN.{length, getD};
+ghost use lib.Dec.{leb, ltb};
+ghost use Rattle.rules.specs.Lists.{lowest};
+ghost use Rattle.rules.specs.Cells.{cells};
+ghost use Rattle.rules.specs.Cube.{floatsOf};
+ghost use Rattle.rules.specs.Types.{Types};
+ghost use Rattle.rules.specs.Mesh.{Lists};
+ghost use Rattle.rules.specs.Answers.{refuseIf, BAD-SIZE, BAD-GRID, BAD-OUTER, BAD-CELL, SHORT-SLOTS, roomOf, BAD-COUNT};
+ghost use Rattle.rules.specs.Calls.{lentVerdict, openVerdict};
+ghost use Rattle.answers.specs.Verdicts.{numberOf, verdictOf};
+ghost use Rattle.util.specs.Grid.{sizeOf, Within};
+ghost use Rattle.admit.specs.Scenes.{sceneOf, listsOf, refuses, Long, inputVerdict};
+
+pub mod book; // book.rt: the tests of links, slots and triangles
+
+// What mesh, update and check are told of the grid and the types.
+pub struct Scene {
+    pub dims: Dimensions,
+    pub coloured: bool,
+    pub d: Triple,
+    pub centre: Triple,
+}
+
+// A refusal with its place, if it applies.
+pub fn refuse_if(applies: bool, why: Refusal, place: usize) -> Verdict
+    ensures { λ r. ⌜ verdictOf r ≡ refuseIf applies (numberOf why) place ⌝ }
+{
+    if applies {
+        return Verdict::Refuse(why, place);
+    }
+    Verdict::Fine
+}
+
+pub fn is_refusal(verdict: Verdict) -> bool
+    ensures { λ r. ⌜ r ≡ refuses (verdictOf verdict) ⌝ }
+{
+    match verdict {
+        Verdict::Fine => false,
+        Verdict::Refuse(_, _) => true,
+    }
+}
+
+pub fn size_verdict(dims: Dimensions) -> Verdict
+    ensures { λ r. ⌜ verdictOf r ≡ BAD-SIZE (sizeOf dims) ⌝ }
+{
+    refuse_if(dims.bad_limits(), Refusal::BadSize, 0)
+}
+
+pub fn grid_verdict(dims: Dimensions, grid: &[u8]) -> Verdict
+    requires { ⌜ Within (sizeOf dims) ⌝ }
+    ensures { λ r. ⌜ verdictOf r ≡ BAD-GRID (sizeOf dims) (now (grid .entry)) ⌝ }
+{
+    refuse_if(
+        grid.len() != dims.cell_count() as usize,
+        Refusal::BadSize,
+        0,
+    )
+}
+
+// The lowest position of a face over 5, or the list's length.
+fn lowest_bad_outer(outer: &[u8]) -> usize
+    ensures { λ r. ⌜ r ≡ lowest (length (now (outer .entry))) (λ i. ltb 5 (getD (now (outer .entry)) i 0)) ⌝ }
+{
+    let mut i: usize = 0;
+    while i < outer.len() {
+        if 5 < outer[i] {
+            return i;
+        }
+        i += 1;
+    }
+    i
+}
+
+pub fn outer_verdict(outer: &[u8]) -> Verdict
+    ensures { λ r. ⌜ verdictOf r ≡ BAD-OUTER (now (outer .entry)) ⌝ }
+{
+    let bad = lowest_bad_outer(outer);
+    refuse_if(bad < outer.len(), Refusal::BadFace, bad)
+}
+
+// The lowest cell whose code is no type, or the grid's length.
+fn lowest_bad_cell(types: usize, grid: &[u8]) -> usize
+    ensures { λ r. ⌜ r ≡ lowest (length (now (grid .entry))) (λ c. leb types (getD (now (grid .entry)) c 0)) ⌝ }
+{
+    let mut cell: usize = 0;
+    while cell < grid.len() {
+        if types <= wide(grid[cell]) {
+            return cell;
+        }
+        cell += 1;
+    }
+    cell
+}
+
+fn wide(code: u8) -> usize
+    ensures { λ r. ⌜ r ≡ code ⌝ }
+{
+    code as usize
+}
+
+pub fn cell_verdict(types: usize, grid: &[u8]) -> Verdict
+    ensures { λ r. ⌜ ((T : Types) → length (T .kinds) ≡ types → verdictOf r ≡ BAD-CELL T (now (grid .entry))) ⌝ }
+{
+    let bad = lowest_bad_cell(types, grid);
+    refuse_if(bad < grid.len(), Refusal::BadCell, bad)
+}
+
+pub fn slots_verdict(dims: Dimensions, slots: usize) -> Verdict
+    requires { ⌜ Within (sizeOf dims) ⌝ }
+    ensures { λ r. ⌜ ((B : Lists) → length (B .slots) ≡ slots → verdictOf r ≡ SHORT-SLOTS (sizeOf dims) B) ⌝ }
+{
+    refuse_if(
+        slots < 6 * dims.cell_count() as usize,
+        Refusal::ShortRoom,
+        0,
+    )
+}
+
+fn least(a: usize, b: usize) -> usize
+    ensures { λ r. ⌜ r ≡ min a b ⌝ }
+{
+    if a <= b { a } else { b }
+}
+
+// Room in quads.
+pub fn room_of(coloured: bool, vertices: usize, triangles: usize, links: usize) -> usize
+    ensures { λ r. ⌜ ((B : Lists) → Long B vertices triangles links → r ≡ roomOf (floatsOf coloured) B) ⌝ }
+{
+    least(
+        vertices / (4 * floats_of(coloured)),
+        least(triangles / 6, links),
+    )
+}
+
+pub fn count_verdict(
+    coloured: bool,
+    vertices: usize,
+    triangles: usize,
+    links: usize,
+    count: usize,
+) -> Verdict
+    ensures { λ r. ⌜ ((B : Lists) → Long B vertices triangles links → verdictOf r ≡ BAD-COUNT (floatsOf coloured) B count) ⌝ }
+{
+    let room = room_of(coloured, vertices, triangles, links);
+    refuse_if(room < count, Refusal::BadCount, 0)
+}
+
+// BAD_SIZE to SHORT_ROOM: what mesh and check ask before the mesh is looked at.
+pub fn input_verdict(
+    scene: Scene,
+    outer: &[u8],
+    grid: &[u8],
+    kinds: &[u8],
+    covers: &[u8],
+    cubes: &[u32],
+    slots: usize,
+) -> Verdict
+    ensures { λ r. ⌜ ((B : Lists) → length (B .slots) ≡ slots → verdictOf r ≡ inputVerdict (sceneOf scene (now (kinds .entry)) (now (covers .entry)) (now (cubes .entry))) (now (outer .entry)) (now (grid .entry)) B) ⌝ }
+{
+    let dims = scene.dims;
+    let size = size_verdict(dims);
+    if is_refusal(size) {
+        return size;
+    }
+    let whole = grid_verdict(dims, grid);
+    if is_refusal(whole) {
+        return whole;
+    }
+    let typed = types_verdict(kinds, covers, cubes, scene.coloured, scene.d, scene.centre);
+    if is_refusal(typed) {
+        return typed;
+    }
+    let faced = outer_verdict(outer);
+    if is_refusal(faced) {
+        return faced;
+    }
+    let coded = cell_verdict(kinds.len(), grid);
+    if is_refusal(coded) {
+        return coded;
+    }
+    slots_verdict(dims, slots)
+}
+
+// What the check asks before the mesh is looked at.
+pub fn open_verdict(
+    scene: Scene,
+    outer: &[u8],
+    grid: &[u8],
+    kinds: &[u8],
+    covers: &[u8],
+    cubes: &[u32],
+    vertices: &[u32],
+    triangles: &[u32],
+    links: &[u32],
+    slots: &[u32],
+    count: usize,
+) -> Verdict
+    ensures { λ r. ⌜ verdictOf r ≡ openVerdict (sceneOf scene (now (kinds .entry)) (now (covers .entry)) (now (cubes .entry))) (now (outer .entry)) (now (grid .entry)) (listsOf (now (vertices .entry)) (now (triangles .entry)) (now (links .entry)) (now (slots .entry))) count ⌝ }
+{
+    let told = input_verdict(scene, outer, grid, kinds, covers, cubes, slots.len());
+    if is_refusal(told) {
+        return told;
+    }
+    count_verdict(
+        scene.coloured,
+        vertices.len(),
+        triangles.len(),
+        links.len(),
+        count,
+    )
+}
+
+// SHORT_ROOM to BAD_TRIANGLES: what the update asks of a lent mesh.
+pub fn lent_verdict(
+    scene: Scene,
+    vertices: &[u32],
+    triangles: &[u32],
+    links: &[u32],
+    slots: &[u32],
+    count: usize,
+) -> Verdict
+    requires { ⌜ Within (sizeOf (scene .dims)) ⌝ }
+    ensures { λ r. ⌜ ((kinds covers cubes : List ℕ) → verdictOf r ≡ lentVerdict (sceneOf scene kinds covers cubes) (listsOf (now (vertices .entry)) (now (triangles .entry)) (now (links .entry)) (now (slots .entry))) count) ⌝ }
+{
+    let dims = scene.dims;
+    let slotted = slots_verdict(dims, slots.len());
+    if is_refusal(slotted) {
+        return slotted;
+    }
+    let counted = count_verdict(
+        scene.coloured,
+        vertices.len(),
+        triangles.len(),
+        links.len(),
+        count,
+    );
+    if is_refusal(counted) {
+        return counted;
+    }
+    book_verdict(dims.cell_count(), triangles, links, slots, count)
+}
