@@ -1,0 +1,56 @@
+-- Cells drawn by their side sets are the fresh mesh of 01. Assumes nothing.
+use mathlib.Core.Path.{_≡_, refl, sym, ap, _∙_}
+use mathlib.Core.Bool.{Bool, true, false, cond}
+use mathlib.Core.List.{List}
+use Prim.Native.Nat.{ℕ, _*_, _≤_, _<_}
+use native.Mathlib.Omega.{arith}
+use lib.ListN.{length}
+use Rattle.rules.specs.Lists.{each, only}
+use Rattle.rules.specs.Cells.{cells, has}
+use Rattle.rules.specs.Mesh.{Quad, World, Lists, quadAt, quadsBy, meshBy, drawn, isNormalCube, typeAt, layout}
+use Rattle.rules.specs.Calls.{Scene, world, span, faces, freshMesh}
+use Rattle.rules.proofs.Sets.{has-setOf}
+use Rattle.rules.proofs.Demands.{words-sized}
+use Rattle.drawing.specs.Drawn.{cellsDrawn, asked}
+use Rattle.drawing.proofs.Laid.{Rooms, each-same, cellQuads, asked-is, drawn-is-layout}
+use Rattle.meshem.specs.Fresh.{sideDrawn, setAt}
+
+-- both algorithms are one test
+fresh-by : (S : Scene) (outer g : List ℕ) (culling : Bool) → freshMesh S outer g culling ≡ meshBy (world S) (sideDrawn culling (world S) outer g) g
+fresh-by S outer g true = refl
+fresh-by S outer g false = refl
+
+module _ (S : Scene) (outer g : List ℕ) (culling : Bool) (R : ℕ) (B : Lists) (rooms : Rooms (span S) R (faces S) B) where
+  abbrev sets : ℕ → ℕ
+  sets = setAt culling (world S) outer g
+
+  sized : (c f : ℕ) → length ((quadAt (world S) g c f) .words) ≡ span S
+  sized c f = words-sized S (typeAt g c) f c
+
+  -- the quads of a cell's side set are those that the test draws
+  cell-is : (c : ℕ) → cellQuads (span S) R (cells (S .size)) B rooms sets (quadAt (world S) g) (λ c f. refl) sized c
+      ≡ quadsBy (world S) (sideDrawn culling (world S) outer g) g c
+  unfolding setAt
+  cell-is c =
+      each-same 6 0 (λ f. only (has (sets c) f) (quadAt (world S) g c f)) (λ f. only (sideDrawn culling (world S) outer g c f) (quadAt (world S) g c f))
+      (λ f a b. rw (has-setOf (sideDrawn culling (world S) outer g c) f (omega arith)))
+
+  all-cells : each (cells (S .size)) 0 (cellQuads (span S) R (cells (S .size)) B rooms sets (quadAt (world S) g) (λ c f. refl) sized) ≡ freshMesh S outer g culling
+  unfolding meshBy
+  all-cells =
+      each-same (cells (S .size)) 0 (cellQuads (span S) R (cells (S .size)) B rooms sets (quadAt (world S) g) (λ c f. refl) sized)
+      (quadsBy (world S) (sideDrawn culling (world S) outer g) g) (λ c a b. cell-is c)
+      ∙ sym (fresh-by S outer g culling)
+
+  -- LAW: the side sets ask for as many quads as a fresh mesh has
+  pub asked-fresh : asked sets 0 (cells (S .size)) ≡ length (freshMesh S outer g culling)
+  asked-fresh = asked-is (span S) R (cells (S .size)) B rooms sets (quadAt (world S) g) (λ c f. refl) sized (cells (S .size)) 0 ∙ ap length all-cells
+
+  -- LAW: the cells drawn by their side sets are the layout of the fresh mesh
+  pub drawn-fresh : length (freshMesh S outer g culling) ≤ R
+      → cellsDrawn (span S) sets (quadAt (world S) g) 0 0 (cells (S .size)) B
+      ≡ layout (faces S) (span S) (length (freshMesh S outer g culling)) (freshMesh S outer g culling) B
+  drawn-fresh fit =
+      let e = all-cells in
+      drawn-is-layout (span S) R (cells (S .size)) B rooms sets (quadAt (world S) g) (λ c f. refl) sized (rw e fit)
+      ∙ ap (λ (m : List Quad). layout (faces S) (span S) (length m) m B) e
