@@ -1,3 +1,4 @@
 pub mod Chains
 pub mod Books
 pub mod Admitting
+pub mod Sides

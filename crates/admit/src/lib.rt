@@ -24,6 +24,7 @@ ghost use Rattle.util.specs.Grid.{sizeOf, Within};
 ghost use Rattle.admit.specs.Scenes.{sceneOf, listsOf, refuses, Long, inputVerdict};
 
 pub mod book; // book.rt: the tests of links, slots and triangles
+pub mod culling; // culling.rt: the sides that culling draws
 
 // What mesh, update and check are told of the grid and the types.
 pub struct Scene {

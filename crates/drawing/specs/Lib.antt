@@ -1,1 +1,3 @@
 pub mod Drawn
+pub mod Quads
+pub mod Rooms

@@ -1,1 +1,307 @@
-// Nothing yet.
+// Quads written into the four lists: the words of a quad, a quad at its place, and the quads of a cell.
+use face::Cell;
+use face::Face;
+use face::FoundFace;
+use face::has;
+use face::key;
+use face::link;
+use face::rank;
+use floats::Triple;
+use floats::moved_word;
+use util::Coordinates;
+use vav::extend;
+use vav::select;
+ghost use mathlib.Core.Path.{_≡_};
+ghost use Prim.Native.Nat.{_+_, _*_, _≤_, _<_};
+ghost use lib.ListN.{length, getD, set};
+ghost use Rattle.rules.specs.Cells.{UNIT, along, keyOf, linkOf, firstVertex};
+ghost use Rattle.rules.specs.Types.{order, quadWord, quadWords};
+ghost use Rattle.rules.specs.Mesh.{NONE, pattern};
+ghost use Rattle.face.specs.Face.{number};
+ghost use Rattle.util.specs.Grid as grid;
+ghost use Rattle.floats.specs.Triples.{tripleOf};
+ghost use Rattle.voxel_mesh.specs.Tests.{Words};
+ghost use Rattle.vav.specs.Rows.{put};
+ghost use Rattle.drawing.specs.Drawn.{drawnAt, faceDrawn, facesDrawn};
+ghost use Rattle.drawing.specs.Quads.{vertexWords, quadOf};
+ghost use Rattle.drawing.specs.Rooms.{listsOf, Drawable, Room, Slotted, Ready};
+
+// The slot of a face with no quad.
+pub const NONE: u32 = 4_294_967_295;
+
+pub fn face_at(n: u32) -> Face
+    requires { ⌜ n < 6 ⌝ }
+    ensures { λ r. ⌜ number r ≡ n ⌝ }
+{
+    match Face::from_number(n) {
+        FoundFace::Face(face) => face,
+        FoundFace::Nothing => Face::Forward,
+    }
+}
+
+// The order in which a quad takes the four vertices of its face.
+const ORDER: [usize; 4] = [0, 1, 3, 2];
+
+fn corner_of(i: usize) -> usize
+    requires { ⌜ i < 4 ⌝ }
+    ensures { λ r. ⌜ r ≡ getD order i 0 ⌝ }
+{
+    ORDER[i]
+}
+
+// The vertex of a cube that is the i-th of a face's quad.
+fn vertex_of(face: Face, i: usize) -> usize
+    requires { ⌜ i < 4 ⌝ }
+    ensures { λ r. ⌜ r ≡ 4 * number face + getD order i 0 ⌝ }
+{
+    4 * (face.number() as usize) + corner_of(i)
+}
+
+fn coordinate(at: Coordinates, axis: usize) -> u32
+    ensures { λ r. ⌜ r ≡ along (grid.tripleOf at) axis ⌝ }
+{
+    let cell = Triple {
+        x: at.x,
+        y: at.y,
+        z: at.z,
+    };
+    cell.along(axis)
+}
+
+// Word k of a vertex of a cube.
+fn word_of(cube: &[u32], floats: usize, vertex: usize, k: usize) -> u32
+    requires { ⌜ Words (now cube) floats × (vertex < 24) × (k < floats) ⌝ }
+    ensures { λ r. ⌜ r ≡ getD (now (cube .entry)) (floats * vertex + k) 0 ⌝ }
+{
+    cube[floats * vertex + k]
+}
+
+// Word k of the i-th vertex of a quad.
+pub fn quad_word(
+    cube: &[u32],
+    floats: usize,
+    face: Face,
+    at: Coordinates,
+    d: Triple,
+    i: usize,
+    k: usize,
+) -> u32
+    requires { ⌜ Drawable (now cube) floats (grid.tripleOf at) (tripleOf d) × (i < 4) × (k < floats) ⌝ }
+    ensures { λ r. ⌜ r ≡ quadWord (now (cube .entry)) floats (tripleOf d) (number face) (grid.tripleOf at) i k ⌝ }
+{
+    let word = word_of(cube, floats, vertex_of(face, i), k);
+    if k < 3 {
+        moved_word(word, coordinate(at, k), d.along(k))
+    } else {
+        word
+    }
+}
+
+// Writes a vertex of a cube into its own stretch, its position moved.
+fn write_vertex(
+    out: &mut [u32],
+    cube: &[u32],
+    floats: usize,
+    vertex: usize,
+    at: Coordinates,
+    d: Triple,
+)
+    requires { ⌜ Drawable (now cube) floats (grid.tripleOf at) (tripleOf d) × (vertex < 24) × (length (now out) ≡ floats) ⌝ }
+    ensures { λ _. ⌜ now (out .exit) ≡ vertexWords (now (cube .entry)) floats (tripleOf d) (grid.tripleOf at) vertex ⌝ }
+{
+    select(out, cube, floats, vertex, 0);
+    out[0] = moved_word(word_of(cube, floats, vertex, 0), at.x, d.x);
+    out[1] = moved_word(word_of(cube, floats, vertex, 1), at.y, d.y);
+    out[2] = moved_word(word_of(cube, floats, vertex, 2), at.z, d.z);
+}
+
+// Writes a quad into its own stretch.
+pub fn write_quad(
+    out: &mut [u32],
+    cube: &[u32],
+    floats: usize,
+    face: Face,
+    at: Coordinates,
+    d: Triple,
+)
+    requires { ⌜ Drawable (now cube) floats (grid.tripleOf at) (tripleOf d) × (length (now out) ≡ 4 * floats) ⌝ }
+    ensures { λ _. ⌜ now (out .exit) ≡ quadWords (now (cube .entry)) floats (tripleOf d) (number face) (grid.tripleOf at) ⌝ }
+{
+    let mut i: usize = 0;
+    while i < 4 {
+        let start = i * floats;
+        let end = start + floats;
+        write_vertex(
+            &mut out[start..end],
+            cube,
+            floats,
+            vertex_of(face, i),
+            at,
+            d,
+        );
+        i += 1;
+    }
+}
+
+// Writes a quad at place q.
+fn write_place(
+    vertices: &mut [u32],
+    cube: &[u32],
+    floats: usize,
+    face: Face,
+    at: Coordinates,
+    d: Triple,
+    q: usize,
+)
+    requires { ⌜ Drawable (now cube) floats (grid.tripleOf at) (tripleOf d) × (4 * floats * (q + 1) ≤ length (now vertices)) ⌝ }
+    ensures { λ _. ⌜ now (vertices .exit) ≡ put (4 * floats * q)
+        (quadWords (now (cube .entry)) floats (tripleOf d) (number face) (grid.tripleOf at)) (now (vertices .entry)) ⌝ }
+{
+    let words = 4 * floats;
+    let start = words * q;
+    let end = start + words;
+    write_quad(&mut vertices[start..end], cube, floats, face, at, d);
+}
+
+// Writes the triangle words of place q.
+pub fn write_pattern(triangles: &mut [u32], q: usize)
+    requires { ⌜ (6 * (q + 1) ≤ length (now triangles)) × (4 * (q + 1) ≤ NONE) ⌝ }
+    ensures { λ _. ⌜ now (triangles .exit) ≡ put (6 * q) (pattern q) (now (triangles .entry)) ⌝ }
+{
+    let first = (4 * q) as u32;
+    let words = [first, first + 1, first + 2, first + 3, first + 2, first + 1];
+    extend(triangles, &words, q);
+}
+
+// Links place q to a face of a cell.
+fn write_link(links: &mut [u32], cell: Cell, face: Face, q: usize)
+    requires { ⌜ (cell .0 < UNIT) × (q < length (now links)) ⌝ }
+    ensures { λ _. ⌜ now (links .exit) ≡ set (now (links .entry)) q (linkOf (keyOf (cell .0) (number face))) ⌝ }
+{
+    links[q] = link(cell, face);
+}
+
+// The slot of a face takes the quad at place q.
+fn write_slot(slots: &mut [u32], key: usize, q: usize)
+    requires { ⌜ (key < length (now slots)) × (4 * (q + 1) ≤ NONE) ⌝ }
+    ensures { λ _. ⌜ now (slots .exit) ≡ set (now (slots .entry)) key (firstVertex q) ⌝ }
+{
+    slots[key] = (4 * q) as u32;
+}
+
+// A face with no quad.
+pub fn bare_face(slots: &mut [u32], key: usize)
+    requires { ⌜ key < length (now slots) ⌝ }
+    ensures { λ _. ⌜ now (slots .exit) ≡ set (now (slots .entry)) key NONE ⌝ }
+{
+    slots[key] = NONE;
+}
+
+// Draws the quad of a face of a cell at place q.
+pub fn draw_quad(
+    vertices: &mut [u32],
+    triangles: &mut [u32],
+    links: &mut [u32],
+    slots: &mut [u32],
+    cube: &[u32],
+    floats: usize,
+    cell: Cell,
+    face: Face,
+    at: Coordinates,
+    d: Triple,
+    q: usize,
+)
+    requires { ⌜ Drawable (now cube) floats (grid.tripleOf at) (tripleOf d)
+        × Room (4 * floats) (q + 1) (listsOf (now vertices) (now triangles) (now links) (now slots))
+        × Slotted (cell .0) (listsOf (now vertices) (now triangles) (now links) (now slots)) ⌝ }
+    ensures { λ _. ⌜ listsOf (now (vertices .exit)) (now (triangles .exit)) (now (links .exit)) (now (slots .exit))
+        ≡ drawnAt (4 * floats) q (quadOf (now (cube .entry)) floats (tripleOf d) (grid.tripleOf at) (cell .0) (number face))
+        (listsOf (now (vertices .entry)) (now (triangles .entry)) (now (links .entry)) (now (slots .entry))) ⌝ }
+{
+    write_place(vertices, cube, floats, face, at, d, q);
+    write_pattern(triangles, q);
+    write_link(links, cell, face, q);
+    write_slot(slots, key(cell, face) as usize, q);
+}
+
+// A face of a cell: drawn at its place among those of the set, the first of which is `base`, or bare.
+fn draw_face(
+    vertices: &mut [u32],
+    triangles: &mut [u32],
+    links: &mut [u32],
+    slots: &mut [u32],
+    cube: &[u32],
+    floats: usize,
+    cell: Cell,
+    face: Face,
+    at: Coordinates,
+    d: Triple,
+    set: u8,
+    base: usize,
+)
+    requires { ⌜ Ready (now cube) floats (grid.tripleOf at) (tripleOf d) set base (cell .0)
+        (listsOf (now vertices) (now triangles) (now links) (now slots)) ⌝ }
+    ensures { λ _. ⌜ listsOf (now (vertices .exit)) (now (triangles .exit)) (now (links .exit)) (now (slots .exit))
+        ≡ faceDrawn (4 * floats) set (quadOf (now (cube .entry)) floats (tripleOf d) (grid.tripleOf at) (cell .0))
+        base (cell .0) (number face) (listsOf (now (vertices .entry)) (now (triangles .entry)) (now (links .entry)) (now (slots .entry))) ⌝ }
+{
+    if has(set, face) {
+        let q = base + (rank(set, face) as usize);
+        draw_quad(
+            vertices,
+            triangles,
+            links,
+            slots,
+            cube,
+            floats,
+            cell,
+            face,
+            at,
+            d,
+            q,
+        );
+        return;
+    }
+    bare_face(slots, key(cell, face) as usize);
+}
+
+// The six faces of a cell.
+pub fn draw_cell(
+    vertices: &mut [u32],
+    triangles: &mut [u32],
+    links: &mut [u32],
+    slots: &mut [u32],
+    cube: &[u32],
+    floats: usize,
+    cell: Cell,
+    at: Coordinates,
+    d: Triple,
+    set: u8,
+    base: usize,
+)
+    requires { ⌜ Ready (now cube) floats (grid.tripleOf at) (tripleOf d) set base (cell .0)
+        (listsOf (now vertices) (now triangles) (now links) (now slots)) ⌝ }
+    ensures { λ _. ⌜ listsOf (now (vertices .exit)) (now (triangles .exit)) (now (links .exit)) (now (slots .exit))
+        ≡ facesDrawn (4 * floats) set (quadOf (now (cube .entry)) floats (tripleOf d) (grid.tripleOf at) (cell .0))
+        base (cell .0) 0 6 (listsOf (now (vertices .entry)) (now (triangles .entry)) (now (links .entry)) (now (slots .entry))) ⌝ }
+{
+    let mut f: u32 = 0;
+    while f < 6 {
+        let face = face_at(f);
+        draw_face(
+            vertices,
+            triangles,
+            links,
+            slots,
+            cube,
+            floats,
+            cell,
+            face,
+            at,
+            d,
+            set,
+            base,
+        );
+        f += 1;
+    }
+}

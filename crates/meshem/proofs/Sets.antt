@@ -1,19 +1,60 @@
 -- Cells drawn by their side sets are the fresh mesh of 01. Assumes nothing.
 use mathlib.Core.Path.{_≡_, refl, sym, ap, _∙_}
+use mathlib.Core.Logic.{_≢_}
 use mathlib.Core.Bool.{Bool, true, false, cond}
 use mathlib.Core.List.{List}
+use mathlib.Core.Option.{Option, none, some}
 use Prim.Native.Nat.{ℕ, _*_, _≤_, _<_}
 use native.Mathlib.Omega.{arith}
 use lib.ListN.{length}
-use Rattle.rules.specs.Lists.{each, only}
-use Rattle.rules.specs.Cells.{cells, has}
-use Rattle.rules.specs.Mesh.{Quad, World, Lists, quadAt, quadsBy, meshBy, drawn, isNormalCube, typeAt, layout}
+use borrow.Author.Tests.{eq-eqb, ne-eqb}
+use Rattle.rules.specs.Lists.{each, only, member}
+use Rattle.rules.specs.Cells.{cells, has, neighbour}
+use Rattle.rules.specs.Mesh.{Quad, World, Lists, quadAt, quadsBy, meshBy, typeAt, shown, layout}
 use Rattle.rules.specs.Calls.{Scene, world, span, faces, freshMesh}
-use Rattle.rules.proofs.Sets.{has-setOf}
+use Rattle.rules.proofs.ListLaws.{members, read-one}
+use Rattle.rules.proofs.Sets.{has-setOf, set-is}
 use Rattle.rules.proofs.Demands.{words-sized}
 use Rattle.drawing.specs.Drawn.{cellsDrawn, asked}
 use Rattle.drawing.proofs.Laid.{Rooms, each-same, cellQuads, asked-is, drawn-is-layout}
-use Rattle.meshem.specs.Fresh.{sideDrawn, setAt}
+use Rattle.admit.specs.Culling.{outerSet}
+use Rattle.admit.proofs.Sides.{setOf-cong}
+use Rattle.meshem.specs.Fresh.{sideDrawn, setAt, facesOf}
+
+-- ---- the outer list by its set
+member-faces : (set f : ℕ) → f < 6 → member f (facesOf set) ≡ has set f
+member-faces set f h =
+    read-one (members f) 6 0 f (λ i. only (has set i) i) (omega arith) (omega arith) (λ i a d. other i d (has set i)) ∙ own (has set f)
+  where
+    other : (i : ℕ) → i ≢ f → (b : Bool) → member f (only b i) ≡ false
+    other i d true = rw (ne-eqb f i (λ e. d (sym e)))
+    other i d false = refl
+
+    own : (b : Bool) → member f (only b f) ≡ b
+    own true = rw (eq-eqb f f refl)
+    own false = refl
+
+-- a set is that of its faces
+pub outer-faces : (set : ℕ) → set < 64 → set ≡ outerSet (facesOf set)
+outer-faces set h = set-is (λ f. member f (facesOf set)) set h (λ f l. sym (member-faces set f l))
+
+shown-same : (W : World) (a b g : List ℕ) (f : ℕ) (n : Option ℕ) → member f a ≡ member f b → shown W a g f n ≡ shown W b g f n
+shown-same W a b g f none e = rw e
+shown-same W a b g f (some n) e = refl
+
+-- and a list is as good as the faces of its set
+pub named-set : (culling : Bool) (W : World) (outer g : List ℕ) (c : ℕ) → setAt culling W (facesOf (outerSet outer)) g c ≡ setAt culling W outer g c
+unfolding setAt
+named-set culling W outer g c =
+    setOf-cong (sideDrawn culling W (facesOf (outerSet outer)) g c) (sideDrawn culling W outer g c)
+    (λ f l. let m : member f (facesOf (outerSet outer)) ≡ member f outer =
+    member-faces (outerSet outer) f l ∙ has-setOf (λ i. member i outer) f l in
+    by f culling (shown-same W (facesOf (outerSet outer)) outer g f (neighbour (W .size) c f) m))
+  where
+    by : (f : ℕ) (culling : Bool) → shown W (facesOf (outerSet outer)) g f (neighbour (W .size) c f) ≡ shown W outer g f (neighbour (W .size) c f)
+        → sideDrawn culling W (facesOf (outerSet outer)) g c f ≡ sideDrawn culling W outer g c f
+    by f true e = rw e
+    by f false e = refl
 
 -- both algorithms are one test
 fresh-by : (S : Scene) (outer g : List ℕ) (culling : Bool) → freshMesh S outer g culling ≡ meshBy (world S) (sideDrawn culling (world S) outer g) g

@@ -1,0 +1,196 @@
+//! `update_mesh`.
+
+use crate::mesh::{linked, pattern};
+use crate::*;
+
+const ENTRY: usize = 12;
+const MOST_ENTRIES: usize = 16_777_216;
+
+/// What an update leaves: the quads, the quads moved, and whether an entry found no room.
+#[derive(Clone, Copy, Debug, PartialEq, Eq)]
+pub struct Updated {
+    pub quads: u64,
+    pub moved: u64,
+    pub no_room: Option<Refusal>,
+}
+
+#[derive(Clone, Copy)]
+struct Entry<'a> {
+    cell: usize,
+    change: u8,
+    voxel: u8,
+    neighbours: &'a [u8],
+}
+
+impl<'a> Entry<'a> {
+    fn read(bytes: &'a [u8]) -> Self {
+        let cell = u32::from_le_bytes([bytes[0], bytes[1], bytes[2], bytes[3]]) as usize;
+        Entry { cell, change: bytes[4], voxel: bytes[5], neighbours: &bytes[6..ENTRY] }
+    }
+
+    fn is_good(&self, cells: usize, types: &Types) -> bool {
+        let neighbour = |&voxel: &u8| voxel == OUTSIDE || types.is_type(voxel);
+        self.cell < cells && self.change <= 3 && types.is_type(self.voxel) && self.neighbours.iter().all(neighbour)
+    }
+
+    fn given(&self, face: usize) -> Option<u8> {
+        Some(self.neighbours[face]).filter(|&voxel| voxel != OUTSIDE)
+    }
+}
+
+/// One thing an entry does.
+#[derive(Clone, Copy)]
+enum Step {
+    Draw { cell: usize, face: usize, voxel: u8 },
+    Remove { cell: usize, face: usize },
+}
+
+struct Update<'a, 'b> {
+    buffers: &'a mut Buffers<'b>,
+    sizes: Sizes,
+    types: &'a Types<'a>,
+    quads: usize,
+    moved: u64,
+}
+
+pub fn update_mesh(buffers: &mut Buffers, count: u64, sizes: Sizes, log: &[u8], types: &Types) -> Result<Updated, Refusal> {
+    sizes.verdict()?;
+    types.verdict()?;
+    let cells = sizes.cells();
+    buffers.held().verdict(cells, types.coloured, count)?;
+    let entries = || log.chunks_exact(ENTRY).map(Entry::read);
+    let bad = |(number, entry): (usize, Entry)| number >= MOST_ENTRIES || !entry.is_good(cells, types);
+    refuse_lowest(BAD_ENTRY, entries().enumerate().map(bad))?;
+    refuse_if(log.len() % ENTRY != 0, BAD_ENTRY, (log.len() / ENTRY) as u64)?;
+
+    let room = buffers.held().room(types.coloured);
+    let mut update = Update { buffers, sizes, types, quads: count as usize, moved: 0 };
+    for (number, entry) in entries().enumerate() {
+        if update.needed(&entry) > room {
+            return Ok(update.left(Some(Refusal(NO_ROOM, number as u64))));
+        }
+        update.apply(&entry);
+    }
+    Ok(update.left(None))
+}
+
+impl Update<'_, '_> {
+    fn left(&self, no_room: Option<Refusal>) -> Updated {
+        Updated { quads: self.quads as u64, moved: self.moved, no_room }
+    }
+
+    fn is_there(&self, cell: usize, face: usize) -> bool {
+        self.buffers.slots[6 * cell + face] != NONE
+    }
+
+    /// The steps of an entry, in order, up to the last it draws.
+    fn own_steps(&self, entry: &Entry) -> Vec<Step> {
+        let Entry { cell, voxel, .. } = *entry;
+        let remove = |face| Step::Remove { cell, face };
+        let draw = |face| Step::Draw { cell, face, voxel };
+        let faces = 0..FACES;
+        let is_cube = self.types.is_cube(voxel);
+        match entry.change {
+            0 => faces.clone().map(remove).chain(faces.filter_map(|face| self.uncovered(entry, face))).collect(),
+            1 if is_cube => {
+                let shown = |&face: &usize| entry.given(face).map_or(true, |other| !self.types.covers(other, opposite(face)));
+                faces.clone().map(remove).chain(faces.filter(shown).map(draw)).collect()
+            }
+            2 => faces.filter(|&face| entry.given(face).is_some()).map(remove).collect(),
+            3 if is_cube => faces.filter(|&face| entry.given(face).is_some()).map(draw).collect(),
+            _ => vec![],
+        }
+    }
+
+    /// What Broken draws at a side: the neighbour cell's opposite face, from the neighbour's type as given.
+    fn uncovered(&self, entry: &Entry, face: usize) -> Option<Step> {
+        let voxel = entry.given(face)?;
+        let cell = self.sizes.neighbour(entry.cell, face)?;
+        let drawn = self.types.covers(entry.voxel, face) && self.types.is_cube(voxel);
+        drawn.then_some(Step::Draw { cell, face: opposite(face), voxel })
+    }
+
+    /// What Added removes last: the neighbours' facing quads, where the voxel covers the opposite of the side.
+    fn facing_steps(&self, entry: &Entry) -> Vec<Step> {
+        if entry.change != 1 || !self.types.is_cube(entry.voxel) {
+            return vec![];
+        }
+        let facing = |face: usize| {
+            let cell = self.sizes.neighbour(entry.cell, face)?;
+            self.types.covers(entry.voxel, opposite(face)).then_some(Step::Remove { cell, face: opposite(face) })
+        };
+        (0..FACES).filter_map(facing).collect()
+    }
+
+    /// Q, less the entry's own removed quads, plus the new ones it draws; 0 for an entry that draws nothing.
+    fn needed(&self, entry: &Entry) -> usize {
+        let steps = self.own_steps(entry);
+        let removes = |cell: usize, face: usize| {
+            steps.iter().any(|step| matches!(step, Step::Remove { cell: c, face: f } if (*c, *f) == (cell, face)))
+        };
+        let counts = |step: &Step| match *step {
+            Step::Remove { cell, face } => (self.is_there(cell, face) as usize, 0),
+            Step::Draw { cell, face, .. } => (0, (removes(cell, face) || !self.is_there(cell, face)) as usize),
+        };
+        let (removed, drawn) = steps.iter().map(counts).fold((0, 0), |(r, d), (r1, d1)| (r + r1, d + d1));
+        self.quads - removed + drawn
+    }
+
+    fn apply(&mut self, entry: &Entry) {
+        for step in self.own_steps(entry) {
+            self.step(step);
+        }
+        for step in self.facing_steps(entry) {
+            self.step(step);
+        }
+    }
+
+    fn step(&mut self, step: Step) {
+        match step {
+            Step::Draw { cell, face, voxel } => {
+                if !self.is_there(cell, face) {
+                    self.buffers.write(self.quads, cell, face, voxel, self.sizes, self.types);
+                    self.quads += 1;
+                }
+            }
+            Step::Remove { cell, face } => {
+                if self.is_there(cell, face) {
+                    self.remove(self.buffers.slots[6 * cell + face] as usize / 4);
+                }
+            }
+        }
+    }
+
+    fn remove(&mut self, quad: usize) {
+        let (cell, face) = linked(self.buffers.links[quad]);
+        self.buffers.slots[6 * cell + face] = NONE;
+        let last = self.quads - 1;
+        if self.quads - quad <= 6 {
+            for place in quad..last {
+                self.bring(place + 1, place);
+            }
+        } else {
+            self.bring(last, quad);
+        }
+        self.clear(last);
+        self.quads = last;
+    }
+
+    /// A quad brings its vertices and link, and its slot names the new place.
+    fn bring(&mut self, from: usize, to: usize) {
+        let words = 4 * floats(self.types.coloured);
+        self.buffers.vertices.copy_within(from * words..(from + 1) * words, to * words);
+        self.buffers.links[to] = self.buffers.links[from];
+        let (cell, face) = linked(self.buffers.links[to]);
+        self.buffers.slots[6 * cell + face] = 4 * to as u32;
+        self.buffers.triangles[6 * to..][..6].copy_from_slice(&pattern(to));
+        self.moved += 1;
+    }
+
+    fn clear(&mut self, quad: usize) {
+        let words = 4 * floats(self.types.coloured);
+        self.buffers.vertices[quad * words..][..words].fill(0);
+        self.buffers.triangles[6 * quad..][..6].fill(0);
+        self.buffers.links[quad] = 0;
+    }
+}

@@ -1,0 +1,253 @@
+//! A fixed list of the Rust's answers, for replaying without the Rust.
+//!
+//!     answers FILE
+//!
+//! The file is little-endian u32 words. A list of bytes is packed four to a word, lowest byte first, and filled up with zeros to a
+//! whole word, so that it also lies in the file as bytes in order. Floats are their bits.
+//!
+//! The file is its head, then records one after another:
+//!
+//!     head      0x5348534D, version 1, number of records
+//!     record    tag, number of words that follow, those words
+//!
+//! Tag 1, a cube: `generate_voxel_mesh` and its answer.
+//!
+//!     d (3), atlas width and height, centre (3), padding, coloured (0 or 1), colour, alpha, texture (18: face, a, b six times),
+//!     the 24 vertices (8 words each, 12 if coloured)
+//!
+//! Tag 2, a registry: it holds for the grids that follow, up to the next one.
+//!
+//!     types n, coloured, d (3), centre (3), kinds (n bytes), covers (n bytes), cubes (n times 24 vertices)
+//!
+//! Tag 3, a grid: `mesh_grid`, then `update_mesh` on that mesh.
+//!
+//!     width, height, length, algorithm (0 Naive, 1 Culling), outer faces o, cells c, log entries e,
+//!     outer (o bytes), grid (c bytes), log (12·e bytes),
+//!     the mesh after meshing, the mesh after the log
+//!
+//! A mesh:
+//!
+//!     quads Q, links (Q), triangle words (6·Q), vertices (4·Q vertices), slots (6·c; 4,294,967,295 for none)
+//!
+//! Everything is accepted by document 01. `moved` is not in it: the Rust doesn't count.
+
+use oracle::cases::{cube_of, entry, paper_types, Candour, Case, Random};
+use oracle::rust::{cube, mesh, CubeParameters, Registry, Types, Words, ENTRY};
+
+const MAGIC: u32 = u32::from_le_bytes(*b"MSHS");
+const VERSION: u32 = 1;
+const SEED: u64 = 2_026;
+/// The most words of the file: 400,000 bytes.
+const MOST_WORDS: usize = 100_000;
+
+const OUT: u8 = 255;
+
+fn main() {
+    let path = std::env::args().nth(1).expect("usage: answers FILE");
+    let mut file = File::default();
+    let mut random = Random(SEED);
+    cubes(&mut file, &mut random);
+    unfused_grids(&mut file);
+    worked_grids(&mut file);
+    paper_grids(&mut file, &mut random);
+    other_registries(&mut file, &mut random);
+    let bytes = file.bytes();
+    println!(
+        "{path}: {} bytes; {} cubes, {} registries, {} grids, {} quads",
+        bytes.len(),
+        file.cubes,
+        file.registries,
+        file.grids,
+        file.quads
+    );
+    assert!(file.words.len() <= MOST_WORDS, "the list is meant to be small");
+    std::fs::write(path, bytes).expect("the file to write");
+}
+
+#[derive(Default)]
+struct File {
+    words: Vec<u32>,
+    cubes: u32,
+    registries: u32,
+    grids: u32,
+    quads: usize,
+}
+
+impl File {
+    fn bytes(&self) -> Vec<u8> {
+        let head = [MAGIC, VERSION, self.cubes + self.registries + self.grids];
+        head.iter().chain(&self.words).flat_map(|word| word.to_le_bytes()).collect()
+    }
+
+    fn record(&mut self, tag: u32, words: Vec<u32>) {
+        self.words.extend([tag, words.len() as u32]);
+        self.words.extend(words);
+    }
+
+    fn cube(&mut self, p: &CubeParameters) {
+        let mut words = [&p.d[..], &p.atlas, &p.centre, &[p.padding, p.coloured as u32, p.colour, p.alpha], &p.texture].concat();
+        words.extend(cube(p));
+        self.record(1, words);
+        self.cubes += 1;
+    }
+
+    fn registry(&mut self, t: &Types) {
+        let mut words = [&[t.kinds.len() as u32, t.coloured as u32][..], &t.d, &t.centre].concat();
+        words.extend(packed(&t.kinds));
+        words.extend(packed(&t.covers));
+        words.extend(&t.cubes);
+        self.record(2, words);
+        self.registries += 1;
+    }
+
+    /// The grid's record, if it takes no more than `most` words.
+    fn grid(&mut self, case: &Case, most: usize) -> bool {
+        let lengths = [case.outer.len(), case.grid.len(), case.log.len() / ENTRY].map(|length| length as u32);
+        let mut words = [&case.dims[..], &[!case.naive as u32], &lengths].concat();
+        for list in [&case.outer, &case.grid, &case.log] {
+            words.extend(packed(list));
+        }
+        let registry = Registry::of(&case.types);
+        let mut meshed = mesh(case.dims, &case.outer, &case.grid, &registry, case.naive);
+        let fresh = meshed.words();
+        meshed.update(&registry, &case.log);
+        let updated = meshed.words();
+        words.extend(mesh_words(&fresh));
+        words.extend(mesh_words(&updated));
+        if words.len() > most {
+            return false;
+        }
+        self.record(3, words);
+        self.grids += 1;
+        self.quads += fresh.links.len() + updated.links.len();
+        true
+    }
+}
+
+fn packed(bytes: &[u8]) -> impl Iterator<Item = u32> + '_ {
+    bytes.chunks(4).map(|four| (0..4).rev().fold(0, |word, i| word << 8 | four.get(i).copied().unwrap_or(0) as u32))
+}
+
+fn mesh_words(mesh: &Words) -> Vec<u32> {
+    [&[mesh.links.len() as u32][..], &mesh.links, &mesh.triangles, &mesh.vertices, &mesh.slots].concat()
+}
+
+/// Cubes with something to say, then any.
+fn cubes(file: &mut File, random: &mut Random) {
+    let tenth = 0x3DCC_CCCD;
+    let all_top: Vec<u32> = (0..6).flat_map(|tile| [0, tile, 5 - tile]).collect();
+    let named_twice = vec![2, 1, 1, 3, 9, 9, 2, 7, 0, 5, 4095, 4095, 3, 0, 2, 2, 3, 3];
+    let same_tile: Vec<u32> = (0..6).flat_map(|face| [face, 3, 3]).collect();
+    let chosen = [
+        cube_of(1.0, 0),
+        // products and sums are not fused
+        CubeParameters { atlas: [3, 3], texture: same_tile, padding: tenth, ..cube_of(1.0, 0) },
+        CubeParameters { d: [tenth; 3], ..cube_of(1.0, 0) },
+        CubeParameters { atlas: [16, 9], texture: all_top, padding: tenth, ..cube_of(1.0, 0) },
+        CubeParameters { atlas: [16, 16], texture: named_twice, padding: 0xBE80_0000, ..cube_of(1.0, 0) },
+        // high equals the centre
+        CubeParameters { d: [0x4000_0000; 3], centre: [0x4B80_0000; 3], ..cube_of(1.0, 0) },
+        CubeParameters { d: [0, 0x8000_0000, 0xBF80_0000], centre: [0x8000_0000, 0, 0xBF00_0000], ..cube_of(1.0, 0) },
+        CubeParameters { d: [0x7F7F_FFFF; 3], centre: [0x7F7F_FFFF, 0xFF7F_FFFF, 0], padding: 0x7F7F_FFFF, ..cube_of(1.0, 0) },
+        CubeParameters { coloured: true, colour: 0x3F80_0000, alpha: 0x3F00_0000, ..cube_of(1.0, 0) },
+        CubeParameters { coloured: true, colour: 0x7F80_0001, alpha: 0xFFC0_1234, ..cube_of(1.0, 0) },
+    ];
+    chosen.iter().for_each(|parameters| file.cube(parameters));
+    (0..30).for_each(|_| file.cube(&random.cube()));
+}
+
+const AIR: u8 = 0;
+const CUBE: u8 = 1;
+const DARK: u8 = 2;
+const BOTTOM: u8 = 3;
+const TOP: u8 = 4;
+const CUSTOM: u8 = 5;
+const ODD: u8 = 6;
+
+/// The meshes worked by hand, and edges of the update's rules.
+fn worked_grids(file: &mut File) {
+    file.registry(&paper_types(1.0));
+    let mut put = |dims: [u32; 3], outer: &[u8], grid: &[u8], naive: bool, log: &[Vec<u8>]| {
+        let case = Case { dims, outer: outer.to_vec(), grid: grid.to_vec(), types: paper_types(1.0), naive, log: log.concat() };
+        assert!(file.grid(&case, MOST_WORDS));
+    };
+    let beside = [OUT, OUT, CUBE, OUT, OUT, OUT];
+    put([1, 1, 1], &[], &[CUBE], false, &[]);
+    put([2, 1, 1], &[], &[CUBE, CUBE], false, &[entry(0, 0, CUBE, &beside)]);
+    put([2, 1, 1], &[], &[CUBE, CUBE], false, &[entry(0, 0, CUBE, &beside), entry(0, 1, CUBE, &beside)]);
+    put([2, 1, 1], &[], &[CUBE, CUBE], true, &[]);
+    put([2, 1, 1], &[0], &[CUBE, CUBE], false, &[]);
+    put([3, 3, 3], &[], &[CUBE; 27], false, &[entry(13, 0, CUBE, &[CUBE; 6])]);
+    put([2, 1, 1], &[], &[CUBE, DARK], false, &[]);
+    let above = [OUT, CUBE, OUT, OUT, OUT, OUT];
+    put([1, 2, 1], &[], &[CUBE, AIR], false, &[entry(1, 1, BOTTOM, &above)]);
+    put([1, 2, 1], &[], &[CUBE, BOTTOM], false, &[]);
+    put([1, 2, 1], &[], &[CUBE, AIR], false, &[entry(1, 1, TOP, &above)]);
+    put([1, 2, 1], &[], &[CUBE, TOP], false, &[]);
+    put([1, 2, 1], &[], &[CUBE, AIR], false, &[entry(1, 1, AIR, &above), entry(1, 1, CUSTOM, &above)]);
+    // a cube over a cube; nothing broken, twice; broken as another type; a neighbour given where the grid ends, and the other way
+    put([2, 1, 1], &[], &[CUBE, CUBE], false, &[entry(0, 1, ODD, &beside)]);
+    put([2, 1, 1], &[], &[AIR, CUBE], false, &[entry(0, 0, AIR, &beside), entry(0, 0, CUBE, &beside)]);
+    put([2, 1, 1], &[], &[CUBE, CUBE], false, &[entry(1, 0, DARK, &[OUT, OUT, OUT, ODD, OUT, OUT])]);
+    put([2, 1, 1], &[], &[CUBE, AIR], false, &[entry(1, 1, CUBE, &[CUBE; 6]), entry(1, 0, CUBE, &[CUBE; 6])]);
+    put([2, 1, 1], &[], &[CUBE, AIR], false, &[entry(1, 1, CUBE, &[OUT; 6]), entry(1, 0, CUBE, &[OUT; 6])]);
+    // faces culled and added
+    let sides = [OUT, CUBE, AIR, OUT, DARK, CUSTOM];
+    put([2, 1, 1], &[], &[CUBE, CUBE], true, &[entry(0, 2, AIR, &sides), entry(1, 3, CUBE, &sides), entry(0, 3, BOTTOM, &sides)]);
+    put(
+        [1, 1, 2],
+        &[],
+        &[CUBE, AIR],
+        false,
+        &[entry(1, 3, TOP, &[AIR; 6]), entry(0, 2, ODD, &[AIR; 6]), entry(1, 3, CUSTOM, &[AIR; 6])],
+    );
+}
+
+/// Three times a tenth, which isn't exact, plus a corner: the product is rounded first.
+fn unfused_grids(file: &mut File) {
+    let types = paper_types(0.1);
+    file.registry(&types);
+    for axis in 0..3 {
+        let mut dims = [1; 3];
+        dims[axis] = 4;
+        let log = [entry(3, 0, CUBE, &[CUBE; 6]), entry(3, 1, ODD, &[CUBE; 6])].concat();
+        let case = Case { dims, grid: vec![AIR, AIR, BOTTOM, CUBE], types: types.clone(), log, ..Case::default() };
+        assert!(file.grid(&case, MOST_WORDS));
+    }
+}
+
+/// Grids of the same types: one of 64 cells, many small.
+fn paper_grids(file: &mut File, random: &mut Random) {
+    let types = paper_types(1.0);
+    let mut chunk = Case { dims: [4, 4, 4], outer: vec![1, 3], types: types.clone(), ..Case::default() };
+    chunk.grid = (0..64).map(|cell| if cell < 32 { CUBE } else { AIR }).collect();
+    chunk.log = random.log(&chunk, 12, Candour::Honest);
+    assert!(file.grid(&chunk, MOST_WORDS));
+    small_grids(file, random, &types, 24);
+}
+
+/// Registries of any floats, coloured or not, with a few grids each.
+fn other_registries(file: &mut File, random: &mut Random) {
+    let last = file.registries + 9;
+    while file.registries < last {
+        let types = random.types(4);
+        if types.kinds.contains(&1) {
+            file.registry(&types);
+            small_grids(file, random, &types, 7);
+        }
+    }
+}
+
+/// Small grids with a log each; every sixth may be larger.
+fn small_grids(file: &mut File, random: &mut Random, types: &Types, grids: u32) {
+    let last = file.grids + grids;
+    while file.grids < last {
+        let dims = [(); 3].map(|()| 1 + random.pick(&[0, 0, 1, 1, 2]));
+        let grid = random.grid(dims.iter().product::<u32>() as usize, types.kinds.len());
+        let mut case = Case { dims, outer: random.outer(), grid, types: types.clone(), naive: random.one_in(5), log: vec![] };
+        let entries = 1 + random.below(8);
+        let candour = random.pick(&[Candour::Honest, Candour::Foolish, Candour::Mixed]);
+        case.log = random.log(&case, entries, candour);
+        file.grid(&case, if file.grids % 6 == 0 { 1_800 } else { 900 });
+    }
+}

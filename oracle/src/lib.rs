@@ -1,0 +1,7 @@
+//! The Rust as oracle: Meshem's own code asked the questions of document 01, its answers in 01's layout.
+
+pub mod calls;
+pub mod cases;
+#[cfg(feature = "library")]
+pub mod library;
+pub mod rust;

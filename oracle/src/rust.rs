@@ -1,0 +1,220 @@
+//! The Rust's answers, in document 01's layout: Meshem run on byte-coded voxels over type tables.
+
+use bevy::mesh::{Indices, MeshVertexAttribute, VertexAttributeValues};
+use bevy::prelude::Mesh;
+use meshem::prelude::{
+    generate_voxel_mesh, mesh_grid, update_mesh, Face, MeshMD, MeshingAlgorithm, VoxelChange, VoxelMesh, VoxelRegistry,
+};
+use meshem::{index, Dimensions};
+
+/// A slot without a quad.
+pub const NONE: u32 = u32::MAX;
+/// A neighbour outside, in a log.
+pub const OUTSIDE: u8 = 255;
+/// The bytes of a log entry.
+pub const ENTRY: usize = 12;
+
+/// The parameters of a cube, its floats as bits.
+#[derive(Clone, Debug, Default, PartialEq)]
+pub struct CubeParameters {
+    pub d: [u32; 3],
+    pub atlas: [u32; 2],
+    /// Six times face, a, b.
+    pub texture: Vec<u32>,
+    pub centre: [u32; 3],
+    pub padding: u32,
+    pub coloured: bool,
+    pub colour: u32,
+    pub alpha: u32,
+}
+
+/// The types of a registry: kind, covering set, and 24 vertices each.
+#[derive(Clone, Debug, Default, PartialEq)]
+pub struct Types {
+    pub kinds: Vec<u8>,
+    pub covers: Vec<u8>,
+    pub cubes: Vec<u32>,
+    pub coloured: bool,
+    pub d: [u32; 3],
+    pub centre: [u32; 3],
+}
+
+/// A mesh as document 01 lays it out: per quad its vertices, triangle words and link; per cell six slots.
+#[derive(Clone, Debug, Default, PartialEq)]
+pub struct Words {
+    pub vertices: Vec<u32>,
+    pub triangles: Vec<u32>,
+    pub links: Vec<u32>,
+    pub slots: Vec<u32>,
+}
+
+/// A mesh that the Rust built, with its metadata.
+pub struct Meshed {
+    mesh: Mesh,
+    metadata: MeshMD<u8>,
+    coloured: bool,
+}
+
+pub const fn floats(coloured: bool) -> usize {
+    if coloured {
+        12
+    } else {
+        8
+    }
+}
+
+/// The 24 vertices of `generate_voxel_mesh`, whose 36 indices have to be 01's constant.
+pub fn cube(p: &CubeParameters) -> Vec<u32> {
+    let entry = |i: usize| (Face::from(p.texture[3 * i] as usize), [p.texture[3 * i + 1], p.texture[3 * i + 2]]);
+    let mesh = generate_voxel_mesh(
+        p.d.map(f32::from_bits),
+        p.atlas,
+        std::array::from_fn(entry),
+        p.centre.map(f32::from_bits),
+        f32::from_bits(p.padding),
+        p.coloured.then_some(f32::from_bits(p.colour)),
+        f32::from_bits(p.alpha),
+    );
+    assert_eq!(indices_of(&mesh), &cube_indices(), "the cube's indices");
+    vertices_of(&mesh, p.coloured)
+}
+
+/// `mesh_grid`, without smooth lighting.
+pub fn mesh(dims: [u32; 3], outer: &[u8], grid: &[u8], registry: &Registry, naive: bool) -> Meshed {
+    let outer: Vec<Face> = outer.iter().map(|&face| Face::from(face as usize)).collect();
+    let algorithm = if naive { MeshingAlgorithm::Naive } else { MeshingAlgorithm::Culling };
+    let (mesh, metadata) = mesh_grid(dimensions(dims), &outer, grid, registry, algorithm, None).unwrap();
+    Meshed { mesh, metadata, coloured: registry.types.coloured }
+}
+
+impl Meshed {
+    /// `update_mesh` with the entries of a log.
+    pub fn update(&mut self, registry: &Registry, log: &[u8]) {
+        for entry in log.chunks_exact(ENTRY) {
+            let cell = u32::from_le_bytes(entry[..4].try_into().unwrap()) as usize;
+            let change = match entry[4] {
+                0 => VoxelChange::Broken,
+                1 => VoxelChange::Added,
+                2 => VoxelChange::CullFaces,
+                _ => VoxelChange::AddFaces,
+            };
+            let neighbours = std::array::from_fn(|face| Some(entry[6 + face]).filter(|&voxel| voxel != OUTSIDE));
+            self.metadata.log(change, cell, entry[5], neighbours);
+        }
+        update_mesh(&mut self.mesh, &mut self.metadata, registry);
+    }
+
+    /// Everything there is to compare. Panics where the index contradicts itself or the mesh.
+    pub fn words(&self) -> Words {
+        let quads = self.mesh.count_vertices() / 4;
+        assert_eq!(index::counts(&self.metadata), (quads, quads), "the index holds each quad twice");
+        let link = |quad: usize| index::link_of(&self.metadata, 4 * quad as u32).expect("a quad without a link");
+        let (width, height, length) = self.metadata.dims;
+        let slot = |key: usize| index::quad_of(&self.metadata, key / 6, Face::from(key % 6)).unwrap_or(NONE);
+        Words {
+            vertices: vertices_of(&self.mesh, self.coloured),
+            triangles: indices_of(&self.mesh).clone(),
+            links: (0..quads).map(link).collect(),
+            slots: (0..6 * width * height * length).map(slot).collect(),
+        }
+    }
+}
+
+fn dimensions([width, height, length]: [u32; 3]) -> Dimensions {
+    (width as usize, height as usize, length as usize)
+}
+
+fn cube_indices() -> Vec<u32> {
+    (0..6).flat_map(|face| [0, 1, 3, 2, 3, 1].map(|corner| 4 * face + corner)).collect()
+}
+
+fn indices_of(mesh: &Mesh) -> &Vec<u32> {
+    match mesh.indices() {
+        Some(Indices::U32(indices)) => indices,
+        _ => panic!("a mesh without u32 indices"),
+    }
+}
+
+fn attributes(coloured: bool) -> Vec<MeshVertexAttribute> {
+    let mut list = vec![Mesh::ATTRIBUTE_POSITION, Mesh::ATTRIBUTE_NORMAL, Mesh::ATTRIBUTE_UV_0];
+    list.extend(coloured.then_some(Mesh::ATTRIBUTE_COLOR));
+    list
+}
+
+/// All attributes, vertex by vertex.
+fn vertices_of(mesh: &Mesh, coloured: bool) -> Vec<u32> {
+    let mut words = vec![];
+    let columns: Vec<_> = attributes(coloured).into_iter().map(|a| mesh.attribute(a).expect("an attribute")).collect();
+    for column in &columns {
+        assert_eq!(column.len(), mesh.count_vertices(), "attributes of one length");
+    }
+    for vertex in 0..mesh.count_vertices() {
+        for column in &columns {
+            let row: &[f32] = match column {
+                VertexAttributeValues::Float32x2(rows) => &rows[vertex],
+                VertexAttributeValues::Float32x3(rows) => &rows[vertex],
+                VertexAttributeValues::Float32x4(rows) => &rows[vertex],
+                _ => panic!("an attribute of another format"),
+            };
+            words.extend(row.iter().map(|float| float.to_bits()));
+        }
+    }
+    words
+}
+
+/// The registry that Meshem asks, over the tables.
+pub struct Registry<'a> {
+    types: &'a Types,
+    meshes: Vec<Mesh>,
+}
+
+impl Registry<'_> {
+    pub fn of(types: &Types) -> Registry<'_> {
+        let words = 24 * floats(types.coloured);
+        let meshes = types.cubes.chunks_exact(words).map(|cube| mesh_of_words(cube, types.coloured)).collect();
+        Registry { types, meshes }
+    }
+}
+
+impl VoxelRegistry for Registry<'_> {
+    type Voxel = u8;
+
+    fn get_mesh(&self, voxel: &u8) -> VoxelMesh<&Mesh> {
+        let mesh = &self.meshes[*voxel as usize];
+        match self.types.kinds[*voxel as usize] {
+            0 => VoxelMesh::Null,
+            1 => VoxelMesh::NormalCube(mesh),
+            _ => VoxelMesh::CustomMesh(mesh),
+        }
+    }
+    fn is_covering(&self, voxel: &u8, side: Face) -> bool {
+        self.types.covers[*voxel as usize] >> (side as u8) & 1 == 1
+    }
+    fn get_center(&self) -> [f32; 3] {
+        self.types.centre.map(f32::from_bits)
+    }
+    fn get_voxel_dimensions(&self) -> [f32; 3] {
+        self.types.d.map(f32::from_bits)
+    }
+    fn all_attributes(&self) -> Vec<MeshVertexAttribute> {
+        attributes(self.types.coloured)
+    }
+}
+
+/// A cube's mesh from its words, with 01's constant indices.
+fn mesh_of_words(words: &[u32], coloured: bool) -> Mesh {
+    let mut mesh = Mesh::new(bevy::render::render_resource::PrimitiveTopology::TriangleList, Default::default());
+    mesh.insert_attribute(Mesh::ATTRIBUTE_POSITION, rows::<3>(words, coloured, 0));
+    mesh.insert_attribute(Mesh::ATTRIBUTE_NORMAL, rows::<3>(words, coloured, 3));
+    mesh.insert_attribute(Mesh::ATTRIBUTE_UV_0, rows::<2>(words, coloured, 6));
+    if coloured {
+        mesh.insert_attribute(Mesh::ATTRIBUTE_COLOR, rows::<4>(words, coloured, 8));
+    }
+    mesh.insert_indices(Indices::U32(cube_indices()));
+    mesh
+}
+
+fn rows<const N: usize>(words: &[u32], coloured: bool, from: usize) -> Vec<[f32; N]> {
+    let row = |vertex: &[u32]| std::array::from_fn(|i| f32::from_bits(vertex[from + i]));
+    words.chunks_exact(floats(coloured)).map(row).collect()
+}

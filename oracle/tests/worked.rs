@@ -1,0 +1,100 @@
+//! The meshes that document 01 works by hand, asked of the Rust and of the plain reading.
+
+use oracle::calls::{Answer, Calls, Plain};
+use oracle::cases::{cube_of, entry, paper_types, Case};
+use oracle::rust::{self, Registry, Words};
+
+const AIR: u8 = 0;
+const CUBE: u8 = 1;
+const DARK: u8 = 2;
+const BOTTOM: u8 = 3;
+const TOP: u8 = 4;
+const OUT: u8 = 255;
+
+fn case(dims: [u32; 3], grid: &[u8], log: &[Vec<u8>]) -> Case {
+    Case { dims, grid: grid.to_vec(), types: paper_types(1.0), log: log.concat(), ..Case::default() }
+}
+
+fn room_for(case: &Case, quads: usize) -> Words {
+    Words {
+        vertices: vec![7; quads * 32],
+        triangles: vec![7; quads * 6],
+        links: vec![7; quads],
+        slots: vec![7; 6 * case.grid.len()],
+    }
+}
+
+/// Quads after meshing and after the log, on which both sides agree, and `moved`, which only 01 counts.
+fn quads(case: &Case) -> (u64, u64, u64) {
+    let registry = Registry::of(&case.types);
+    let mut meshed = rust::mesh(case.dims, &case.outer, &case.grid, &registry, case.naive);
+    let fresh = meshed.words().links.len() as u64;
+    meshed.update(&registry, &case.log);
+    let after = meshed.words();
+    let mut room = room_for(case, 6 * case.grid.len());
+    assert_eq!(Plain.mesh_grid(case, &mut room), Answer { quads: fresh, ..Answer::default() });
+    let updated = Plain.update_mesh(case, &mut room, fresh);
+    assert_eq!((updated.number, updated.place, updated.quads), (0, 0, after.links.len() as u64));
+    assert_eq!(room.links[..after.links.len()], after.links);
+    (fresh, updated.quads, updated.moved)
+}
+
+#[test]
+fn the_ten_cases() {
+    assert_eq!(quads(&case([1, 1, 1], &[CUBE], &[])).0, 6);
+    assert_eq!(quads(&case([2, 1, 1], &[CUBE; 2], &[])).0, 10);
+    assert_eq!(quads(&Case { naive: true, ..case([2, 1, 1], &[CUBE; 2], &[]) }).0, 12);
+    assert_eq!(quads(&Case { outer: vec![0], ..case([2, 1, 1], &[CUBE; 2], &[]) }).0, 8);
+    assert_eq!(quads(&case([3, 3, 3], &[CUBE; 27], &[])).0, 54);
+    assert_eq!(quads(&case([2, 1, 1], &[CUBE, DARK], &[])).0, 5);
+    let above = [OUT, CUBE, OUT, OUT, OUT, OUT];
+    assert_eq!(quads(&case([1, 2, 1], &[CUBE, AIR], &[entry(1, 1, BOTTOM, &above)])).1, 11);
+    assert_eq!(quads(&case([1, 2, 1], &[CUBE, BOTTOM], &[])).0, 10);
+    assert_eq!(quads(&case([1, 2, 1], &[CUBE, AIR], &[entry(1, 1, TOP, &above)])).1, 10);
+    assert_eq!(quads(&case([1, 2, 1], &[CUBE, TOP], &[])).0, 11);
+    assert_eq!(quads(&case([1, 2, 1], &[CUBE, AIR], &[entry(1, 1, AIR, &above)])), (6, 6, 0));
+    assert_eq!(plain::link(5, 0), 2_684_354_565);
+}
+
+/// Case 6: of ten quads, removing quad 4 shifts five, quad 3 swaps one. Quad 4 is cell 0 Forward, quad 3 cell 0 Back.
+#[test]
+fn removing_one_of_ten() {
+    let cull = |face: usize| {
+        let mut neighbours = [OUT; 6];
+        neighbours[face] = AIR;
+        case([2, 1, 1], &[CUBE; 2], &[entry(0, 2, AIR, &neighbours)])
+    };
+    assert_eq!(quads(&cull(5)), (10, 9, 5));
+    assert_eq!(quads(&cull(4)), (10, 9, 1));
+}
+
+/// The program's example: `quads 6 moved 14`.
+#[test]
+fn the_example() {
+    let broken = entry(0, 0, CUBE, &[OUT, OUT, CUBE, OUT, OUT, OUT]);
+    assert_eq!(quads(&case([2, 1, 1], &[CUBE; 2], &[broken])), (10, 6, 14));
+}
+
+#[test]
+fn room() {
+    let two = case([2, 1, 1], &[CUBE; 2], &[]);
+    assert_eq!(Plain.mesh_grid(&two, &mut room_for(&two, 9)), Answer { number: plain::NO_ROOM, ..Answer::default() });
+    assert_eq!(Plain.mesh_grid(&two, &mut room_for(&two, 10)), Answer { quads: 10, ..Answer::default() });
+    let beside = [OUT, OUT, CUBE, OUT, OUT, OUT];
+    let dug = Case { log: [entry(0, 0, CUBE, &beside), entry(0, 1, CUBE, &beside)].concat(), ..two };
+    let mut tight = room_for(&dug, 10);
+    Plain.mesh_grid(&dug, &mut tight);
+    // Added draws five beside the six before it takes the facing one
+    assert_eq!(Plain.update_mesh(&dug, &mut tight, 10), Answer { number: plain::NO_ROOM, place: 1, quads: 6, moved: 14 });
+}
+
+#[test]
+fn nothing_is_fused() {
+    let tenth = 0x3DCC_CCCD;
+    let texture = (0..6).flat_map(|face| [face, 3, 3]).collect();
+    let cube = rust::CubeParameters { atlas: [3, 3], padding: tenth, texture, ..cube_of(1.0, 0) };
+    assert_eq!(rust::cube(&cube)[6], 0x3F84_4444);
+    let line = Case { types: paper_types(0.1), ..case([4, 1, 1], &[AIR, AIR, AIR, CUBE], &[]) };
+    let words = rust::mesh(line.dims, &[], &line.grid, &Registry::of(&line.types), false).words();
+    assert!(words.vertices.contains(&0x3EB3_3334));
+}
