@@ -1,12 +1,14 @@
--- Which results are numbers: what is read from finite bits is finite, and sums, products and quotients of finite values are no NaN. Assumes nothing.
-use mathlib.Core.Path.{_≡_, refl, sym, ap, _∙_, subst}
+-- Which results are numbers: what is read from finite bits is finite, and sums, products and quotients of finite values are no NaN.
+-- Assumes nothing.
+use mathlib.Core.Path.{_≡_, subst}
 use Prim.Native.Nat.{ℕ, zero, suc, _+_, _-_, _*_, _/_, _%_, _^_, _≤_, _<_}
 use native.Mathlib.Omega.{arith}
 use mathlib.Core.Bool.{Bool, true, false, not, _&&_, Bool·beq, cond}
-use lib.IntN.{ℤ, pos, negsuc}
+use lib.IntN.{ℤ, pos}
 use lib.Dec.{T, leb, ltb, eqb, ltb→lt, lt→ltb, le→leb}
 use borrow.Author.Tests.{ne-eqb, le-ltb}
-use lib.Ieee.{Float, nan, inf, fin, Format, binary32, prec, emax, low, unlike, up, down, hid, odd, units, round, neg, sum, add, sub, mul, div, ofInt, inFloat, ofFields, ofBits, toBits, nanBits, isNan}
+use lib.Ieee.{Float, nan, inf, fin, Format, binary32, prec, emax, low, unlike, up, down, hid, odd, units, round, neg, sum, add, sub, mul}
+use lib.Ieee.{ofInt, inFloat, ofFields, ofBits, nanBits, isNan}
 use lib.Ieee.Fits.{round-is}
 use lib.Ieee.Bits.{nanBits-above}
 use lib.Ieee.Scale as scale
@@ -87,7 +89,8 @@ cond-number false h k = k
 
 units-number : (f : Format) (s : Bool) (q k : ℕ) → Number (units f s q k)
 unfolding units
-units-number f s q k = cond-number (ltb (q * 2 ^ k) (2 ^ (low f + suc (emax f)))) (number (odd-finite (suc (prec f)) s q k (low f))) (an-inf s)
+units-number f s q k = cond-number (ltb (q * 2 ^ k) (2 ^ (low f + suc (emax f)))) (number (odd-finite (suc (prec f)) s q k (low f)))
+    (an-inf s)
 
 pub round-number : (f : Format) (s : Bool) (a c : ℕ) → Number (round f s a c)
 round-number f s a c = rw round-is (units-number f s _ _)
@@ -95,7 +98,8 @@ round-number f s a c = rw round-is (units-number f s _ _)
 sum-number : (f : Format) (s : Bool) (a : ℕ) (t : Bool) (b c : ℕ) → Number (sum f s a t b c)
 unfolding sum
 sum-number f s a t b c =
-    cond-number (Bool·beq s t) (round-number f s (a + b) c) (cond-number (ltb a b) (round-number f t (b - a) c) (round-number f (s && ltb b a) (a - b) c))
+    cond-number (Bool·beq s t) (round-number f s (a + b) c) (cond-number (ltb a b) (round-number f t (b - a) c)
+    (round-number f (s && ltb b a) (a - b) c))
 
 -- a sum or a difference is no NaN where one side is finite and the other is no NaN
 pub add-number : {x y : Float} → Finite x → Number y → Number (add binary32 x y)

@@ -1,11 +1,11 @@
 // Float words: each float is its 32 bits, and f32 is met only inside these leaves. Nothing is fused.
 ghost use mathlib.Core.Path.{_≡_};
-ghost use mathlib.Core.Bool.{_&&_};
+ghost use mathlib.Core.Bool.{cond};
 ghost use Prim.Native.Nat.{_<_, _≤_};
 ghost use lib.Dec.{T};
 ghost use Rattle.rules.specs.Cells.{along};
 ghost use Rattle.rules.specs.Floats.{finite, finite3};
-ghost use Rattle.rules.specs.Cube.{cornerWord, startOf, uvWord};
+ghost use Rattle.rules.specs.Cube.{highOf, lowOf, cornerWord, startOf, endOf, uvWord};
 ghost use Rattle.rules.specs.Types.{movedWord};
 ghost use Rattle.floats.specs.Triples.{tripleOf};
 
@@ -44,17 +44,21 @@ pub fn is_finite_bits(x: u32) -> bool
 }
 
 // A corner's coordinate on one axis. It may be infinite.
+fn corner(high: bool, d: u32, centre: u32) -> f32
+    requires { ⌜ T (finite d) × T (finite centre) ⌝ }
+    ensures { λ r. ⌜ r ≡ cond high (highOf d centre) (lowOf d centre) ⌝ }
+{
+    let size = f32::from_bits(d);
+    let middle = f32::from_bits(centre);
+    let top = size / 2.0 + middle;
+    if high { top } else { top - size }
+}
+
 pub fn corner_word(high: bool, d: u32, centre: u32) -> u32
     requires { ⌜ T (finite d) × T (finite centre) ⌝ }
     ensures { λ r. ⌜ r ≡ cornerWord high d centre ⌝ }
 {
-    let size = f32::from_bits(d);
-    let top = size / 2.0 + f32::from_bits(centre);
-    if high {
-        f32::to_bits(top)
-    } else {
-        f32::to_bits(top - size)
-    }
+    f32::to_bits(corner(high, d, centre))
 }
 
 // Where a face's tile starts on one axis of the atlas. It is finite.
@@ -70,17 +74,25 @@ fn uv_start(named: bool, tile: u32, atlas: u32, padding: u32) -> f32
     }
 }
 
-// A uv coordinate: the tile's end, which may be infinite, or its start.
+// Where it ends. It may be infinite.
+fn uv_end(named: bool, tile: u32, atlas: u32, padding: u32) -> f32
+    requires { ⌜ (tile < 4096) × (0 < atlas) × (atlas ≤ 4096) × T (finite padding) ⌝ }
+    ensures { λ r. ⌜ r ≡ endOf named tile atlas padding ⌝ }
+{
+    let start = uv_start(named, tile, atlas, padding);
+    let wide = atlas as f32;
+    start + 1.0 / wide - f32::from_bits(padding) / wide * 2.0
+}
+
+// A uv coordinate: the tile's end or its start.
 pub fn uv_word(end: bool, named: bool, tile: u32, atlas: u32, padding: u32) -> u32
     requires { ⌜ (tile < 4096) × (0 < atlas) × (atlas ≤ 4096) × T (finite padding) ⌝ }
     ensures { λ r. ⌜ r ≡ uvWord end named tile atlas padding ⌝ }
 {
-    let start = uv_start(named, tile, atlas, padding);
     if end {
-        let wide = atlas as f32;
-        f32::to_bits(start + 1.0 / wide - f32::from_bits(padding) / wide * 2.0)
+        f32::to_bits(uv_end(named, tile, atlas, padding))
     } else {
-        f32::to_bits(start)
+        f32::to_bits(uv_start(named, tile, atlas, padding))
     }
 }
 

@@ -1,14 +1,13 @@
 -- Laws of log entries. Assumes nothing.
-use mathlib.Core.Path.{_≡_, refl, sym, ap, _∙_}
+use mathlib.Core.Path.{_≡_, refl, sym, ap}
 use mathlib.Core.Logic.{_≢_}
-use mathlib.Core.Bool.{Bool, true, false, cond, not, _&&_}
+use mathlib.Core.Bool.{Bool, true, false, not, _&&_}
 use mathlib.Core.List.{List, [], _∷_}
-use Prim.Native.Nat.{ℕ, zero, suc, _+_, _-_, _*_, _≤_, _<_}
+use Prim.Native.Nat.{ℕ, zero, suc, _+_, _-_, _≤_, _<_}
 use native.Mathlib.Omega.{arith}
 use native.Mathlib.Numerals.{add-one}
 use native.Mathlib.Nat.{add-zero}
-use lib.ListN.{length, getD, drop, take, length-drop}
-use lib.Seq.{take-suc, drop-cons, getD-drop}
+use lib.ListN.{length, getD}
 use Rattle.rules.specs.Lists.{each, table, part, every, lowestFrom}
 use Rattle.rules.specs.Update as rule
 use Rattle.rules.proofs.ListLaws.{getD-table, table-is}
@@ -31,16 +30,16 @@ unfolding every
 every-more n p = rw (add-one, every)
 
 -- ---- six words of a list, one by one
-pub six : (at : ℕ) (xs : List ℕ) → at + 6 ≤ length xs
-    → part at 6 xs ≡ getD xs at 0 ∷ getD xs (at + 1) 0 ∷ getD xs (at + 2) 0 ∷ getD xs (at + 3) 0 ∷ getD xs (at + 4) 0 ∷ getD xs (at + 5) 0 ∷ []
+abbrev pub sixAt : List ℕ → ℕ → List ℕ
+sixAt xs at =
+    getD xs at 0 ∷ getD xs (at + 1) 0 ∷ getD xs (at + 2) 0 ∷ getD xs (at + 3) 0 ∷ getD xs (at + 4) 0 ∷ getD xs (at + 5) 0 ∷ []
+
+pub six : (at : ℕ) (xs : List ℕ) → at + 6 ≤ length xs → table 6 (λ k. getD (sixAt xs at) k 0) ≡ part at 6 xs
 unfolding each
 six at xs h =
-    sym (table-is (λ f. getD xs (at + f) 0) 6 (part at 6 xs) 0 (length-part at 6 xs h) (λ k l. part-at at 6 xs k l))
-    ∙ ap (λ (k : ℕ). getD xs k 0 ∷ getD xs (at + 1) 0 ∷ getD xs (at + 2) 0 ∷ getD xs (at + 3) 0 ∷ getD xs (at + 4) 0 ∷ getD xs (at + 5) 0 ∷ []) (add-zero at)
-
-pub table-six : (a b c d e f : ℕ) → table 6 (λ k. getD (a ∷ b ∷ c ∷ d ∷ e ∷ f ∷ []) k 0) ≡ a ∷ b ∷ c ∷ d ∷ e ∷ f ∷ []
-unfolding each
-table-six a b c d e f = refl
+    let w : table 6 (λ f. getD xs (at + f) 0) ≡ part at 6 xs =
+    table-is (λ f. getD xs (at + f) 0) 6 (part at 6 xs) 0 (length-part at 6 xs h) (λ k l. part-at at 6 xs k l) in
+    rw (add-zero at) at w
 
 -- the neighbour given at a face
 pub given-is : (e : Entry) (f : Face) → rule.givenAt (entryIn e) (number f) ≡ getD (e .neighbours) (number f) 0

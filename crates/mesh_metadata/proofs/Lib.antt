@@ -1,3 +1,4 @@
 pub mod Slots
 pub mod Entries
 pub mod Meshes
+pub mod Layouts

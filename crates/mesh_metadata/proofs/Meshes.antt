@@ -1,5 +1,5 @@
 -- Links and slots of a mesh: what a draw and a removal make of them. Assumes nothing.
-use mathlib.Core.Path.{_≡_, refl, sym, ap, _∙_, subst}
+use mathlib.Core.Path.{_≡_, refl, sym, ap, _∙_}
 use mathlib.Core.Logic.{_≢_, _⊎_, inl, inr, ⊎-elim}
 use mathlib.Core.Bool.{Bool, true, false, cond, not, true≢false, false≢true}
 use mathlib.Core.List.{List, [], _∷_, _++_, map, append-nil}
@@ -11,17 +11,16 @@ use lib.Seq.{getD-take, getD-drop, getD-append-add, getD-set-same, getD-set-othe
 use lib.Dec.{eqb}
 use borrow.Author.Tests.{le-leb, lt-leb, le-ltb, lt-ltb, eq-eqb, ne-eqb, leb-false, eqb-true}
 use Rattle.rules.specs.Lists.{table, only, isNil, count}
-use Rattle.rules.specs.Cells.{firstVertex}
-use Rattle.rules.specs.Mesh.{Quad, at, there, placeOf, Lists, NONE, slotOf, layout}
+use Rattle.rules.specs.Cells.{firstVertex, onlyIf}
+use Rattle.rules.specs.Mesh.{Quad, at, there, placeOf, NONE, slotOf}
 use Rattle.rules.specs.Update.{blank, shifts, removeAt}
 use Rattle.rules.proofs.ListLaws.{All, all-at, split, length-table, getD-table, table-is}
-use Rattle.rules.proofs.Quads.{Once, Placed, placed, absent, at-append, at-removeAt, length-removeAt}
-use Rattle.rules.proofs.Laying.{Fits, keyAt, is-there, distinct-of-once, place-is, link-inside, links-at, keys-at, length-links}
+use Rattle.rules.proofs.Quads.{Once, placed, absent, at-append, at-removeAt, length-removeAt}
+use Rattle.rules.proofs.Laying.{Fits, keyAt, is-there, distinct-of-once, place-is}
 use Rattle.rules.proofs.Index.{isFull, Named, no-other}
 use Rattle.vav.specs.Rows.{sourceOf}
 use Rattle.vav.proofs.Laws.{source-bounds}
-use Rattle.mesh_metadata.specs.Index.{shifted, renum, Linked}
-use Rattle.mesh_metadata.specs.Index as index
+use Rattle.mesh_metadata.specs.Index.{vertexOf, shifted, renum}
 use Rattle.mesh_metadata.proofs.Slots.{order}
 
 map-at : (f : ℕ → ℕ) (S : List ℕ) (k : ℕ) → k < length S → getD (map f S) k 0 ≡ f (getD S k 0)
@@ -80,20 +79,23 @@ module _ (q : ℕ) (m : List Quad) (h : q < length m) where
   unfolding removeAt
   kept-high p =
       split (λ t. shifts Q q ≡ t → cond t (suc q) (Q - 1) ≤ p → p < Q → (q + (p - cond t (suc q) (Q - 1)) < Q - 1)
-      × (getD (cond t (take q m ++ drop (suc q) m) (take (Q - 1) (set m q (getD m (Q - 1) blank)))) (q + (p - cond t (suc q) (Q - 1))) blank ≡ getD m p blank))
+      × (getD (cond t (take q m ++ drop (suc q) m) (take (Q - 1) (set m q (getD m (Q - 1) blank))))
+      (q + (p - cond t (suc q) (Q - 1))) blank ≡ getD m p blank))
       (shifts Q q)
       (λ t s l b. let n = length-take-le q m (omega arith) in
       let i : q + (p - suc q) ≡ length (take q m) + (p - suc q) = omega arith in
-      let j : suc q + (p - suc q) ≡ p = omega arith in
-      (omega arith,
-      ap (λ (k : ℕ). getD (take q m ++ drop (suc q) m) k blank) i ∙ getD-append-add (take q m) (drop (suc q) m) (p - suc q) blank
-      ∙ getD-drop (suc q) m (p - suc q) blank ∙ ap (λ (k : ℕ). getD m k blank) j))
+      let j : suc q + (p - suc q) ≡ p = omega arith in (
+        omega arith,
+        ap (λ (k : ℕ). getD (take q m ++ drop (suc q) m) k blank) i ∙ getD-append-add (take q m) (drop (suc q) m) (p - suc q) blank
+            ∙ getD-drop (suc q) m (p - suc q) blank ∙ ap (λ (k : ℕ). getD m k blank) j,
+      ))
       (λ t s l b. let far = leb-false (Q - q) 6 s in
       let i : q + (p - (Q - 1)) ≡ q = omega arith in
-      let j : Q - 1 ≡ p = omega arith in
-      (omega arith,
-      rw i (getD-take (Q - 1) (set m q (getD m (Q - 1) blank)) q blank (omega arith) ∙ getD-set-same m q (getD m (Q - 1) blank) blank h
-      ∙ ap (λ (k : ℕ). getD m k blank) j)))
+      let j : Q - 1 ≡ p = omega arith in (
+        omega arith,
+        rw i (getD-take (Q - 1) (set m q (getD m (Q - 1) blank)) q blank (omega arith) ∙ getD-set-same m q (getD m (Q - 1) blank) blank h
+            ∙ ap (λ (k : ℕ). getD m k blank) j),
+      ))
       refl
 
   -- where a quad that stays is, and how its slot names it
@@ -108,7 +110,7 @@ module _ (q : ℕ) (m : List Quad) (h : q < length m) where
 slot-absent : (m : List Quad) (k : ℕ) → at k m ≡ [] → slotOf m k ≡ NONE
 slot-absent m k e = rw e
 
-slot-there : (m : List Quad) (r k : ℕ) → Once m → r < length m → keyAt m r ≡ k → slotOf m k ≡ firstVertex r
+pub slot-there : (m : List Quad) (r k : ℕ) → Once m → r < length m → keyAt m r ≡ k → slotOf m k ≡ firstVertex r
 slot-there m r k o l e =
     let p : placeOf k m ≡ r = ap (λ (i : ℕ). placeOf i m) (sym e) ∙ place-is m r (distinct-of-once m o) l in
     rw (is-there m r k l e, p)
@@ -132,6 +134,17 @@ place-past k (x ∷ m) b h = go (eqb k (x .key)) h (place-past k m b)
     go true h r = absurd (true≢false h)
     go false h r = let e = r h in omega arith
 
+-- LAW: no face has a quad yet
+pub slots-none : (n : ℕ) → table n (slotOf []) ≡ replicate n NONE
+slots-none n = table-is (slotOf []) n (replicate n NONE) 0 (length-replicate n NONE) (λ k l. getD-replicate n k NONE 0 l)
+
+-- LAW: what a slot's word tells of a face
+pub vertex-there : (m : List Quad) (k : ℕ) → firstVertex (length m) < NONE
+    → vertexOf (slotOf m k) ≡ onlyIf (there k m) (firstVertex (placeOf k m))
+vertex-there m k small =
+    split (λ t. there k m ≡ t → vertexOf (cond t (firstVertex (placeOf k m)) NONE) ≡ onlyIf t (firstVertex (placeOf k m))) (there k m)
+    (λ t e. let w = placed k m e .within in rw (ne-eqb (firstVertex (placeOf k m)) NONE (λ f. omega arith))) (λ t e. refl) refl
+
 module _ (m : List Quad) (o : Once m) where
   module _ (q : ℕ) (h : q < length m) where
     once-removed : Once (removeAt q m)
@@ -150,18 +163,21 @@ module _ (m : List Quad) (o : Once m) where
 
     module _ (small : firstVertex (length m) < NONE) where
       slot-removed : (k : ℕ) → renum q (length m) (slotOf m k) ≡ slotOf (removeAt q m) k
-      slot-removed k = split (λ t. there k m ≡ t → renum q (length m) (cond t (firstVertex (placeOf k m)) NONE) ≡ slotOf (removeAt q m) k) (there k m)
+      slot-removed k = split
+          (λ t. there k m ≡ t → renum q (length m) (cond t (firstVertex (placeOf k m)) NONE) ≡ slotOf (removeAt q m) k) (there k m)
           (λ t e. let p = placed k m e in place (p .within) (p .key) (ℕ-discrete (placeOf k m) q))
           (λ t e. renum-none q (length m) h small ∙ sym (slot-absent (removeAt q m) k (removed-absent k (inr (absent k m e)))))
           refl
         where
-          place : placeOf k m < length m → keyAt m (placeOf k m) ≡ k → Dec (placeOf k m ≡ q) → renum q (length m) (firstVertex (placeOf k m)) ≡ slotOf (removeAt q m) k
+          place : placeOf k m < length m → keyAt m (placeOf k m) ≡ k → Dec (placeOf k m ≡ q)
+              → renum q (length m) (firstVertex (placeOf k m)) ≡ slotOf (removeAt q m) k
           place l e (yes s) =
               ap (λ (p : ℕ). renum q (length m) (firstVertex p)) s ∙ renum-gone q (length m) h
               ∙ sym (slot-absent (removeAt q m) k (removed-absent k (inl (sym e ∙ ap (keyAt m) s))))
           place l e (no d) =
               let s = stays q m h (placeOf k m) l d in
-              s .3 ∙ sym (slot-there (removeAt q m) (s .0) k once-removed (omega (arith, s .1, length-removeAt q m h)) (ap (λ (x : Quad). x .key) (s .2) ∙ e))
+              s .3 ∙ sym (slot-there (removeAt q m) (s .0) k once-removed (omega (arith, s .1, length-removeAt q m h))
+              (ap (λ (x : Quad). x .key) (s .2) ∙ e))
 
       -- LAW: the slots of a mesh from which a quad was removed
       pub slots-removed : (n : ℕ) → map (renum q (length m)) (table n (slotOf m)) ≡ table n (slotOf (removeAt q m))
@@ -181,7 +197,8 @@ module _ (m : List Quad) (o : Once m) where
         let p : placeOf k (m ++ (x ∷ [])) ≡ length m = place-past k m (x ∷ []) n ∙ rw e (omega arith) in
         rw (a, p))
         (λ s e. let a : at k (m ++ (x ∷ [])) ≡ at k m = at-append k m (x ∷ []) ∙ rw e (append-nil (at k m)) in
-        rw a (split (λ t. there k m ≡ t → cond t (firstVertex (placeOf k (m ++ (x ∷ [])))) NONE ≡ cond t (firstVertex (placeOf k m)) NONE) (there k m)
+        rw a (split (λ t. there k m ≡ t
+        → cond t (firstVertex (placeOf k (m ++ (x ∷ [])))) NONE ≡ cond t (firstVertex (placeOf k m)) NONE) (there k m)
         (λ t f. ap firstVertex (place-before k m (x ∷ []) f)) (λ t f. refl) refl))
         refl
 
@@ -195,15 +212,17 @@ module _ (m : List Quad) (o : Once m) where
         (λ k l. word k l c (ℕ-discrete k (x .key)) ∙ sym (slot-drawn k)))
       where
         word : (k : ℕ) → k < n → length (table n (slotOf m)) ≡ n → Dec (k ≡ x .key)
-            → getD (set (table n (slotOf m)) (x .key) (firstVertex (length m))) k 0 ≡ cond (eqb k (x .key)) (firstVertex (length m)) (slotOf m k)
+            → getD (set (table n (slotOf m)) (x .key) (firstVertex (length m))) k 0
+            ≡ cond (eqb k (x .key)) (firstVertex (length m)) (slotOf m k)
         word k l c (yes e) =
             rw (eq-eqb k (x .key) e, e) (getD-set-same (table n (slotOf m)) (x .key) (firstVertex (length m)) 0 (omega arith))
         word k l c (no d) =
-            rw (ne-eqb k (x .key) d) (getD-set-other (table n (slotOf m)) (x .key) k (firstVertex (length m)) 0 d ∙ getD-table (slotOf m) n k 0 l)
+            rw (ne-eqb k (x .key) d)
+            (getD-set-other (table n (slotOf m)) (x .key) k (firstVertex (length m)) 0 d ∙ getD-table (slotOf m) n k 0 l)
 
--- ---- how many quads there are, and how their links and slots name each other
+-- ---- how many quads there are
 
-all-map : {P R : Quad → Type 0} → ((x : Quad) → P x → R x) → (m : List Quad) → All P m → All R m
+pub all-map : {P R : Quad → Type 0} → ((x : Quad) → P x → R x) → (m : List Quad) → All P m → All R m
 all-map f [] h = tt
 all-map f (x ∷ m) h = (f x (h .0), all-map f m (h .1))
 
@@ -229,7 +248,8 @@ few n (x ∷ m) o b = go (order n (suc (length m)))
         record {
           room = omega (arith, length-replicate {A = ℕ} n 0);
           below = λ q h. rw (key q) (all-at (λ y. y .key < n) m q blank (b .1) (omega arith));
-          full = λ q h. rw (key q) (rw (getD-replicate n (keyAt m q) 0 NONE (all-at (λ y. y .key < n) m q blank (b .1) (omega arith))) (λ e. omega arith));
+          full = λ q h. rw (key q)
+              (rw (getD-replicate n (keyAt m q) 0 NONE (all-at (λ y. y .key < n) m q blank (b .1) (omega arith))) (λ e. omega arith));
           apart = λ p q h r. rw (key p, key q) (distinct-of-once (x ∷ m) o (suc p) (suc q) (omega arith) (omega arith));
         }
 
@@ -241,30 +261,6 @@ few n (x ∷ m) o b = go (order n (suc (length m)))
         (rw (getD-replicate n (x .key) 0 NONE (b .0)) (λ e. omega arith)) in
         absurd (distinct-of-once (x ∷ m) o 0 (suc (i .0)) (omega arith) (omega (arith, i .1)) (sym (sym (key (i .0)) ∙ i .2)))
 
--- a mesh of n faces and s words a quad, as it lies in the lists
-module _ (n s highest : ℕ) (m : List Quad) (B : Lists) (hn : n ≤ 1073741823) (fits : All (Fits n s) m) (o : Once m) where
-  small : firstVertex (length m) < NONE
-  small = omega (arith, few n m o (all-map (λ x f. f .0) m fits))
-
-  -- LAW: links and slots name each other
-  pub linked : length m ≤ highest → highest ≤ length (B .links) → Linked (length m) ((layout n s highest m B) .links) (table n (slotOf m))
-  linked low room =
-      let wide : n ≤ 3221225472 = omega arith in
-      let links = (layout n s highest m B) .links in
-      let fit = all-at (Fits n s) m in
-      let t : length (table n (slotOf m)) ≡ n = length-table (slotOf m) n in
-      let key = keys-at n s highest wide m B fits in
-      record {
-        small = small;
-        room = omega (arith, length-links n s highest wide m B fits low room);
-        code = λ i l. let b = fit i blank fits l .0 in
-            rw (links-at n s highest wide m B fits i l) (link-inside (keyAt m i) (suc (keyAt m i)) (omega arith) (omega arith) .0);
-        slot = λ i l. let b = fit i blank fits l .0 in rw (key i l, t) b;
-        there = λ i l. let b = fit i blank fits l .0 in
-            rw (key i l) (getD-table (slotOf m) n (keyAt m i) 0 b ∙ slot-there m i (keyAt m i) o l refl);
-        back = λ k l. let b : k < n = omega arith in
-            rw (getD-table (slotOf m) n k 0 b)
-            (split (λ h. there k m ≡ h → index.Named (length m) links k (cond h (firstVertex (placeOf k m)) NONE)) (there k m)
-            (λ h e. let p = placed k m e in inr (placeOf k m, p .within, refl, key (placeOf k m) (p .within) ∙ p .key))
-            (λ h e. inl refl) refl);
-      }
+-- LAW: no vertex has the number that stands for none
+pub small : (n s : ℕ) (m : List Quad) → n ≤ 1073741823 → All (Fits n s) m → Once m → firstVertex (length m) < NONE
+small n s m h fits o = omega (arith, few n m o (all-map (λ x f. f .0) m fits))

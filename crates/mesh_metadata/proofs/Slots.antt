@@ -1,17 +1,32 @@
 -- Laws of slot words: what a removal does to them, one store after the other. Assumes nothing.
 use mathlib.Core.Path.{_≡_, refl, sym, ap, _∙_}
 use mathlib.Core.Logic.{_≢_, _⊎_, inl, inr, ⊎-elim}
-use mathlib.Core.List.{List, [], _∷_, map}
+use mathlib.Core.List.{List, [], _∷_, _++_, map, append-assoc}
 use mathlib.Core.Option.{none, some}
 use Prim.Native.Nat.{ℕ, zero, suc, _+_, _-_, _*_, _≤_, _<_}
 use native.Mathlib.Omega.{arith}
 use native.Mathlib.Decide.{decLt}
-use lib.ListN.{length, getD, set}
+use native.Mathlib.Numerals.{add-one}
+use lib.ListN.{length, getD, set, drop, replicate, length-replicate}
+use lib.Seq.{drop-cons, set-at}
 use borrow.Author.Tests.{le-leb, lt-leb, le-ltb, lt-ltb, eq-eqb, ne-eqb}
 use Rattle.rules.specs.Cells.{keyIn, firstVertex}
 use Rattle.rules.specs.Mesh.{NONE}
 use Rattle.vav.specs.Rows.{sourceOf}
-use Rattle.mesh_metadata.specs.Index.{vertexOf, shifted, renum, Named, Linked}
+use Rattle.vav.proofs.Laws.{replicate-more}
+use Rattle.mesh_metadata.specs.Index.{vertexOf, shifted, renum, Linked}
+
+-- a word of a list does not depend on what stands for none
+pub getD-any : (xs : List ℕ) (k d e : ℕ) → k < length xs → getD xs k d ≡ getD xs k e
+getD-any [] k d e h = absurd (omega arith)
+getD-any (x ∷ xs) zero d e h = refl
+getD-any (x ∷ xs) (suc k) d e h = getD-any xs k d e (omega arith)
+
+-- ---- one more slot is filled
+pub fill-more : (i v : ℕ) (xs : List ℕ) → i < length xs → set (replicate i v ++ drop i xs) i v ≡ replicate (i + 1) v ++ drop (i + 1) xs
+fill-more i v xs h =
+    rw (replicate-more i v, append-assoc (replicate i v) (v ∷ []) (drop (i + 1) xs), add-one, drop-cons xs i 0 h)
+    (set-at (replicate i v) (getD xs i 0) (drop (suc i) xs) v i (length-replicate i v))
 
 -- ---- an answer's vertex
 pub vertex-none : (word : ℕ) → word ≡ NONE → none ≡ vertexOf word

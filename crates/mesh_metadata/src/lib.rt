@@ -7,7 +7,7 @@ ghost use mathlib.Core.Path.{_≡_};
 ghost use mathlib.Core.Bool.{not};
 ghost use mathlib.Core.List.{map};
 ghost use Prim.Native.Nat.{_+_, _-_, _*_, _/_, _^_, _≤_, _<_};
-ghost use lib.ListN.{length, getD, set};
+ghost use lib.ListN.{length, getD, set, replicate};
 ghost use Rattle.rules.specs.Lists.{every, lowest};
 ghost use Rattle.rules.specs.Cells.{UNIT, linkWord, codeIn, keyOf, keyIn, firstVertex};
 ghost use Rattle.rules.specs.Mesh.{NONE};
@@ -41,20 +41,41 @@ fn slot_of(links: &[u32], quad: Quad) -> usize
     wide(face::key_of(links[at]))
 }
 
+// A slot names a quad by its first vertex.
+fn fill(slots: &mut [u32], slot: usize, quad: Quad)
+    requires { ⌜ (slot < length (now slots)) × (quad .0 < 2 ^ 30) ⌝ }
+    ensures { λ _. ⌜ now (slots .exit) ≡ set (now (slots .entry)) slot (firstVertex (quad .0)) ⌝ }
+{
+    let vertex = quad.first_vertex();
+    slots[slot] = vertex.0;
+}
+
+// No face has a quad.
+pub fn new(slots: &mut [u32])
+    ensures { λ _. ⌜ now (slots .exit) ≡ replicate (length (now (slots .entry))) NONE ⌝ }
+{
+    let mut i = 0;
+    while i < slots.len() {
+        slots[i] = NONE;
+        i += 1;
+    }
+}
+
 pub fn insert(links: &mut [u32], slots: &mut [u32], face: Face, cell: Cell, quad: Quad)
-    requires { ⌜ (cell .0 < UNIT) × (quad .0 < 2 ^ 30) × (quad .0 < length (now links)) × (keyOf (cell .0) (number face) < length (now slots)) ⌝ }
+    requires { ⌜ (cell .0 < UNIT) × (quad .0 < 2 ^ 30) × (quad .0 < length (now links))
+        × (keyOf (cell .0) (number face) < length (now slots)) ⌝ }
     ensures { λ _. ⌜ (now (links .exit) ≡ set (now (links .entry)) (quad .0) (linkWord (cell .0) (number face)))
         × (now (slots .exit) ≡ set (now (slots .entry)) (keyOf (cell .0) (number face)) (firstVertex (quad .0))) ⌝ }
 {
     let at = wide(quad.0);
     links[at] = face::link(cell, face);
     let slot = wide(face::key(cell, face));
-    slots[slot] = quad.first_vertex().0;
+    fill(slots, slot, quad);
 }
 
 pub fn get_quad_index(slots: &[u32], face: Face, cell: Cell) -> QuadIndex
     requires { ⌜ (cell .0 < UNIT) × (keyOf (cell .0) (number face) < length (now slots)) ⌝ }
-    ensures { λ r. ⌜ vertexIn r ≡ vertexOf (getD (now (slots .entry)) (keyOf (cell .0) (number face)) 0) ⌝ }
+    ensures { λ r. ⌜ vertexIn r ≡ vertexOf (getD (now (slots .entry)) (keyOf (cell .0) (number face)) NONE) ⌝ }
 {
     let slot = wide(face::key(cell, face));
     let vertex = slots[slot];
@@ -72,7 +93,7 @@ pub fn change_quad_index(slots: &mut [u32], links: &[u32], old: Quad, new: Quad)
     ensures { λ _. ⌜ now (slots .exit) ≡ set (now (slots .entry)) (keyIn (getD (now (links .entry)) (old .0) 0)) (firstVertex (new .0)) ⌝ }
 {
     let slot = slot_of(links, old);
-    slots[slot] = new.first_vertex().0;
+    fill(slots, slot, new);
 }
 
 pub fn remove_quad(slots: &mut [u32], links: &[u32], quad: Quad)

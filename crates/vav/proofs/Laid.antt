@@ -55,14 +55,16 @@ past-less s k highest old h =
     let e : suc (highest - suc k) ≡ highest - k = omega arith in
     let f : s + s * (highest - suc k) ≡ s * (highest - k) = omega (arith, ap (λ (n : ℕ). s * n) e) in
     sym (append-assoc (zeros s) (replicate (s * (highest - suc k)) 0) (drop (s * highest) old))
-    ∙ ap (λ (r : List ℕ). r ++ drop (s * highest) old) (replicate-append-replicate s (s * (highest - suc k)) 0 ∙ ap (λ (n : ℕ). replicate n 0) f)
+    ∙ ap (λ (r : List ℕ). r ++ drop (s * highest) old)
+    (replicate-append-replicate s (s * (highest - suc k)) 0 ∙ ap (λ (n : ℕ). replicate n 0) f)
 
 -- one row more: the words that it takes
 past-more : (s k highest : ℕ) (old : List ℕ) → k ≤ highest → s * suc k ≤ length old
     → (taken : List ℕ) × (length taken ≡ s) × (past s k highest old ≡ taken ++ past s (suc k) (max highest (suc k)) old)
 past-more s k highest old h l = go (decLt k highest)
   where
-    go : Dec (k < highest) → (taken : List ℕ) × (length taken ≡ s) × (past s k highest old ≡ taken ++ past s (suc k) (max highest (suc k)) old)
+    go : Dec (k < highest)
+        → (taken : List ℕ) × (length taken ≡ s) × (past s k highest old ≡ taken ++ past s (suc k) (max highest (suc k)) old)
     go (yes d) =
         let e : max highest (suc k) ≡ highest = omega arith in
         (zeros s, length-replicate s 0, rw e (sym (past-less s k highest old d)))
@@ -71,12 +73,18 @@ past-more s k highest old h l = go (decLt k highest)
         let f : s * (highest - k) ≡ 0 = let z : highest - k ≡ 0 = omega arith in rw z (omega arith) in
         let g : s * (suc k - suc k) ≡ 0 = let z : suc k - suc k ≡ 0 = omega arith in rw z (omega arith) in
         let w : s * highest + s ≡ s * suc k = let z : highest ≡ k = omega arith in rw z (omega arith) in
-        let t : length (take s (drop (s * highest) old)) ≡ s = length-take-le s (drop (s * highest) old) (simp length-drop (omega arith)) in (
+        let t : length (take s (drop (s * highest) old)) ≡ s =
+        length-take-le s (drop (s * highest) old) (simp length-drop (omega arith)) in (
           take s (drop (s * highest) old),
           t,
           rw (e, f, g) (sym (take-append-drop s (drop (s * highest) old))
               ∙ ap (λ (r : List ℕ). take s (drop (s * highest) old) ++ r) (drop-drop s (s * highest) old ∙ ap (λ (n : ℕ). drop n old) w)),
         )
+
+-- LAW: no quad yet
+pub none-laid : (s : ℕ) (enc : ℕ → Quad → List ℕ) (old : List ℕ) → laid s enc 0 [] old ≡ old
+unfolding laid
+none-laid s enc old = let z : s * 0 ≡ 0 = omega arith in rw z
 
 module _ (s : ℕ) (enc : ℕ → Quad → List ℕ) (highest : ℕ) (old : List ℕ) where
   -- a quad more: its row past those that are there
@@ -86,14 +94,16 @@ module _ (s : ℕ) (enc : ℕ → Quad → List ℕ) (highest : ℕ) (old : List
       rw (rows-append enc 0 m (x ∷ []), e, append-nil (enc (length m) x)) (append-assoc (rows enc 0 m) (enc (length m) x) rest)
 
   -- LAW: a row written past those of a mesh is a draw
-  pub draw-laid : (m : List Quad) (x : Quad) → Sized s enc m → length (enc (length m) x) ≡ s → length m ≤ highest → s * suc (length m) ≤ length old
+  pub draw-laid : (m : List Quad) (x : Quad) → Sized s enc m → length (enc (length m) x) ≡ s → length m ≤ highest
+      → s * suc (length m) ≤ length old
       → put (s * length m) (enc (length m) x) (laid s enc highest m old) ≡ laid s enc (max highest (suc (length m))) (m ++ (x ∷ [])) old
   unfolding laid
   draw-laid m x sized wide h l =
       let t = past-more s (length m) highest old h l in
       let n : length (m ++ (x ∷ [])) ≡ suc (length m) = length-append m (x ∷ []) ∙ omega arith in
       rw (t .2, n)
-      (put-mid (rows enc 0 m) (t .0) (past s (suc (length m)) (max highest (suc (length m))) old) (s * length m) s (length-rows s enc 0 m sized) (t .1) (enc (length m) x) wide
+      (put-mid (rows enc 0 m) (t .0) (past s (suc (length m)) (max highest (suc (length m))) old) (s * length m) s
+      (length-rows s enc 0 m sized) (t .1) (enc (length m) x) wide
       ∙ sym (rows-snoc m x (past s (suc (length m)) (max highest (suc (length m))) old)))
 
   -- the last row zeroed
@@ -103,7 +113,8 @@ module _ (s : ℕ) (enc : ℕ → Quad → List ℕ) (highest : ℕ) (old : List
   last-laid m x sized wide h =
       let n : length (m ++ (x ∷ [])) ≡ suc (length m) = length-append m (x ∷ []) ∙ omega arith in
       rw (n, rows-snoc m x (past s (suc (length m)) highest old))
-      (put-mid (rows enc 0 m) (enc (length m) x) (past s (suc (length m)) highest old) (s * length m) s (length-rows s enc 0 m sized) wide (zeros s) (length-replicate s 0)
+      (put-mid (rows enc 0 m) (enc (length m) x) (past s (suc (length m)) highest old) (s * length m) s
+      (length-rows s enc 0 m sized) wide (zeros s) (length-replicate s 0)
       ∙ ap (λ (r : List ℕ). rows enc 0 m ++ r) (past-less s (length m) highest old h))
 
 -- LAW: where rows depend on their place only, a removal zeroes the last
@@ -143,7 +154,8 @@ module _ (s : ℕ) (e : Quad → List ℕ) (highest : ℕ) (old : List ℕ) wher
       rw (flat-append a (b ++ c), flat-append b c, append-assoc (flat a) (flat b ++ flat c) rest, append-assoc (flat b) (flat c) rest)
 
   -- the rows of a stretch of quads, and other rows over them
-  taken-laid : (a b c : List Quad) (at n : ℕ) → Wide a → Wide b → at ≡ s * length a → n ≡ s * length b → part at n (lay (a ++ (b ++ c))) ≡ flat b
+  taken-laid : (a b c : List Quad) (at n : ℕ) → Wide a → Wide b → at ≡ s * length a → n ≡ s * length b
+      → part at n (lay (a ++ (b ++ c))) ≡ flat b
   unfolding laid
   taken-laid a b c at n u v p r =
       let t = past s (length (a ++ (b ++ c))) highest old in
@@ -157,12 +169,14 @@ module _ (s : ℕ) (e : Quad → List ℕ) (highest : ℕ) (old : List ℕ) wher
       let l : length (a ++ (d ++ c)) ≡ length (a ++ (b ++ c)) = simp length-append (omega arith) in
       let t = past s (length (a ++ (b ++ c))) highest old in
       rw (l, three a b c t, three a d c t)
-      (put-mid (flat a) (flat b) (flat c ++ t) (s * length a) (s * length b) (length-rows s (λ q x. e x) 0 a u) (length-rows s (λ q x. e x) 0 b v) (flat d)
+      (put-mid (flat a) (flat b) (flat c ++ t) (s * length a) (s * length b) (length-rows s (λ q x. e x) 0 a u)
+      (length-rows s (λ q x. e x) 0 b v) (flat d)
       (length-rows s (λ q x. e x) 0 d w ∙ ap (λ (k : ℕ). s * k) r))
 
   -- later rows shift down one
   shift-laid : (a : List Quad) (x : Quad) (b : List Quad) → Wide a → Wide (x ∷ b) → length (a ++ (x ∷ b)) ≤ highest
-      → put (s * length (a ++ b)) (zeros s) (put (s * length a) (part (s * suc (length a)) (s * length b) (lay (a ++ (x ∷ b)))) (lay (a ++ (x ∷ b))))
+      → put (s * length (a ++ b)) (zeros s)
+      (put (s * length a) (part (s * suc (length a)) (s * length b) (lay (a ++ (x ∷ b)))) (lay (a ++ (x ∷ b))))
       ≡ lay (a ++ b)
   shift-laid a x b u v h =
       let t = ends x b in
@@ -174,13 +188,16 @@ module _ (s : ℕ) (e : Quad → List ℕ) (highest : ℕ) (old : List ℕ) wher
       let g : a ++ (x ∷ b) ≡ a ++ (c ++ (y ∷ [])) = ap (λ (r : List Quad). a ++ r) (t .3) in
       let k : part (s * suc (length a)) (s * length b) (lay (a ++ (x ∷ b))) ≡ flat b =
       ap (λ (m : List Quad). part (s * suc (length a)) (s * length b) (lay m)) f
-      ∙ taken-laid (a ++ (x ∷ [])) b [] (s * suc (length a)) (s * length b) (all-append IsWide a (x ∷ []) u (v .0, tt)) (v .1) (ap (λ (i : ℕ). s * i) (sym n)) refl in
+      ∙ taken-laid (a ++ (x ∷ [])) b [] (s * suc (length a)) (s * length b) (all-append IsWide a (x ∷ []) u (v .0, tt)) (v .1)
+      (ap (λ (i : ℕ). s * i) (sym n)) refl in
       ap (put (s * length (a ++ b)) (zeros s))
       (rw (k, g) (over-laid a c (y ∷ []) b u (w .0) (v .1) (sym (t .2))) ∙ ap lay (sym (append-assoc a b (y ∷ []))))
-      ∙ last-laid s (λ q x. e x) highest old (a ++ b) y (all-append IsWide a b u (v .1)) (w .1 .0 0) (simp length-append (omega (arith, length-append a (x ∷ b))))
+      ∙ last-laid s (λ q x. e x) highest old (a ++ b) y (all-append IsWide a b u (v .1)) (w .1 .0 0)
+      (simp length-append (omega (arith, length-append a (x ∷ b))))
 
   -- the last row takes the place
-  swap-laid : (a : List Quad) (x : Quad) (b : List Quad) (z : Quad) → Wide a → Wide (x ∷ b) → Wide (z ∷ []) → length (a ++ (x ∷ (b ++ (z ∷ [])))) ≤ highest
+  swap-laid : (a : List Quad) (x : Quad) (b : List Quad) (z : Quad) → Wide a → Wide (x ∷ b) → Wide (z ∷ [])
+      → length (a ++ (x ∷ (b ++ (z ∷ [])))) ≤ highest
       → put (s * length (a ++ (z ∷ b))) (zeros s)
       (put (s * length a) (part (s * length (a ++ (z ∷ b))) (s * 1) (lay (a ++ (x ∷ (b ++ (z ∷ [])))))) (lay (a ++ (x ∷ (b ++ (z ∷ []))))))
       ≡ lay (a ++ (z ∷ b))
@@ -189,7 +206,8 @@ module _ (s : ℕ) (e : Quad → List ℕ) (highest : ℕ) (old : List ℕ) wher
       let f : a ++ (x ∷ (b ++ (z ∷ []))) ≡ (a ++ (x ∷ b)) ++ ((z ∷ []) ++ []) = sym (append-assoc a (x ∷ b) (z ∷ [])) in
       let k : part (s * length (a ++ (z ∷ b))) (s * 1) (lay (a ++ (x ∷ (b ++ (z ∷ []))))) ≡ flat (z ∷ []) =
       ap (λ (m : List Quad). part (s * length (a ++ (z ∷ b))) (s * 1) (lay m)) f
-      ∙ taken-laid (a ++ (x ∷ b)) (z ∷ []) [] (s * length (a ++ (z ∷ b))) (s * 1) (all-append IsWide a (x ∷ b) u v) w (ap (λ (i : ℕ). s * i) (sym n)) refl in
+      ∙ taken-laid (a ++ (x ∷ b)) (z ∷ []) [] (s * length (a ++ (z ∷ b))) (s * 1) (all-append IsWide a (x ∷ b) u v) w
+      (ap (λ (i : ℕ). s * i) (sym n)) refl in
       ap (put (s * length (a ++ (z ∷ b))) (zeros s))
       (rw k (over-laid a (x ∷ []) (b ++ (z ∷ [])) (z ∷ []) u (v .0, tt) w refl) ∙ ap lay (sym (append-assoc a (z ∷ b) (z ∷ []))))
       ∙ last-laid s (λ q x. e x) highest old (a ++ (z ∷ b)) z (all-append IsWide a (z ∷ b) u (w .0, v .1)) (w .0 0)
@@ -201,7 +219,8 @@ module _ (s : ℕ) (e : Quad → List ℕ) (highest : ℕ) (old : List ℕ) wher
       put (s * (length m - 1)) (zeros s) (put (s * length a) (part (s * (length m - 1)) (s * (length m - (length m - 1))) (lay m)) (lay m))
       ≡ lay (take (length m - 1) (set m (length a) (getD m (length m - 1) blank)))
 
-  swapped : (a : List Quad) (x : Quad) (b : List Quad) (z : Quad) → Wide a → Wide (x ∷ (b ++ (z ∷ []))) → length (a ++ (x ∷ (b ++ (z ∷ [])))) ≤ highest
+  swapped : (a : List Quad) (x : Quad) (b : List Quad) (z : Quad) → Wide a → Wide (x ∷ (b ++ (z ∷ [])))
+      → length (a ++ (x ∷ (b ++ (z ∷ [])))) ≤ highest
       → Swapped a (a ++ (x ∷ (b ++ (z ∷ []))))
   swapped a x b z u v h =
       let m = a ++ (x ∷ (b ++ (z ∷ []))) in
@@ -240,7 +259,8 @@ module _ (s : ℕ) (e : Quad → List ℕ) (highest : ℕ) (old : List ℕ) wher
       last [] v h l = absurd (omega arith)
       last (y ∷ b) v h l =
           let t = ends y b in
-          subst (λ (r : List Quad). Wide (x ∷ r) → length (a ++ (x ∷ r)) ≤ highest → Swapped a (a ++ (x ∷ r))) (sym (t .3)) (swapped a x (t .0) (t .1) u) v h
+          subst (λ (r : List Quad). Wide (x ∷ r) → length (a ++ (x ∷ r)) ≤ highest → Swapped a (a ++ (x ∷ r))) (sym (t .3))
+          (swapped a x (t .0) (t .1) u) v h
 
   -- LAW: a row freed is a removal
   pub remove-laid : (m : List Quad) (q : ℕ) → Sized s (λ q x. e x) m → q < length m → length m ≤ highest
@@ -250,5 +270,6 @@ module _ (s : ℕ) (e : Quad → List ℕ) (highest : ℕ) (old : List ℕ) wher
       let n : length (take q m) ≡ q = length-take-le q m (omega arith) in
       let w = all-parts IsWide (take q m) (getD m q blank ∷ drop (suc q) m) (subst Wide f sized) in
       subst (λ (k : ℕ). freed s k (length m) (lay m) ≡ lay (removeAt k m)) n
-      (subst (λ (r : List Quad). length r ≤ highest → freed s (length (take q m)) (length r) (lay r) ≡ lay (removeAt (length (take q m)) r)) (sym f)
+      (subst (λ (r : List Quad). length r ≤ highest
+      → freed s (length (take q m)) (length r) (lay r) ≡ lay (removeAt (length (take q m)) r)) (sym f)
       (remove-parts (take q m) (getD m q blank) (drop (suc q) m) (w .0) (w .1)) h)

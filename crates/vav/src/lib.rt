@@ -43,14 +43,17 @@ pub fn clear(list: &mut [u32], n: usize, q: usize)
     }
 }
 
-// Copies the words at `from` to `to`, which is not past it, so that the stretches may overlap.
-fn copy_down(list: &mut [u32], from: usize, to: usize, words: usize)
-    requires { ⌜ (to ≤ from) × (from + words ≤ length (now list)) ⌝ }
-    ensures { λ _. ⌜ now (list .exit) ≡ put to (part from words (now (list .entry))) (now (list .entry)) ⌝ }
+// Copies rows down, from row `from` on to row `to` on: the stretches may overlap.
+fn copy_down(list: &mut [u32], n: usize, from: usize, to: usize, rows: usize)
+    requires { ⌜ (n * to ≤ n * from) × (n * from + n * rows ≤ length (now list)) ⌝ }
+    ensures { λ _. ⌜ now (list .exit) ≡ put (n * to) (part (n * from) (n * rows) (now (list .entry))) (now (list .entry)) ⌝ }
 {
+    let start = n * from;
+    let at = n * to;
+    let words = n * rows;
     let mut i = 0;
     while i < words {
-        list[to + i] = list[from + i];
+        list[at + i] = list[start + i];
         i += 1;
     }
 }
@@ -76,6 +79,6 @@ pub fn free_row(list: &mut [u32], n: usize, q: usize, count: usize)
     ensures { λ _. ⌜ now (list .exit) ≡ freed n q count (now (list .entry)) ⌝ }
 {
     let from = source(q, count);
-    copy_down(list, n * from, n * q, n * (count - from));
+    copy_down(list, n, from, q, count - from);
     clear(list, n, count - 1);
 }

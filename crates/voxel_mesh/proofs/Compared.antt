@@ -1,13 +1,13 @@
 -- Floats compared: `==` on finite ones is the same way round, and what equals one side of `<` can stand for it. Assumes nothing.
 use mathlib.Core.Path.{_≡_, refl, sym, ap, _∙_, subst}
-use mathlib.Core.Bool.{Bool, true, false, not, _&&_, _||_, Bool·beq}
-use Prim.Native.Nat.{ℕ, zero, suc, _+_, _*_, _≤_, _<_}
+use mathlib.Core.Bool.{Bool, true, false, _||_, Bool·beq}
+use Prim.Native.Nat.{ℕ, zero, suc, _+_, _*_, _<_}
 use native.Mathlib.Nat.{zero-add, mul-right-comm, mul-pos, zero-mul, mul-lt-mul-of-pos-right, lt-of-mul-lt-mul-right, lt-irrefl}
 use native.Mathlib.Omega.{arith}
-use lib.Dec.{T, eqb, ltb, eqb→eq, eqb-refl, ltb→lt, lt→ltb}
+use lib.Dec.{T, eqb, eqb→eq, eqb-refl, ltb→lt, lt→ltb}
 use lib.Ieee.{Float, nan, inf, fin, up, down, level, below, eq, lt}
 use lib.Ieee.Fits.{down-pos, and-l, and-r, and-i}
-use lib.Ieee.Bits.{is-true, is-false}
+use lib.Ieee.Bits.{is-true}
 use lib.Ieee.Scale.{finite}
 use Rattle.floats.proofs.Numbers.{Finite, is-fin}
 

@@ -1,13 +1,12 @@
 -- A fresh cube passes the class test exactly where it surrounds its centre: on each axis both sides are finite and low < centre ≤ high.
 -- Assumes nothing.
-use mathlib.Core.Path.{_≡_, refl, sym, ap, _∙_, subst}
+use mathlib.Core.Path.{_≡_, refl, sym, _∙_, subst}
 use mathlib.Core.Bool.{Bool, true, false, not, _&&_, cond}
 use mathlib.Core.List.{List}
-use Prim.Native.Nat.{ℕ, zero, suc, _+_, _*_, _/_, _%_, _≤_, _<_}
+use Prim.Native.Nat.{ℕ, zero, suc, _+_, _*_, _/_, _%_, _<_}
 use native.Mathlib.Nat.{zero-add}
 use native.Mathlib.Omega.{arith}
-use lib.Dec.{T, eqb, lit<, lit≤}
-use lib.ListN.{getD}
+use lib.Dec.{T, eqb, lit<}
 use lib.Ieee.{Float, binary32, eq, lt}
 use lib.Ieee.Fits.{add-fits, sub-fits, and-l, and-r, and-i}
 use lib.Ieee.Bits.{ofBits-toBits, is-true, is-false}
@@ -54,8 +53,10 @@ record Axis (h l c : Float) : Type 0 where
   lc : lt l c ≡ true
   hc : lt h c ≡ false
 
-module _ (P : Bool → ℕ → Float) (c : ℕ → Float) (x : Axis (P true 0) (P false 0) (c 0)) (y : Axis (P true 1) (P false 1) (c 1)) (z : Axis (P true 2) (P false 2) (c 2))
-    (hx : eq (P true 0) (P false 0) ≡ false) (lx : eq (P false 0) (P true 0) ≡ false) (hy : eq (P true 1) (P false 1) ≡ false) (ly : eq (P false 1) (P true 1) ≡ false) where
+module _ (P : Bool → ℕ → Float) (c : ℕ → Float) (x : Axis (P true 0) (P false 0) (c 0)) (y : Axis (P true 1) (P false 1) (c 1))
+    (z : Axis (P true 2) (P false 2) (c 2))
+    (hx : eq (P true 0) (P false 0) ≡ false) (lx : eq (P false 0) (P true 0) ≡ false) (hy : eq (P true 1) (P false 1) ≡ false)
+    (ly : eq (P false 1) (P true 1) ≡ false) where
   all-pass : all P c ≡ true
   unfolding corners
   all-pass = simp (x .hh, x .ll, x .lc, x .hc, y .hh, y .ll, y .lc, y .hc, z .hh, z .ll, z .lc, z .hc, hx, lx, hy, ly)
@@ -90,7 +91,8 @@ back-is false q true false t h = absurd h
 back-is false q false p true h = absurd h
 back-is false q false p false h = refl
 
-forward-is : (e q g p t : Bool) → T (eqb (orElse (cond e (cond q 3 2) 6) (orElse (cond g (cond p 1 0) 6) (cond t 5 4))) 5) → (g ≡ false) × (t ≡ true)
+forward-is : (e q g p t : Bool) → T (eqb (orElse (cond e (cond q 3 2) 6) (orElse (cond g (cond p 1 0) 6) (cond t 5 4))) 5)
+    → (g ≡ false) × (t ≡ true)
 forward-is true true g p t h = absurd h
 forward-is true false g p t h = absurd h
 forward-is false q true true t h = absurd h
@@ -98,7 +100,8 @@ forward-is false q true false t h = absurd h
 forward-is false q false p true h = (refl, refl)
 forward-is false q false p false h = absurd h
 
-module _ (P : Bool → ℕ → Float) (c : ℕ → Float) (hh : (axis : ℕ) → axis < 3 → eq (P true axis) (P true axis) ≡ true) (ll : (axis : ℕ) → axis < 3 → eq (P false axis) (P false axis) ≡ true)
+module _ (P : Bool → ℕ → Float) (c : ℕ → Float) (hh : (axis : ℕ) → axis < 3
+    → eq (P true axis) (P true axis) ≡ true) (ll : (axis : ℕ) → axis < 3 → eq (P false axis) (P false axis) ≡ true)
     (hl : (axis : ℕ) → axis < 3 → eq (P true axis) (P false axis) ≡ eq (P false axis) (P true axis)) (pass : T (all P c)) where
   firsts : T (both P c 0) × T (both P c 1) × T (both P c 2) × T (both P c 3) × T (both P c 4) × T (both P c 5)
   firsts =
@@ -110,8 +113,14 @@ module _ (P : Bool → ℕ → Float) (c : ℕ → Float) (hh : (axis : ℕ) →
       let t5 = and-l a5 (both P c 5) pass in
       let t4 = and-l a4 (both P c 4) t5 in
       let t3 = and-l a3 (both P c 3) t4 in
-      let t2 = and-l a2 (both P c 2) t3 in
-      (and-l a1 (both P c 1) t2, and-r a1 (both P c 1) t2, and-r a2 (both P c 2) t3, and-r a3 (both P c 3) t4, and-r a4 (both P c 4) t5, and-r a5 (both P c 5) pass)
+      let t2 = and-l a2 (both P c 2) t3 in (
+        and-l a1 (both P c 1) t2,
+        and-r a1 (both P c 1) t2,
+        and-r a2 (both P c 2) t3,
+        and-r a3 (both P c 3) t4,
+        and-r a4 (both P c 4) t5,
+        and-r a5 (both P c 5) pass,
+      )
 
   one : (n : ℕ) → T (both P c n) → T (eqb (face P c (4 * n) (4 * n + 1) (4 * n + 3)) n)
   one n h = and-l (eqb (face P c (4 * n) (4 * n + 1) (4 * n + 3)) n) (eqb (face P c (4 * n + 2) (4 * n + 3) (4 * n + 1)) n) h
@@ -129,13 +138,15 @@ module _ (P : Bool → ℕ → Float) (c : ℕ → Float) (hh : (axis : ℕ) →
   bottom : (eq (P false 0) (P true 0) && eq (P true 0) (P false 0) && eq (P false 0) (P false 0) ≡ false) × (lt (P false 1) (c 1) ≡ true)
   unfolding corners
   bottom =
-      bottom-is (eq (P false 0) (P true 0) && eq (P true 0) (P false 0) && eq (P false 0) (P false 0)) (lt (P false 0) (c 0)) (lt (P false 1) (c 1)) _ (simp (ll 1 (lit< tt)) at (one 1 (firsts .1)))
+      bottom-is (eq (P false 0) (P true 0) && eq (P true 0) (P false 0) && eq (P false 0) (P false 0)) (lt (P false 0) (c 0))
+      (lt (P false 1) (c 1)) _ (simp (ll 1 (lit< tt)) at (one 1 (firsts .1)))
 
   forward : (eq (P false 1) (P false 1) && eq (P false 1) (P true 1) && eq (P false 1) (P true 1) ≡ false) × (lt (P false 2) (c 2) ≡ true)
   unfolding corners
   forward =
       forward-is (eq (P true 0) (P false 0) && eq (P false 0) (P true 0) && eq (P true 0) (P true 0)) (lt (P true 0) (c 0))
-      (eq (P false 1) (P false 1) && eq (P false 1) (P true 1) && eq (P false 1) (P true 1)) (lt (P false 1) (c 1)) (lt (P false 2) (c 2)) (simp (ll 2 (lit< tt)) at (one 5 (firsts .5)))
+      (eq (P false 1) (P false 1) && eq (P false 1) (P true 1) && eq (P false 1) (P true 1)) (lt (P false 1) (c 1)) (lt (P false 2)
+      (c 2)) (simp (ll 2 (lit< tt)) at (one 5 (firsts .5)))
 
   y-axis : Axis (P true 1) (P false 1) (c 1)
   unfolding corners
@@ -143,7 +154,8 @@ module _ (P : Bool → ℕ → Float) (c : ℕ → Float) (hh : (axis : ℕ) →
     hh = hh 1 (lit< tt);
     ll = ll 1 (lit< tt);
     lc = bottom .1;
-    hc = top-is (eq (P false 0) (P true 0) && eq (P true 0) (P false 0) && eq (P false 0) (P false 0)) (lt (P false 0) (c 0)) (lt (P true 1) (c 1)) _ (simp (hh 1 (lit< tt)) at (one 0 (firsts .0)));
+    hc = top-is (eq (P false 0) (P true 0) && eq (P true 0) (P false 0) && eq (P false 0) (P false 0)) (lt (P false 0) (c 0))
+        (lt (P true 1) (c 1)) _ (simp (hh 1 (lit< tt)) at (one 0 (firsts .0)));
   }
 
   z-axis : Axis (P true 2) (P false 2) (c 2)
@@ -154,7 +166,8 @@ module _ (P : Bool → ℕ → Float) (c : ℕ → Float) (hh : (axis : ℕ) →
     lc = forward .1;
     hc =
         back-is (eq (P true 0) (P false 0) && eq (P false 0) (P true 0) && eq (P true 0) (P true 0)) (lt (P true 0) (c 0))
-        (eq (P true 1) (P true 1) && eq (P true 1) (P false 1) && eq (P true 1) (P false 1)) (lt (P true 1) (c 1)) (lt (P true 2) (c 2)) (simp (hh 2 (lit< tt)) at (one 4 (firsts .4)));
+        (eq (P true 1) (P true 1) && eq (P true 1) (P false 1) && eq (P true 1) (P false 1)) (lt (P true 1) (c 1)) (lt (P true 2)
+        (c 2)) (simp (hh 2 (lit< tt)) at (one 4 (firsts .4)));
   }
 
 -- ---- the words of a cube's positions
@@ -178,10 +191,16 @@ module _ (q : Shape) (C : T (finite3 (q .centre))) where
   unfolding cubeWords cubeWord
   word-is i axis I A =
       let below : axis < n = omega (arith, few (q .coloured)) in
-      rw (getD-each n (λ v. table n (cubeWord q v)) (λ v. length-table n (cubeWord q v)) 24 0 i axis I below, zero-add i, getD-table n (cubeWord q i) axis below, lt-ltb axis 3 A)
+      rw (
+        getD-each n (λ v. table n (cubeWord q v)) (λ v. length-table n (cubeWord q v)) 24 0 i axis I below,
+        zero-add i,
+        getD-table n (cubeWord q i) axis below,
+        lt-ltb axis 3 A,
+      )
       (corner-is (isHigh i axis) q axis)
 
-  at-is : (axis low high i j k : ℕ) → axis < 3 → i < 24 → j < 24 → k < 24 → classAt vs n (q .centre) axis low high i j k ≡ on (sideAt q) c axis low high i j k
+  at-is : (axis low high i j k : ℕ) → axis < 3 → i < 24 → j < 24 → k < 24
+      → classAt vs n (q .centre) axis low high i j k ≡ on (sideAt q) c axis low high i j k
   unfolding classAt classOn
   at-is axis low high i j k A I J K = simp (word-is i axis I A, word-is j axis J A, word-is k axis K A)
 
@@ -192,12 +211,21 @@ module _ (q : Shape) (C : T (finite3 (q .centre))) where
   classed-is : (f : ℕ) → f < 6 → classed vs n (q .centre) f ≡ both (sideAt q) c f
   unfolding classed
   classed-is f F =
-      simp
-      (class-is (4 * f) (4 * f + 1) (4 * f + 3) (omega arith) (omega arith) (omega arith), class-is (4 * f + 2) (4 * f + 3) (4 * f + 1) (omega arith) (omega arith) (omega arith))
+      simp (
+        class-is (4 * f) (4 * f + 1) (4 * f + 3) (omega arith) (omega arith) (omega arith),
+        class-is (4 * f + 2) (4 * f + 3) (4 * f + 1) (omega arith) (omega arith) (omega arith),
+      )
 
   all-is : every 6 (classed vs n (q .centre)) ≡ all (sideAt q) c
   unfolding every
-  all-is = simp (classed-is 0 (lit< tt), classed-is 1 (lit< tt), classed-is 2 (lit< tt), classed-is 3 (lit< tt), classed-is 4 (lit< tt), classed-is 5 (lit< tt))
+  all-is = simp (
+    classed-is 0 (lit< tt),
+    classed-is 1 (lit< tt),
+    classed-is 2 (lit< tt),
+    classed-is 3 (lit< tt),
+    classed-is 4 (lit< tt),
+    classed-is 5 (lit< tt),
+  )
 
   -- ---- the positions are finite exactly where the six sides are
 
@@ -224,7 +252,8 @@ module _ (q : Shape) (C : T (finite3 (q .centre))) where
   all-placed : ((b : Bool) (axis : ℕ) → axis < 3 → Finite (sideAt q b axis)) → T (every 72 finite-at)
   all-placed p =
       every-of 72 finite-at
-      (λ k K. finite-bits (positionOf vs n (k / 3) (k % 3)) (subst Finite (sym (word-is (k / 3) (k % 3) (omega arith) (omega arith))) (p (isHigh (k / 3) (k % 3)) (k % 3) (omega arith))))
+      (λ k K. finite-bits (positionOf vs n (k / 3) (k % 3)) (subst Finite (sym (word-is (k / 3) (k % 3) (omega arith) (omega arith)))
+      (p (isHigh (k / 3) (k % 3)) (k % 3) (omega arith))))
 
   -- ---- both ways
 
@@ -234,15 +263,28 @@ module _ (q : Shape) (C : T (finite3 (q .centre))) where
       let fin = sides-finite (placed vs n (and-l (every 72 finite-at) (every 6 (classed vs n (q .centre))) h)) in
       let hh : (axis : ℕ) → axis < 3 → eq (sideAt q true axis) (sideAt q true axis) ≡ true = λ axis A. eq-self (fin true axis A) in
       let ll : (axis : ℕ) → axis < 3 → eq (sideAt q false axis) (sideAt q false axis) ≡ true = λ axis A. eq-self (fin false axis A) in
-      let hl : (axis : ℕ) → axis < 3 → eq (sideAt q true axis) (sideAt q false axis) ≡ eq (sideAt q false axis) (sideAt q true axis) = λ axis A. eq-turned (fin true axis A) (fin false axis A) in
+      let hl : (axis : ℕ) → axis < 3 → eq (sideAt q true axis) (sideAt q false axis) ≡ eq (sideAt q false axis) (sideAt q true axis) =
+      λ axis A. eq-turned (fin true axis A) (fin false axis A) in
       let pass = subst T all-is (and-r (every 72 finite-at) (every 6 (classed vs n (q .centre))) h) in
       let x = x-axis (sideAt q) c hh ll hl pass in
       let y = y-axis (sideAt q) c hh ll hl pass in
       let z = z-axis (sideAt q) c hh ll hl pass in
       let f2 : (b : Bool) (axis : ℕ) → axis < 3 → scale.finite (sideAt q b axis) ≡ true = λ b axis A. is-true _ (tells (fin b axis A)) in
       holds {a = surrounds q}
-      (simp
-      (f2 true 0 (lit< tt), f2 false 0 (lit< tt), f2 true 1 (lit< tt), f2 false 1 (lit< tt), f2 true 2 (lit< tt), f2 false 2 (lit< tt), x .lc, x .hc, y .lc, y .hc, z .lc, z .hc))
+      (simp (
+        f2 true 0 (lit< tt),
+        f2 false 0 (lit< tt),
+        f2 true 1 (lit< tt),
+        f2 false 1 (lit< tt),
+        f2 true 2 (lit< tt),
+        f2 false 2 (lit< tt),
+        x .lc,
+        x .hc,
+        y .lc,
+        y .hc,
+        z .lc,
+        z .hc,
+      ))
 
   record Around (axis : ℕ) : Type 0 where
     high : Finite (sideAt q true axis)
@@ -284,7 +326,8 @@ module _ (q : Shape) (C : T (finite3 (q .centre))) where
       let y = around-is 1 (and-r a0 a1 (and-l (a0 && a1) a2 h)) in
       let z = around-is 2 (and-r (a0 && a1) a2 h) in
       and-i (every 72 finite-at) (every 6 (classed vs n (q .centre))) (all-placed (finite-side x y z))
-      (holds (all-is ∙ all-pass (sideAt q) c (axis-of 0 x) (axis-of 1 y) (axis-of 2 z) (high-low 0 x) (low-high 0 x) (high-low 1 y) (low-high 1 y)))
+      (holds (all-is ∙ all-pass (sideAt q) c (axis-of 0 x) (axis-of 1 y) (axis-of 2 z) (high-low 0 x) (low-high 0 x) (high-low 1 y)
+      (low-high 1 y)))
     where
       past : (k : ℕ) → suc (suc (suc k)) < 3 → ⊥
       past k h = omega arith

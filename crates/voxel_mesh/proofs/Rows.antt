@@ -51,7 +51,8 @@ module _ (w : ℕ) (p : ℕ → List ℕ) (wide : (k : ℕ) → length (p k) ≡
   getD-each (suc n) i (suc j) k J K =
       let e : w * suc j + k ≡ length (p i) + (w * j + k) = omega (arith, mul-suc w j, wide i) in
       let s : suc i + j ≡ i + suc j = omega arith in
-      rw e (getD-append-add (p i) (each n (suc i) p) (w * j + k) 0 ∙ getD-each n (suc i) j k (omega arith) K ∙ ap (λ (m : ℕ). getD (p m) k 0) s)
+      rw e (getD-append-add (p i) (each n (suc i) p) (w * j + k) 0 ∙ getD-each n (suc i) j k (omega arith) K
+      ∙ ap (λ (m : ℕ). getD (p m) k 0) s)
 
   pub written-none : (xs : List ℕ) → xs ≡ written w p 0 xs
   unfolding each
@@ -66,7 +67,15 @@ module _ (w : ℕ) (p : ℕ → List ℕ) (wide : (k : ℕ) → length (p k) ≡
   written-more n xs out ys o e =
       let a : n * w + w - n * w ≡ w = omega arith in
       let l = length-each n 0 in
-      rw (o, e, a, take-at (each n 0 p) (drop (n * w) xs) (n * w) l, drop-drop w (n * w) (written w p n xs), ← l, drop-append-add (each n 0 p) (drop (length (each n 0 p)) xs) w)
+      rw (
+        o,
+        e,
+        a,
+        take-at (each n 0 p) (drop (n * w) xs) (n * w) l,
+        drop-drop w (n * w) (written w p n xs),
+        ← l,
+        drop-append-add (each n 0 p) (drop (length (each n 0 p)) xs) w,
+      )
       (rw (l, drop-drop w (n * w) xs, add-one n, each-more n 0 p, suc-mul n w, zero-add n)
       (sym (append-assoc (each n 0 p) (p n) (drop (n * w + w) xs))))
 
@@ -89,7 +98,8 @@ filled-none v xs = refl
 pub filled-more : (v : ℕ → ℕ) (n : ℕ) (xs : List ℕ) → n < length xs → set (filled v n xs) n (v n) ≡ filled v (n + 1) xs
 filled-more v n xs h =
     rw (add-one, drop-cons xs n 0, each-more n 0 (λ k. v k ∷ []), zero-add n)
-    (set-at (table n v) (getD xs n 0) (drop (suc n) xs) (v n) n (length-table n v) ∙ sym (append-assoc (table n v) (v n ∷ []) (drop (suc n) xs)))
+    (set-at (table n v) (getD xs n 0) (drop (suc n) xs) (v n) n (length-table n v)
+    ∙ sym (append-assoc (table n v) (v n ∷ []) (drop (suc n) xs)))
 
 pub length-filled : (v : ℕ → ℕ) (n : ℕ) (xs : List ℕ) → n ≤ length xs → length (filled v n xs) ≡ length xs
 length-filled v n xs h = simp (length-append, length-table, length-drop) (omega arith)

@@ -1,5 +1,5 @@
 -- What an accepted shape, and a cube with finite positions, say of each word. Assumes nothing.
-use mathlib.Core.Path.{_≡_, refl, sym, ap, _∙_, subst}
+use mathlib.Core.Path.{_≡_, refl, sym, subst}
 use mathlib.Core.Bool.{Bool, true, false, not, _&&_, _||_, cond}
 use mathlib.Core.List.{List}
 use Prim.Native.Nat.{ℕ, zero, suc, _+_, _*_, _/_, _%_, _≤_, _<_}
@@ -7,23 +7,21 @@ use native.Mathlib.Nat.{mul-le-mul-left, mul-suc}
 use native.Mathlib.Omega.{arith}
 use lib.Dec.{T, eqb, ltb, lit≤}
 use lib.ListN.{length, getD}
-use lib.Ieee.Bits.{is-true, is-false}
+use lib.Ieee.Bits.{is-false}
 use lib.Ieee.Fits.{and-l, and-r}
-use borrow.Author.Tests.{ltb-false, eqb-true, not-false}
+use borrow.Author.Tests.{ltb-false, eqb-true, eq-eqb, not-false}
 use Rattle.rules.specs.Lists.{every}
 use Rattle.rules.specs.Floats.{finite, finite3}
 use Rattle.rules.specs.Cells.{Triple, along}
 use Rattle.rules.specs.Cube.{Shape, floatsOf, atlasAlong}
-use Rattle.rules.specs.Types.{Types, positionOf}
-use Rattle.rules.specs.Answers.{Verdict, fine, refuse, _then_, refuseIf, refuseLowest, outOf, entries, badTile, badAtlas, badCounts, BAD-NUMBER, BAD-TEXTURE}
+use Rattle.rules.specs.Types.{Types, floats, cubeOf, positionOf, classed, isCube}
+use Rattle.rules.specs.Answers.{Verdict, fine, refuse, _then_, refuseIf, refuseLowest, outOf, entries, badTile, badAtlas, badCounts}
+use Rattle.rules.specs.Answers.{notACube, BAD-NUMBER, BAD-TEXTURE}
 use Rattle.voxel_mesh.specs.Tests.{Placed, Counted}
 use Rattle.voxel_mesh.specs.Outcome.{Accepted, verdictIn}
 use Rattle.rules.proofs.ListLaws.{or-false}
 use Rattle.rules.proofs.Checking.{then-fine, if-fine}
 use Rattle.rules.proofs.Searches.{every-at}
-
-never : (n p : ℕ) → fine ≡ refuse n p → ⊥
-never n p e = let z : _≡_ {A = ℕ} 0 1 = cc in omega arith
 
 -- a vertex has 8 to 12 words
 pub few : (coloured : Bool) → (8 ≤ floatsOf coloured) × (floatsOf coloured ≤ 12)
@@ -86,7 +84,8 @@ module _ (q : Shape) (e : badAtlas q ≡ false) where
   tile-in i axis I A = go axis A
     where
       fine : badTile (q .texture) i ≡ false
-      fine = is-false _ (every-at (entries (q .texture)) (λ k. not (badTile (q .texture) k)) (subst T (sym (not-false tiles (or-false sizes (not tiles) e .1))) tt) i I)
+      fine = is-false _ (every-at (entries (q .texture)) (λ k. not (badTile (q .texture) k))
+          (subst T (sym (not-false tiles (or-false sizes (not tiles) e .1))) tt) i I)
 
       both : (ltb 4095 (getD (q .texture) (3 * i + 1) 0) ≡ false) × (ltb 4095 (getD (q .texture) (3 * i + 2) 0) ≡ false)
       both = or-false _ _ fine
@@ -95,8 +94,14 @@ module _ (q : Shape) (e : badAtlas q ≡ false) where
       past k h = omega arith
 
       go : (axis : ℕ) → axis < 2 → getD (q .texture) (3 * i + 1 + axis) 0 < 4096
-      go zero h = let p : 3 * i + 1 + 0 ≡ 3 * i + 1 = omega arith in rw p (omega (arith, ltb-false 4095 (getD (q .texture) (3 * i + 1) 0) (both .0)))
-      go (suc zero) h = let p : 3 * i + 1 + 1 ≡ 3 * i + 2 = omega arith in rw p (omega (arith, ltb-false 4095 (getD (q .texture) (3 * i + 2) 0) (both .1)))
+      go zero h = let p : 3 * i + 1 + 0 ≡ 3 * i + 1 = omega arith in rw p (omega (
+        arith,
+        ltb-false 4095 (getD (q .texture) (3 * i + 1) 0) (both .0),
+      ))
+      go (suc zero) h = let p : 3 * i + 1 + 1 ≡ 3 * i + 2 = omega arith in rw p (omega (
+        arith,
+        ltb-false 4095 (getD (q .texture) (3 * i + 2) 0) (both .1),
+      ))
       go (suc (suc k)) h = absurd (past k h)
 
 -- ---- counts that are not bad
@@ -140,3 +145,15 @@ accepted q room r =
       },
       ltb-false _ _ (if-fine _ 9 0 (c .1)),
     )
+
+-- the positions of each NormalCube that is a cube are finite
+pub cube-placed : (types : Types) (centre : Triple) (t : ℕ) → notACube types centre t ≡ false → getD (types .kinds) t 0 ≡ 1
+    → Placed (cubeOf types t) (floats types)
+unfolding notACube isCube
+cube-placed types centre t e k =
+    let cube = cubeOf types t in
+    let n = floats types in
+    let finite-all = every 72 (λ j. finite (positionOf cube n (j / 3) (j % 3))) in
+    let classed-all = every 6 (classed cube n centre) in
+    let whole : T (finite-all && classed-all) = subst T (sym (not-false (finite-all && classed-all) (rw (eq-eqb _ _ k) at e))) tt in
+    placed cube n (and-l finite-all classed-all whole)

@@ -2,9 +2,9 @@
 use Prim.Native.Nat.{ℕ, _*_, _<_, _≤_}
 use mathlib.Core.Path.{_≡_}
 use lib.ListN.{length}
-use lib.Dec.{T}
-use Rattle.rules.specs.Floats.{finite}
 use mathlib.Core.Bool.{Bool}
+use lib.Dec as Dec
+use Rattle.rules.specs.Floats.{finite}
 use mathlib.Core.List.{List}
 use Rattle.rules.specs.Cells.{Triple}
 use Rattle.rules.specs.Cube.{floatsOf}
@@ -26,7 +26,7 @@ pub record Words (cube : List ℕ) (floats : ℕ) : Type 0 where
 
 -- every position is finite
 abbrev pub Placed : List ℕ → ℕ → Type 0
-Placed cube floats = (i axis : ℕ) → i < 24 → axis < 3 → T (finite (positionOf cube floats i axis))
+Placed cube floats = (i axis : ℕ) → i < 24 → axis < 3 → Dec.T (finite (positionOf cube floats i axis))
 
 -- the counts are right
 pub record Counted (coloured : Bool) (kinds cubes : List ℕ) : Type 0 where

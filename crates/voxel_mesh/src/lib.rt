@@ -4,15 +4,15 @@ use floats::corner_word;
 use floats::is_finite_bits;
 use floats::uv_word;
 ghost use mathlib.Core.Path.{_≡_};
-ghost use mathlib.Core.Bool.{true, not, _&&_};
+ghost use mathlib.Core.Bool.{not, _&&_};
 ghost use mathlib.Core.List.{[], _++_};
-ghost use Prim.Native.Nat.{ℕ, _+_, _-_, _*_, _/_, _<_, _≤_};
+ghost use Prim.Native.Nat.{_+_, _-_, _*_, _/_, _<_, _≤_};
 ghost use lib.ListN.{length, getD, drop};
-ghost use lib.Dec.{T, ltb};
+ghost use lib.Dec.{ltb};
 ghost use Rattle.rules.specs.Lists.{every, lowest, table};
 ghost use Rattle.rules.specs.Floats.{finite, finite3};
 ghost use Rattle.rules.specs.Cube.{floatsOf, isHigh, isEnd, lastNaming, atlasAlong, uvOf, normalOf, cubeWord, cubeWords, cubeTriangles};
-ghost use Rattle.rules.specs.Answers.{fine, entries, badTile, badAtlas};
+ghost use Rattle.rules.specs.Answers.{entries, badTile, badAtlas};
 ghost use Rattle.rules.specs.Calls.{generateVoxelMesh};
 ghost use Rattle.floats.specs.Triples.{tripleOf};
 ghost use Rattle.voxel_mesh.specs.Outcome.{shapeOf, verdictOf, verdictIn, outcome, Accepted};
@@ -193,10 +193,12 @@ fn lowest_bad_face(texture: &[u32]) -> usize
 fn verdict(shape: Shape, texture: &[u32], room: usize) -> Cubed
     ensures { λ r. ⌜ verdictOf r ≡ verdictIn (shapeOf shape (now (texture .entry))) room ⌝ }
 {
-    if !shape.has_numbers() {
+    let numbers = shape.has_numbers();
+    let bad_atlas = is_bad_atlas(shape, texture);
+    if !numbers {
         return Cubed::BadNumber;
     }
-    if is_bad_atlas(shape, texture) {
+    if bad_atlas {
         return Cubed::BadAtlas;
     }
     let bad = lowest_bad_face(texture);
@@ -217,15 +219,15 @@ fn last_naming(texture: &[u32], face: usize) -> usize
     requires { ⌜ (length (now texture) ≡ 18) × (face < 6) ⌝ }
     ensures { λ r. ⌜ r ≡ lastNaming (now (texture .entry)) face 6 ⌝ }
 {
-    let mut last: usize = 6;
     let mut i: usize = 0;
     while i < 6 {
-        if texture[3 * i] == face as u32 {
-            last = i;
+        let n = 5 - i;
+        if texture[3 * n] == face as u32 {
+            return n;
         }
         i += 1;
     }
-    last
+    6
 }
 
 // A uv coordinate of a vertex: axis 0 for u and 1 for v.
@@ -275,7 +277,8 @@ fn write_vertex(shape: Shape, texture: &[u32], vertex: usize, out: &mut [u32])
 
 fn write_cube(shape: Shape, texture: &[u32], out: &mut [u32])
     requires { ⌜ Accepted (shapeOf shape (now texture)) × (24 * floatsOf (shape .coloured) ≤ length (now out)) ⌝ }
-    ensures { λ _. ⌜ now (out .exit) ≡ cubeWords (shapeOf shape (now (texture .entry))) ++ drop (24 * floatsOf (shape .coloured)) (now (out .entry)) ⌝ }
+    ensures { λ _. ⌜ now (out .exit) ≡
+        cubeWords (shapeOf shape (now (texture .entry))) ++ drop (24 * floatsOf (shape .coloured)) (now (out .entry)) ⌝ }
 {
     let floats = floats_of(shape.coloured);
     let mut vertex: usize = 0;

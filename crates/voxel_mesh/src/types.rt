@@ -5,15 +5,14 @@ use crate::floats_of;
 use floats::Triple;
 use floats::is_finite_bits;
 ghost use mathlib.Core.Path.{_≡_};
-ghost use mathlib.Core.Bool.{Bool, true, not, _&&_};
-ghost use mathlib.Core.List.{List, []};
-ghost use Prim.Native.Nat.{ℕ, _+_, _*_, _/_, _%_, _<_, _≤_};
-ghost use lib.ListN.{length, getD};
-ghost use lib.Dec.{T, eqb};
+ghost use mathlib.Core.Bool.{Bool};
+ghost use mathlib.Core.List.{List};
+ghost use Prim.Native.Nat.{ℕ, _+_, _*_, _/_, _%_, _<_};
+ghost use lib.ListN.{length};
+ghost use lib.Dec.{T};
 ghost use Rattle.rules.specs.Lists.{every, lowest};
 ghost use Rattle.rules.specs.Floats.{finite, finite3};
 ghost use Rattle.rules.specs.Cells.{along};
-ghost use Rattle.rules.specs.Cube.{floatsOf};
 ghost use Rattle.rules.specs.Types.{positionOf, classOn, classAt, classOf, classed, isCube};
 ghost use Rattle.rules.specs.Answers.{badCounts, badType, notACube};
 ghost use Rattle.answers.specs.Verdicts.{verdictOf};
@@ -33,7 +32,8 @@ fn has_bad_counts(kinds: &[u8], covers: &[u8], cubes: &[u32], coloured: bool) ->
 // The lowest type with a bad kind or set, or their number.
 fn lowest_bad_type(kinds: &[u8], covers: &[u8]) -> usize
     requires { ⌜ length (now covers) ≡ length (now kinds) ⌝ }
-    ensures { λ r. ⌜ ((coloured : Bool) (cubes : List ℕ) → r ≡ lowest (length (now (kinds .entry))) (badType (typesOf coloured (now (kinds .entry)) (now (covers .entry)) cubes))) ⌝ }
+    ensures { λ r. ⌜ ((coloured : Bool) (cubes : List ℕ) →
+        r ≡ lowest (length (now (kinds .entry))) (badType (typesOf coloured (now (kinds .entry)) (now (covers .entry)) cubes))) ⌝ }
 {
     let mut t: usize = 0;
     while t < kinds.len() {
@@ -160,7 +160,8 @@ pub fn is_cube(cube: &[u32], floats: usize, centre: Triple) -> bool
 // Whether type t is a NormalCube whose stretch of the registry is no cube.
 fn is_not_a_cube(kinds: &[u8], cubes: &[u32], coloured: bool, centre: Triple, t: usize) -> bool
     requires { ⌜ Counted coloured (now kinds) (now cubes) × T (finite3 (tripleOf centre)) × (t < length (now kinds)) ⌝ }
-    ensures { λ r. ⌜ ((covers : List ℕ) → r ≡ notACube (typesOf coloured (now (kinds .entry)) covers (now (cubes .entry))) (tripleOf centre) t) ⌝ }
+    ensures { λ r. ⌜ ((covers : List ℕ) →
+        r ≡ notACube (typesOf coloured (now (kinds .entry)) covers (now (cubes .entry))) (tripleOf centre) t) ⌝ }
 {
     if kinds[t] != 1 {
         return false;
@@ -175,7 +176,8 @@ fn is_not_a_cube(kinds: &[u8], cubes: &[u32], coloured: bool, centre: Triple, t:
 // The lowest NormalCube that is no cube, or the number of types.
 fn lowest_not_a_cube(kinds: &[u8], cubes: &[u32], coloured: bool, centre: Triple) -> usize
     requires { ⌜ Counted coloured (now kinds) (now cubes) × T (finite3 (tripleOf centre)) ⌝ }
-    ensures { λ r. ⌜ ((covers : List ℕ) → r ≡ lowest (length (now (kinds .entry))) (notACube (typesOf coloured (now (kinds .entry)) covers (now (cubes .entry))) (tripleOf centre))) ⌝ }
+    ensures { λ r. ⌜ ((covers : List ℕ) →
+        r ≡ lowest (length (now (kinds .entry))) (notACube (typesOf coloured (now (kinds .entry)) covers (now (cubes .entry))) (tripleOf centre))) ⌝ }
 {
     let mut t: usize = 0;
     while t < kinds.len() {
@@ -196,7 +198,8 @@ pub fn types_verdict(
     d: Triple,
     centre: Triple,
 ) -> Verdict
-    ensures { λ r. ⌜ verdictOf r ≡ typesVerdict (typesOf coloured (now (kinds .entry)) (now (covers .entry)) (now (cubes .entry))) (tripleOf d) (tripleOf centre) ⌝ }
+    ensures { λ r. ⌜ verdictOf r ≡
+        typesVerdict (typesOf coloured (now (kinds .entry)) (now (covers .entry)) (now (cubes .entry))) (tripleOf d) (tripleOf centre) ⌝ }
 {
     if has_bad_counts(kinds, covers, cubes, coloured) {
         return Verdict::Refuse(Refusal::BadTypes, 255);

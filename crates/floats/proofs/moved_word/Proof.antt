@@ -1,7 +1,7 @@
--- `floats::moved_word` meets its contract: the product of two finite numbers is no NaN, and so is its sum with a finite one. Assumes nothing.
+-- `floats::moved_word` meets its contract: the product of two finite numbers is no NaN, and so is its sum with a finite one. Assumes
+-- nothing.
 use mathlib.Core.Path.{refl}
 use native.Mathlib.Omega.{arith}
-use lib.Ieee.{toBits}
 use Rattle.rules.specs.Types.{movedWord}
 use Rattle.floats.proofs.Numbers.{bits-finite, no-nan-bits, no-nan, whole-finite, whole-casts, mul-number, add-number}
 use Rattle.floats.proofs.moved_word.Statement.{statement}
@@ -18,7 +18,8 @@ float-from-bits-result-2 c = no-nan-bits _ (c .before .pre .2)
 
 float-to-bits-result : tie.Need-float-to-bits-result
 float-to-bits-result c =
-    no-nan (add-number (bits-finite _ (c .before .pre .0)) (mul-number (whole-finite _ (omega arith)) (bits-finite _ (c .before .pre .2))))
+    no-nan (add-number (bits-finite _ (c .before .pre .0)) (mul-number (whole-finite _ (omega arith))
+    (bits-finite _ (c .before .pre .2))))
 
 returns : tie.Need-returns
 unfolding movedWord

@@ -5,14 +5,8 @@ use Rattle.mesh_metadata.proofs.change_quad_index.Tie as tie
 slot-of-requires : tie.Need-slot-of-requires
 slot-of-requires c κs = search needs
 
-first-vertex-requires : tie.Need-first-vertex-requires
-first-vertex-requires c κs = search needs
-
-mul-slots : tie.Need-mul-slots
-mul-slots c = search needs
-
-slice-write-slots : tie.Need-slice-write-slots
-slice-write-slots c = search needs
+fill-requires : tie.Need-fill-requires
+fill-requires c κs = search needs
 
 same-length : tie.Need-same-length
 same-length c = search needs
@@ -21,12 +15,4 @@ returns : tie.Need-returns
 returns c = cc
 
 pub change-quad-index-spec : {M : Type 1} → statement M
-change-quad-index-spec =
-    tie.close
-    (tie.spec
-    slot-of-requires
-    first-vertex-requires
-    mul-slots
-    slice-write-slots
-    same-length
-    returns)
+change-quad-index-spec = tie.close (tie.spec slot-of-requires fill-requires same-length returns)

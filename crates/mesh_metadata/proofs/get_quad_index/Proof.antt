@@ -1,9 +1,9 @@
-use mathlib.Core.Path.{_≡_, ap}
-use Prim.Native.Nat.{ℕ}
+use mathlib.Core.Path.{_≡_}
 use lib.ListN.{getD}
 use Rattle.rules.specs.Cells.{keyOf}
+use Rattle.rules.specs.Mesh.{NONE}
 use Rattle.face.specs.Face.{number}
-use Rattle.mesh_metadata.proofs.Slots.{vertex-none, vertex-some}
+use Rattle.mesh_metadata.proofs.Slots.{getD-any, vertex-none, vertex-some}
 use borrow.Author.Needs.{needs}
 use Rattle.mesh_metadata.proofs.get_quad_index.Statement.{statement}
 use Rattle.mesh_metadata.proofs.get_quad_index.Tie as tie
@@ -22,15 +22,18 @@ shared-slice-read-vertex c = search needs
 
 returns : tie.Need-returns
 returns c =
-    let a = c .before .before .before .before .before .args in
-    vertex-none (getD (a .slots .now) (keyOf (a .cell .0) (number (a .face))) 0) (cc (c .if1 .taken))
+    let t = c .before .before .before .before .before in
+    let key = keyOf (t .args .cell .0) (number (t .args .face)) in
+    vertex-none (getD (t .args .slots .now) key NONE) (cc (c .if1 .taken, getD-any (t .args .slots .now) key NONE 0 (t .pre .1)))
 
 returns-2 : tie.Need-returns-2
 returns-2 c =
-    let a = c .before .before .before .before .before .args in
-    let e : c .before .before .wide .result ≡ keyOf (a .cell .0) (number (a .face)) = cc in
-    vertex-some (getD (a .slots .now) (keyOf (a .cell .0) (number (a .face))) 0) (getD (a .slots .now) (c .before .before .wide .result) 0)
-    (rw e at (c .if1 .left)) (ap (λ (k : ℕ). getD (a .slots .now) k 0) e)
+    let t = c .before .before .before .before .before in
+    let key = keyOf (t .args .cell .0) (number (t .args .face)) in
+    let e : getD (t .args .slots .now) (c .before .before .wide .result) 0 ≡ getD (t .args .slots .now) key NONE =
+    cc (getD-any (t .args .slots .now) key NONE 0 (t .pre .1)) in
+    vertex-some (getD (t .args .slots .now) key NONE) (getD (t .args .slots .now) (c .before .before .wide .result) 0)
+    (rw e at (c .if1 .left)) e
 
 pub get-quad-index-spec : {M : Type 1} → statement M
 get-quad-index-spec =

@@ -20,14 +20,8 @@ key-requires c κs = search needs
 wide-requires-2 : tie.Need-wide-requires-2
 wide-requires-2 c κs = search needs
 
-first-vertex-requires : tie.Need-first-vertex-requires
-first-vertex-requires c κs = search needs
-
-mul-slots : tie.Need-mul-slots
-mul-slots c = search needs
-
-slice-write-slots : tie.Need-slice-write-slots
-slice-write-slots c = search needs
+fill-requires : tie.Need-fill-requires
+fill-requires c κs = search needs
 
 same-length : tie.Need-same-length
 same-length c = search needs
@@ -48,9 +42,7 @@ insert-spec =
     slice-write-links
     key-requires
     wide-requires-2
-    first-vertex-requires
-    mul-slots
-    slice-write-slots
+    fill-requires
     same-length
     same-length-2
     returns)

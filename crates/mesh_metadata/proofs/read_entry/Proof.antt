@@ -1,11 +1,7 @@
-use mathlib.Core.List.{[], _∷_}
 use Prim.Native.Nat.{_+_, _*_}
-use lib.ListN.{getD}
-use Rattle.rules.specs.Lists.{table, part}
 use Rattle.rules.specs.Update.{entryAt}
-use Rattle.mesh_metadata.proofs.Entries.{six, table-six}
+use Rattle.mesh_metadata.proofs.Entries.{six}
 use native.Mathlib.Omega.{arith}
-use mathlib.Core.Path.{_≡_, sym, ap, _∙_}
 use borrow.Author.Needs.{needs}
 use Rattle.mesh_metadata.proofs.read_entry.Statement.{statement}
 use Rattle.mesh_metadata.proofs.read_entry.Tie as tie
@@ -73,8 +69,7 @@ returns c =
     let t = c .before .before .before .before .before .before .before .before .before .before .before in
     let log = t .args .log .now in
     let at = 12 * t .args .k + 6 in
-    let s : table 6 (λ f. getD (getD log at 0 ∷ getD log (at + 1) 0 ∷ getD log (at + 2) 0 ∷ getD log (at + 3) 0 ∷ getD log (at + 4) 0 ∷ getD log (at + 5) 0 ∷ []) f 0)
-    ≡ part at 6 log = table-six _ _ _ _ _ _ ∙ sym (six at log (omega arith)) in
+    let s = six at log (omega arith) in
     let x = c .before .before .before .before .before .before .before .before .before .u32-at .ensures in
     let y = c .before .before .before .before .before .before .before .from-u8 .ensures in
     cc

@@ -62,14 +62,14 @@ loop-again c =
     let t = c .before .before .before .before .before .before .before .before .before in
     let from = c .before .before .before .before .before .before .source .result in
     let l = c .before .before .before .before .before .loop in
-    let h = c .before .before .change-quad-index in
-    (
+    let h = c .before .before .change-quad-index in (
       omega arith,
       omega arith,
       omega arith,
       h .ensures
           ∙ ap (λ (x : List ℕ). set x (keyIn (getD (t .args .links .now) (l .i) 0)) (firstVertex (l .i - (from - t .args .q)))) (l .inv .3)
-          ∙ step (t .args .count) (t .args .links .now) (t .args .slots .now) (t .pre .1) (t .args .q) from (l .i) (l .inv .0) (l .inv .1) (omega arith),
+          ∙ step (t .args .count) (t .args .links .now) (t .args .slots .now) (t .pre .1) (t .args .q) from (l .i) (l .inv .0)
+          (l .inv .1) (omega arith),
       h .kept .0 ∙ l .inv .4,
     )
 

@@ -51,7 +51,8 @@ loop-again c =
     let w = getD (a .row .now) (l .i) 0 in (
       omega arith,
       ap (λ (x : List ℕ). set x (at + l .i) w) (l .inv .1)
-          ∙ write-more at (l .i) (take (l .i) (a .row .now)) w (a .list .now) (length-take-le (l .i) (a .row .now) (omega arith)) (omega arith)
+          ∙ write-more at (l .i) (take (l .i) (a .row .now)) w (a .list .now) (length-take-le (l .i) (a .row .now) (omega arith))
+          (omega arith)
           ∙ ap (λ (x : List ℕ). put at x (a .list .now)) (sym (take-more (l .i) (a .row .now) (omega arith))),
       length-set (l .list) (at + l .i) w ∙ l .inv .2,
     )

@@ -1,9 +1,9 @@
-use native.Mathlib.Omega.{arith}
 use mathlib.Core.Path.{refl, ap, _∙_}
 use Prim.Native.Nat.{ℕ, _-_, _*_}
 use Rattle.rules.specs.Lists.{part}
 use Rattle.vav.specs.Rows.{put, zeros, sourceOf, freed}
-use Rattle.vav.proofs.Laws.{spans}
+use Rattle.vav.proofs.Laws.{source-bounds, spans}
+use native.Mathlib.Omega.{arith}
 use borrow.Author.Needs.{needs}
 use Rattle.vav.proofs.free_row.Statement.{statement}
 use Rattle.vav.proofs.free_row.Tie as tie
@@ -11,29 +11,9 @@ use Rattle.vav.proofs.free_row.Tie as tie
 source-requires : tie.Need-source-requires
 source-requires c κs = search needs
 
-mul-copy-down : tie.Need-mul-copy-down
-mul-copy-down c =
-    let t = c .before .before .before in
-    let s = spans (t .args .n) (t .args .q) (t .args .count) (c .before .source .result) (t .pre .0) (c .before .source .ensures) in
-    omega arith
-
-mul-copy-down-2 : tie.Need-mul-copy-down-2
-mul-copy-down-2 c =
-    let t = c .before .before .before in
-    let s = spans (t .args .n) (t .args .q) (t .args .count) (c .before .source .result) (t .pre .0) (c .before .source .ensures) in
-    omega arith
-
 sub-copy-down : tie.Need-sub-copy-down
 sub-copy-down c =
-    let t = c .before .before .before in
-    let s = spans (t .args .n) (t .args .q) (t .args .count) (c .before .source .result) (t .pre .0) (c .before .source .ensures) in
-    omega arith
-
-mul-copy-down-3 : tie.Need-mul-copy-down-3
-mul-copy-down-3 c =
-    let t = c .before .before .before in
-    let s = spans (t .args .n) (t .args .q) (t .args .count) (c .before .source .result) (t .pre .0) (c .before .source .ensures) in
-    omega arith
+    let t = c .before .before .before in omega (arith, source-bounds (t .args .q) (t .args .count) (t .pre .0))
 
 copy-down-requires : tie.Need-copy-down-requires
 copy-down-requires c κs =
@@ -59,20 +39,18 @@ unfolding freed
 returns c =
     let g = c .before .before .before .before .before .before .before in
     let a = g .before .before .before .args in
+    let v = a .list .now in
     c .before .before .clear .ensures
     ∙ ap (put (a .n * (a .count - 1)) (zeros (a .n)))
     (c .before .before .before .before .before .before .copy-down .ensures
-    ∙ ap (λ (k : ℕ). put (a .n * a .q) (part (a .n * k) (a .n * (a .count - k)) (a .list .now)) (a .list .now)) (g .before .source .ensures))
+    ∙ ap (λ (k : ℕ). put (a .n * a .q) (part (a .n * k) (a .n * (a .count - k)) v) v) (g .before .source .ensures))
 
 pub free-row-spec : {M : Type 1} → statement M
 free-row-spec =
     tie.close
     (tie.spec
     source-requires
-    mul-copy-down
-    mul-copy-down-2
     sub-copy-down
-    mul-copy-down-3
     copy-down-requires
     sub-clear
     clear-requires

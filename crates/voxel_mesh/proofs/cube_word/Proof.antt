@@ -18,14 +18,21 @@ along-requires-2 c κs = search needs
 corner-word-requires : tie.Need-corner-word-requires
 corner-word-requires c κs =
     let start = c .before .before .before .before .before .before .before in
-    let ok = start .pre .0 in
-    (rw (c .before .along .ensures) (finite-along _ (ok .d) (start .args .k)), rw (c .along2 .ensures) (finite-along _ (ok .centre) (start .args .k)))
+    let ok = start .pre .0 in (
+      rw (c .before .along .ensures) (finite-along _ (ok .d) (start .args .k)),
+      rw (c .along2 .ensures) (finite-along _ (ok .centre) (start .args .k)),
+    )
 
 returns : tie.Need-returns
 unfolding cubeWord
 returns c =
-    simp
-    (c .corner-word .ensures, c .before .along2 .ensures, c .before .before .along .ensures, ← c .before .before .before .is-high .ensures, lt-ltb _ _ (c .before .before .before .before .before .before .if1 .taken))
+    simp (
+      c .corner-word .ensures,
+      c .before .along2 .ensures,
+      c .before .before .along .ensures,
+      ← c .before .before .before .is-high .ensures,
+      lt-ltb _ _ (c .before .before .before .before .before .before .if1 .taken),
+    )
 
 normal-word-requires : tie.Need-normal-word-requires
 normal-word-requires c κs = search needs
@@ -39,15 +46,30 @@ uv-of-requires c κs = search needs
 
 returns-3 : tie.Need-returns-3
 unfolding cubeWord
-returns-3 c = simp (c .uv-of .ensures, le-ltb _ _ (c .before .before .before .if1 .left), le-ltb _ _ (c .before .before .if2 .left), lt-ltb _ _ (c .before .if3 .taken))
+returns-3 c = simp (
+  c .uv-of .ensures,
+  le-ltb _ _ (c .before .before .before .if1 .left),
+  le-ltb _ _ (c .before .before .if2 .left),
+  lt-ltb _ _ (c .before .if3 .taken),
+)
 
 returns-4 : tie.Need-returns-4
 unfolding cubeWord
-returns-4 c = simp (le-ltb _ _ (c .before .before .before .if1 .left), le-ltb _ _ (c .before .before .if2 .left), le-ltb _ _ (c .before .if3 .left), lt-ltb _ _ (c .if4 .taken))
+returns-4 c = simp (
+  le-ltb _ _ (c .before .before .before .if1 .left),
+  le-ltb _ _ (c .before .before .if2 .left),
+  le-ltb _ _ (c .before .if3 .left),
+  lt-ltb _ _ (c .if4 .taken),
+)
 
 returns-5 : tie.Need-returns-5
 unfolding cubeWord
-returns-5 c = simp (le-ltb _ _ (c .before .before .before .if1 .left), le-ltb _ _ (c .before .before .if2 .left), le-ltb _ _ (c .before .if3 .left), le-ltb _ _ (c .if4 .left))
+returns-5 c = simp (
+  le-ltb _ _ (c .before .before .before .if1 .left),
+  le-ltb _ _ (c .before .before .if2 .left),
+  le-ltb _ _ (c .before .if3 .left),
+  le-ltb _ _ (c .if4 .left),
+)
 
 pub cube-word-spec : {M : Type 1} → statement M
 cube-word-spec =

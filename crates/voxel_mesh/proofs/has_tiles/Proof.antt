@@ -55,7 +55,8 @@ unfolding every
 loop-again c = (omega arith, simp (add-one, c .before .before .before .loop .inv .1))
 
 returns : tie.Need-returns Inv-loop μ-loop
-returns c = let e : c .before .loop .i ≡ length (c .before .before .args .texture .now) / 3 = omega arith in rw e at (c .before .loop .inv .1)
+returns c = let e : c .before .loop .i ≡ length (c .before .before .args .texture .now) / 3 = omega arith in
+    rw e at (c .before .loop .inv .1)
 
 pub has-tiles-spec : {M : Type 1} → statement M
 has-tiles-spec =

@@ -1,8 +1,6 @@
--- `voxel_mesh::last_naming` meets its contract: of the first i entries, `last` is the last that names the face. Assumes nothing.
-use mathlib.Core.Path.{_≡_, refl}
-use mathlib.Core.Logic.{⊎-elim}
-use Prim.Native.Nat.{_≤_, _-_}
-use native.Mathlib.Numerals.{add-one}
+-- `voxel_mesh::last_naming` meets its contract: none of the last i entries names the face. Assumes nothing.
+use mathlib.Core.Path.{_≡_, refl, sym, _∙_}
+use Prim.Native.Nat.{suc, _+_, _≤_, _-_}
 use borrow.Author.Tests.{eq-eqb, ne-eqb}
 use Rattle.rules.specs.Cube.{lastNaming}
 use native.Mathlib.Omega.{arith}
@@ -10,14 +8,16 @@ use Rattle.voxel_mesh.proofs.last_naming.Statement.{statement}
 use Rattle.voxel_mesh.proofs.last_naming.Tie as tie
 
 abbrev Inv-loop : tie.InvT-loop
-Inv-loop texture face last₀ i₀ last i = (i ≤ 6) × (last ≡ lastNaming texture face i)
+Inv-loop texture face i₀ i = (i ≤ 6) × (lastNaming texture face 6 ≡ lastNaming texture face (6 - i))
 
 abbrev μ-loop : tie.MeasureT-loop
-μ-loop texture face last₀ i₀ last i = 6 - i
+μ-loop texture face i₀ i = 6 - i
 
 loop-holds : tie.Need-loop-holds Inv-loop μ-loop
-unfolding lastNaming
 loop-holds c = (omega arith, refl)
+
+sub-n : tie.Need-sub-n Inv-loop μ-loop
+sub-n c = omega arith
 
 mul-if1 : tie.Need-mul-if1 Inv-loop μ-loop
 mul-if1 c = omega arith
@@ -31,6 +31,13 @@ shared-slice-read-if1 c = omega arith
 cast-if1 : tie.Need-cast-if1 Inv-loop μ-loop
 cast-if1 c = omega arith
 
+returns : tie.Need-returns Inv-loop μ-loop
+unfolding lastNaming
+returns c =
+    let l = c .before .before .before .loop in
+    let e : 6 - l .i ≡ suc (5 - l .i) = omega arith in
+    sym (l .inv .1 ∙ rw (e, eq-eqb _ _ (c .if1 .taken)))
+
 add-i : tie.Need-add-i Inv-loop μ-loop
 add-i c = omega arith
 
@@ -40,15 +47,14 @@ loop-less c = omega arith
 loop-again : tie.Need-loop-again Inv-loop μ-loop
 unfolding lastNaming
 loop-again c =
-    let i = c .before .before .before .loop .i in
-    let was = c .before .before .before .loop .inv .1 in (
-      omega arith,
-      rw (add-one i)
-          (⊎-elim (λ w. simp (eq-eqb _ _ (w .0 .taken), w .1)) (λ w. simp (ne-eqb _ _ (w .0 .left), w .1, was)) (c .if1 .came)),
-    )
+    let l = c .before .before .before .loop in
+    let e : 6 - l .i ≡ suc (5 - l .i) = omega arith in
+    let f : 6 - (l .i + 1) ≡ 5 - l .i = omega arith in
+    (omega arith, l .inv .1 ∙ rw (e, f, ne-eqb _ _ (c .if1 .left)))
 
-returns : tie.Need-returns Inv-loop μ-loop
-returns c = let e : c .before .loop .i ≡ 6 = omega arith in rw e at (c .before .loop .inv .1)
+returns-2 : tie.Need-returns-2 Inv-loop μ-loop
+unfolding lastNaming
+returns-2 c = let e : 6 - c .before .loop .i ≡ 0 = omega arith in sym (c .before .loop .inv .1 ∙ rw e)
 
 pub last-naming-spec : {M : Type 1} → statement M
 last-naming-spec =
@@ -57,11 +63,13 @@ last-naming-spec =
     Inv-loop
     μ-loop
     loop-holds
+    sub-n
     mul-if1
     mul-if1-2
     shared-slice-read-if1
     cast-if1
+    returns
     add-i
     loop-less
     loop-again
-    returns)
+    returns-2)

@@ -40,8 +40,12 @@ uv-word-requires c κs =
     let q = shapeOf (start .args .shape) (now (start .args .texture)) in
     let ok = start .pre .0 in
     let n = atlas-in q (ok .atlas) (start .args .axis) in
-    let along = c .before .before .before .before .atlas-along .ensures in
-    (tile-in q (ok .atlas) (c .before .before .last-naming .result) (start .args .axis) (omega arith) (start .pre .2), rw along (n .0), rw along (n .1), ok .padding)
+    let along = c .before .before .before .before .atlas-along .ensures in (
+      tile-in q (ok .atlas) (c .before .before .last-naming .result) (start .args .axis) (omega arith) (start .pre .2),
+      rw along (n .0),
+      rw along (n .1),
+      ok .padding,
+    )
 
 uv-word-requires-2 : tie.Need-uv-word-requires-2
 uv-word-requires-2 c κs =
@@ -55,14 +59,24 @@ uv-word-requires-2 c κs =
 returns : tie.Need-returns
 unfolding uvOf
 returns c =
-    simp
-    (c .uv-word .ensures, ← c .before .before .before .last-naming .ensures, ← c .before .before .before .before .is-end .ensures, c .before .before .before .before .before .atlas-along .ensures, lt-ltb _ _ (c .before .before .if1 .taken))
+    simp (
+      c .uv-word .ensures,
+      ← c .before .before .before .last-naming .ensures,
+      ← c .before .before .before .before .is-end .ensures,
+      c .before .before .before .before .before .atlas-along .ensures,
+      lt-ltb _ _ (c .before .before .if1 .taken),
+    )
 
 returns-2 : tie.Need-returns-2
 unfolding uvOf uvWord
 returns-2 c =
-    simp
-    (c .uv-word2 .ensures, ← c .before .before .last-naming .ensures, ← c .before .before .before .is-end .ensures, c .before .before .before .before .atlas-along .ensures, le-ltb _ _ (c .before .if1 .left))
+    simp (
+      c .uv-word2 .ensures,
+      ← c .before .before .last-naming .ensures,
+      ← c .before .before .before .is-end .ensures,
+      c .before .before .before .before .atlas-along .ensures,
+      le-ltb _ _ (c .before .if1 .left),
+    )
 
 pub uv-of-spec : {M : Type 1} → statement M
 uv-of-spec =

@@ -19,12 +19,13 @@ use Rattle.voxel_mesh.proofs.verdict.Tie as tie
 
 -- what each test that was passed says
 numbers : (c : tie.Else1) →
-    let s = c .before .before .before .args .shape in finite3 (tripleOf (s .d)) && finite3 (tripleOf (s .centre)) && finite (s .padding) ≡ true
-numbers c = sym (c .before .has-numbers .ensures) ∙ not-false _ (c .if1 .left)
+    let s = c .before .before .before .before .args .shape in
+    finite3 (tripleOf (s .d)) && finite3 (tripleOf (s .centre)) && finite (s .padding) ≡ true
+numbers c = sym (c .before .before .has-numbers .ensures) ∙ not-false _ (c .if1 .left)
 
 atlas : (c : tie.Else2) →
     let args = c .before .before .before .before .before .args in badAtlas (shapeOf (args .shape) (now (args .texture))) ≡ false
-atlas c = sym (c .before .is-bad-atlas .ensures) ∙ c .if2 .left
+atlas c = sym (c .before .before .is-bad-atlas .ensures) ∙ c .if2 .left
 
 faces : (c : tie.Else3) →
     let texture = now (c .before .before .before .before .before .before .before .args .texture) in
@@ -34,53 +35,79 @@ faces c = rw (c .before .lowest-bad-face .ensures) at (le-ltb _ _ (c .if3 .left)
 has-numbers-requires : tie.Need-has-numbers-requires
 has-numbers-requires c κs = search needs
 
-returns : tie.Need-returns
-unfolding _then_ refuseIf BAD-NUMBER
-returns c = simp (← c .before .has-numbers .ensures, not-true (c .before .has-numbers .result) (c .if1 .taken))
-
 is-bad-atlas-requires : tie.Need-is-bad-atlas-requires
 is-bad-atlas-requires c κs = search needs
 
+returns : tie.Need-returns
+unfolding _then_ refuseIf BAD-NUMBER
+returns c = simp (← c .before .before .has-numbers .ensures, not-true (c .before .before .has-numbers .result) (c .if1 .taken))
+
 returns-2 : tie.Need-returns-2
 unfolding _then_ refuseIf BAD-NUMBER
-returns-2 c = simp (numbers (c .before .before), ← c .before .is-bad-atlas .ensures, c .if2 .taken)
+returns-2 c = simp (numbers (c .before), ← c .before .before .is-bad-atlas .ensures, c .if2 .taken)
 
 lowest-bad-face-requires : tie.Need-lowest-bad-face-requires
 lowest-bad-face-requires c κs = search needs
 
 returns-3 : tie.Need-returns-3
 unfolding _then_ refuseIf BAD-NUMBER BAD-TEXTURE
-returns-3 c = simp (numbers (c .before .before .before .before), atlas (c .before .before), ← c .before .lowest-bad-face .ensures, lt-ltb _ _ (c .if3 .taken))
+returns-3 c = simp (
+  numbers (c .before .before .before),
+  atlas (c .before .before),
+  ← c .before .lowest-bad-face .ensures,
+  lt-ltb _ _ (c .if3 .taken),
+)
 
 returns-4 : tie.Need-returns-4
 unfolding _then_ refuseIf BAD-NUMBER BAD-TEXTURE
-returns-4 c = simp (numbers (c .before .before .before .before .before), atlas (c .before .before .before), faces (c .before), ne-eqb _ _ (c .if4 .taken))
+returns-4 c = simp (
+  numbers (c .before .before .before .before),
+  atlas (c .before .before .before),
+  faces (c .before),
+  ne-eqb _ _ (c .if4 .taken),
+)
 
 floats-of-requires : tie.Need-floats-of-requires
 floats-of-requires c κs = search needs
 
 mul-if5 : tie.Need-mul-if5
-mul-if5 c = omega (arith, c .floats-of .ensures, few (c .before .before .before .before .before .before .before .before .before .args .shape .coloured))
+mul-if5 c = omega (
+  arith,
+  c .floats-of .ensures,
+  few (c .before .before .before .before .before .before .before .before .before .args .shape .coloured),
+)
 
 returns-5 : tie.Need-returns-5
 unfolding _then_ refuseIf BAD-NUMBER BAD-TEXTURE
 returns-5 c =
-    simp
-    (numbers (c .before .before .before .before .before .before .before), atlas (c .before .before .before .before .before), faces (c .before .before .before), eq-eqb _ _ (c .before .before .if4 .left), ← c .before .floats-of .ensures, lt-ltb _ _ (c .if5 .taken))
+    simp (
+      numbers (c .before .before .before .before .before .before),
+      atlas (c .before .before .before .before .before),
+      faces (c .before .before .before),
+      eq-eqb _ _ (c .before .before .if4 .left),
+      ← c .before .floats-of .ensures,
+      lt-ltb _ _ (c .if5 .taken),
+    )
 
 returns-6 : tie.Need-returns-6
 unfolding _then_ refuseIf BAD-NUMBER BAD-TEXTURE
 returns-6 c =
-    simp
-    (numbers (c .before .before .before .before .before .before .before), atlas (c .before .before .before .before .before), faces (c .before .before .before), eq-eqb _ _ (c .before .before .if4 .left), ← c .before .floats-of .ensures, le-ltb _ _ (c .if5 .left))
+    simp (
+      numbers (c .before .before .before .before .before .before),
+      atlas (c .before .before .before .before .before),
+      faces (c .before .before .before),
+      eq-eqb _ _ (c .before .before .if4 .left),
+      ← c .before .floats-of .ensures,
+      le-ltb _ _ (c .if5 .left),
+    )
 
 pub verdict-spec : {M : Type 1} → statement M
 verdict-spec =
     tie.close
     (tie.spec
     has-numbers-requires
-    returns
     is-bad-atlas-requires
+    returns
     returns-2
     lowest-bad-face-requires
     returns-3

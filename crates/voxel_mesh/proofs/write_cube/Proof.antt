@@ -15,7 +15,8 @@ use Rattle.voxel_mesh.proofs.write_cube.Statement.{statement}
 use Rattle.voxel_mesh.proofs.write_cube.Tie as tie
 
 abbrev Inv-loop : tie.InvT-loop
-Inv-loop shape texture out₀ floats vertex₀ out vertex = (vertex ≤ 24) × (out ≡ written floats (λ v. table floats (cubeWord (shapeOf shape texture) v)) vertex out₀)
+Inv-loop shape texture out₀ floats vertex₀ out vertex = (vertex ≤ 24)
+    × (out ≡ written floats (λ v. table floats (cubeWord (shapeOf shape texture) v)) vertex out₀)
 
 abbrev μ-loop : tie.MeasureT-loop
 μ-loop shape texture out₀ floats vertex₀ out vertex = 24 - vertex
@@ -28,7 +29,11 @@ kept : (c : tie.At-loop Inv-loop μ-loop) → length (c .loop .out) ≡ length (
 kept c =
     let floats = c .before .floats-of .result in
     ap length (c .loop .inv .1)
-    ∙ length-written floats _ (λ v. length-table floats _) (c .loop .vertex) _ (omega (arith, room c, mul-le-mul-right floats (c .loop .inv .0)))
+    ∙ length-written floats _ (λ v. length-table floats _) (c .loop .vertex) _ (omega (
+      arith,
+      room c,
+      mul-le-mul-right floats (c .loop .inv .0),
+    ))
 
 -- the next vertex's words lie within it, and they are few
 row : (c : tie.In-loop Inv-loop μ-loop) →
@@ -37,7 +42,8 @@ row : (c : tie.In-loop Inv-loop μ-loop) →
 row c =
     let floats = c .before .before .floats-of .result in
     let vertex = c .before .loop .vertex in
-    let words : floats ≤ 12 = rw (c .before .before .floats-of .ensures) (few (c .before .before .before .before .before .args .shape .coloured) .1) in
+    let words : floats ≤ 12 = rw (c .before .before .floats-of .ensures)
+    (few (c .before .before .before .before .before .args .shape .coloured) .1) in
     let end = mul-le-mul-right floats (c .loop-test .taken) in
     (omega (arith, room (c .before), kept (c .before), suc-mul vertex floats), omega (arith, suc-mul vertex floats))
 
@@ -82,7 +88,8 @@ loop-again c =
     let word : ℕ → ℕ → ℕ = cubeWord (shapeOf (args .shape) (now (args .texture))) in
     let lent = length-lent (l .vertex * floats) floats (l .out) (row (c .before .before .before .before) .0) in (
       omega arith,
-      written-more floats (λ v. table floats (word v)) (λ v. length-table floats (word v)) (l .vertex) (now (args .out)) (l .out) _ (l .inv .1)
+      written-more floats (λ v. table floats (word v)) (λ v. length-table floats (word v)) (l .vertex) (now (args .out))
+          (l .out) _ (l .inv .1)
           (c .before .before .write-vertex .ensures ∙ ap (λ (n : ℕ). table n (word (l .vertex))) lent),
     )
 

@@ -1,18 +1,14 @@
+-- `floats::Triple::along` meets its contract. Assumes nothing.
 use borrow.Author.Tests.{eq-eqb, ne-eqb}
 use Rattle.floats.proofs.Triple.along.Statement.{statement}
 use Rattle.floats.proofs.Triple.along.Tie as tie
-use Rattle.floats.proofs.Triple.along.Reads as reads
-use Rattle.floats.proofs.Triple.along.Lts as lts
 
--- src/lib.rt:24:13
 returns : tie.Need-returns
 returns c = simp (eq-eqb _ _ (c .if1 .taken))
 
--- src/lib.rt:27:13
 returns-2 : tie.Need-returns-2
 returns-2 c = simp (ne-eqb _ _ (c .before .if1 .left), eq-eqb _ _ (c .if2 .taken))
 
--- src/lib.rt:20:5
 returns-3 : tie.Need-returns-3
 returns-3 c = simp (ne-eqb _ _ (c .before .if1 .left), ne-eqb _ _ (c .if2 .left))
 

@@ -1,23 +1,17 @@
+-- `floats::Triple::is_finite` meets its contract. Assumes nothing.
 use borrow.Author.Needs.{needs}
 use Rattle.floats.proofs.Triple.is_finite.Statement.{statement}
 use Rattle.floats.proofs.Triple.is_finite.Tie as tie
-use Rattle.floats.proofs.Triple.is_finite.Reads as reads
-use Rattle.floats.proofs.Triple.is_finite.Lts as lts
-use Rattle.floats.proofs.is_finite_bits.Reads as is-finite-bits-reads
 
--- src/lib.rt:35:9
 is-finite-bits-requires : tie.Need-is-finite-bits-requires
 is-finite-bits-requires c κs = search needs
 
--- src/lib.rt:35:34
 is-finite-bits-requires-2 : tie.Need-is-finite-bits-requires-2
 is-finite-bits-requires-2 c κs = search needs
 
--- src/lib.rt:35:59
 is-finite-bits-requires-3 : tie.Need-is-finite-bits-requires-3
 is-finite-bits-requires-3 c κs = search needs
 
--- src/lib.rt:32:5
 returns : tie.Need-returns
 returns c = cc
 

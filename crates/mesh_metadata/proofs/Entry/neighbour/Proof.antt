@@ -32,7 +32,8 @@ returns c =
 returns-2 : tie.Need-returns-2
 returns-2 c =
     let a = c .before .before .before .args in
-    let e : getD (a .t1 .neighbours) (c .before .before .number .result) 0 ≡ givenAt (entryIn (a .t1)) (number (a .face)) = cc (given-is (a .t1) (a .face)) in
+    let e : getD (a .t1 .neighbours) (c .before .before .number .result) 0 ≡ givenAt (entryIn (a .t1)) (number (a .face)) =
+    cc (given-is (a .t1) (a .face)) in
     let d : givenAt (entryIn (a .t1)) (number (a .face)) ≢ 255 = rw e at (c .if1 .left) in
     rw (ne-eqb (givenAt (entryIn (a .t1)) (number (a .face))) 255 d) (ap Voxel e)
 

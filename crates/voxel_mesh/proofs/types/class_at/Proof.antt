@@ -29,7 +29,13 @@ class-on-requires c κs =
 
 returns : tie.Need-returns
 unfolding classAt
-returns c = simp (c .class-on .ensures, c .before .before .before .before .along .ensures, c .before .before .before .position-of .ensures, c .before .before .position-of2 .ensures, c .before .position-of3 .ensures)
+returns c = simp (
+  c .class-on .ensures,
+  c .before .before .before .before .along .ensures,
+  c .before .before .before .position-of .ensures,
+  c .before .before .position-of2 .ensures,
+  c .before .position-of3 .ensures,
+)
 
 pub class-at-spec : {M : Type 1} → statement M
 class-at-spec =

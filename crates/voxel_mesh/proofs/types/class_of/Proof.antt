@@ -17,7 +17,12 @@ class-at-requires-2 c κs = search needs
 
 returns-2 : tie.Need-returns-2
 unfolding classOf
-returns-2 c = simp (← c .before .before .before .class-at .ensures, ← c .before .class-at2 .ensures, eq-eqb _ _ (c .before .before .if1 .left), ne-eqb _ _ (c .if2 .taken))
+returns-2 c = simp (
+  ← c .before .before .before .class-at .ensures,
+  ← c .before .class-at2 .ensures,
+  eq-eqb _ _ (c .before .before .if1 .left),
+  ne-eqb _ _ (c .if2 .taken),
+)
 
 class-at-requires-3 : tie.Need-class-at-requires-3
 class-at-requires-3 c κs = search needs
@@ -25,8 +30,13 @@ class-at-requires-3 c κs = search needs
 returns-3 : tie.Need-returns-3
 unfolding classOf
 returns-3 c =
-    simp
-    (← c .before .before .before .before .class-at .ensures, ← c .before .before .class-at2 .ensures, ← c .class-at3 .ensures, eq-eqb _ _ (c .before .before .before .if1 .left), eq-eqb _ _ (c .before .if2 .left))
+    simp (
+      ← c .before .before .before .before .class-at .ensures,
+      ← c .before .before .class-at2 .ensures,
+      ← c .class-at3 .ensures,
+      eq-eqb _ _ (c .before .before .before .if1 .left),
+      eq-eqb _ _ (c .before .if2 .left),
+    )
 
 pub class-of-spec : {M : Type 1} → statement M
 class-of-spec =

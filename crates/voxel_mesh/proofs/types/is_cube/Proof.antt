@@ -1,4 +1,5 @@
--- `voxel_mesh::types::is_cube` meets its contract: after n turns, `ok` says whether the first n faces are classed to themselves. Assumes nothing.
+-- `voxel_mesh::types::is_cube` meets its contract: after n turns, `ok` says whether the first n faces are classed to themselves. Assumes
+-- nothing.
 use mathlib.Core.Path.{_≡_, refl, sym, _∙_, subst}
 use mathlib.Core.Bool.{true}
 use Prim.Native.Nat.{_≤_, _-_, _/_, _%_}
@@ -24,7 +25,8 @@ abbrev μ-loop : tie.MeasureT-loop
 
 -- the first test was passed
 all-placed : (c : tie.Else1 Inv-loop μ-loop) →
-    let start = c .before .before .before in every 72 (λ k. finite (positionOf (now (start .args .cube)) (start .args .floats) (k / 3) (k % 3))) ≡ true
+    let start = c .before .before .before in every 72 (λ k. finite (positionOf (now (start .args .cube)) (start .args .floats)
+    (k / 3) (k % 3))) ≡ true
 all-placed c = sym (c .before .is-placed .ensures) ∙ not-false _ (c .if1 .left)
 
 is-placed-requires : tie.Need-is-placed-requires Inv-loop μ-loop

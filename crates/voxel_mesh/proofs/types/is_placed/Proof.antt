@@ -34,7 +34,15 @@ loop-less c = omega arith
 
 loop-again : tie.Need-loop-again Inv-loop μ-loop
 unfolding every
-loop-again c = (omega arith, simp (add-one, ← c .before .before .before .loop .inv .1, c .is-finite-bits .ensures, c .before .position-of .ensures))
+loop-again c = (
+  omega arith,
+  simp (
+    add-one,
+    ← c .before .before .before .loop .inv .1,
+    c .is-finite-bits .ensures,
+    c .before .position-of .ensures,
+  ),
+)
 
 returns : tie.Need-returns Inv-loop μ-loop
 returns c = let e : c .before .loop .k ≡ 72 = omega arith in rw e at (c .before .loop .inv .1)

@@ -11,7 +11,8 @@ use Rattle.voxel_mesh.proofs.types.lowest_bad_type.Statement.{statement
 use Rattle.voxel_mesh.proofs.types.lowest_bad_type.Tie as tie
 
 abbrev Inv-loop : tie.InvT-loop
-Inv-loop kinds covers t₀ t = (t ≤ length kinds) × ((coloured : Bool) (cubes : List ℕ) → Searched (length kinds) (badType (typesOf coloured kinds covers cubes)) t)
+Inv-loop kinds covers t₀ t = (t ≤ length kinds) × ((coloured : Bool) (cubes : List ℕ)
+    → Searched (length kinds) (badType (typesOf coloured kinds covers cubes)) t)
 
 abbrev μ-loop : tie.MeasureT-loop
 μ-loop kinds covers t₀ t = length kinds - t
@@ -27,7 +28,8 @@ shared-slice-read-if1-2 c = omega arith
 
 returns : tie.Need-returns Inv-loop μ-loop
 unfolding badType
-returns c = λ coloured cubes. found _ _ _ (c .before .before .before .loop-test .taken) (c .before .before .before .before .loop .inv .1 coloured cubes) (c .if1 .taken)
+returns c = λ coloured cubes. found _ _ _ (c .before .before .before .loop-test .taken)
+    (c .before .before .before .before .loop .inv .1 coloured cubes) (c .if1 .taken)
 
 add-t : tie.Need-add-t Inv-loop μ-loop
 add-t c = omega arith
@@ -37,7 +39,11 @@ loop-less c = omega arith
 
 loop-again : tie.Need-loop-again Inv-loop μ-loop
 unfolding badType
-loop-again c = (omega arith, λ coloured cubes. passed _ _ _ (c .before .before .before .loop-test .taken) (c .before .before .before .before .loop .inv .1 coloured cubes) (c .if1 .left))
+loop-again c = (
+  omega arith,
+  λ coloured cubes. passed _ _ _ (c .before .before .before .loop-test .taken)
+      (c .before .before .before .before .loop .inv .1 coloured cubes) (c .if1 .left),
+)
 
 returns-2 : tie.Need-returns-2 Inv-loop μ-loop
 returns-2 c = λ coloured cubes. ended _ _ _ (c .loop-test .left) (c .before .loop .inv .1 coloured cubes)

@@ -14,7 +14,8 @@ use Rattle.voxel_mesh.proofs.types.lowest_not_a_cube.Tie as tie
 
 abbrev Inv-loop : tie.InvT-loop
 Inv-loop kinds cubes coloured centre t₀ t =
-    (t ≤ length kinds) × ((covers : List ℕ) → Searched (length kinds) (notACube (typesOf coloured kinds covers cubes) (tripleOf centre)) t)
+    (t ≤ length kinds) × ((covers : List ℕ) → Searched (length kinds) (notACube (typesOf coloured kinds covers cubes)
+    (tripleOf centre)) t)
 
 abbrev μ-loop : tie.MeasureT-loop
 μ-loop kinds cubes coloured centre t₀ t = length kinds - t
@@ -26,7 +27,8 @@ is-not-a-cube-requires : tie.Need-is-not-a-cube-requires Inv-loop μ-loop
 is-not-a-cube-requires c κs = search needs
 
 returns : tie.Need-returns Inv-loop μ-loop
-returns c = λ covers. found _ _ _ (c .before .before .loop-test .taken) (c .before .before .before .loop .inv .1 covers) (sym (c .before .is-not-a-cube .ensures covers) ∙ c .if1 .taken)
+returns c = λ covers. found _ _ _ (c .before .before .loop-test .taken) (c .before .before .before .loop .inv .1 covers)
+    (sym (c .before .is-not-a-cube .ensures covers) ∙ c .if1 .taken)
 
 add-t : tie.Need-add-t Inv-loop μ-loop
 add-t c = omega arith
@@ -35,7 +37,11 @@ loop-less : tie.Need-loop-less Inv-loop μ-loop
 loop-less c = omega arith
 
 loop-again : tie.Need-loop-again Inv-loop μ-loop
-loop-again c = (omega arith, λ covers. passed _ _ _ (c .before .before .loop-test .taken) (c .before .before .before .loop .inv .1 covers) (sym (c .before .is-not-a-cube .ensures covers) ∙ c .if1 .left))
+loop-again c = (
+  omega arith,
+  λ covers. passed _ _ _ (c .before .before .loop-test .taken)
+      (c .before .before .before .loop .inv .1 covers) (sym (c .before .is-not-a-cube .ensures covers) ∙ c .if1 .left),
+)
 
 returns-2 : tie.Need-returns-2 Inv-loop μ-loop
 returns-2 c = λ covers. ended _ _ _ (c .loop-test .left) (c .before .loop .inv .1 covers)

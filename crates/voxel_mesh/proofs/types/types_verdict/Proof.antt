@@ -18,14 +18,19 @@ use Rattle.voxel_mesh.proofs.types.types_verdict.Statement.{statement}
 use Rattle.voxel_mesh.proofs.types.types_verdict.Tie as tie
 
 abbrev types : tie.After-shared-slice-known3 → Types
-types c = let args = c .before .before .before .args in typesOf (args .coloured) (now (args .kinds)) (now (args .covers)) (now (args .cubes))
+types c =
+    let args = c .before .before .before .args in
+    typesOf (args .coloured) (now (args .kinds)) (now (args .covers)) (now (args .cubes))
 
 -- what each test that was passed says
 counts : (c : tie.Else1) → badCounts (types (c .before .before)) ≡ false
 counts c = sym (c .before .has-bad-counts .ensures) ∙ c .if1 .left
 
-kinds : (c : tie.Else2) → let T = types (c .before .before .before .before) in ltb (lowest (length (T .kinds)) (badType T)) (length (T .kinds)) ≡ false
-kinds c = let t = types (c .before .before .before .before) in rw (c .before .lowest-bad-type .ensures (t .coloured) (t .cubes)) at (le-ltb _ _ (c .if2 .left))
+kinds : (c : tie.Else2) →
+    let t = types (c .before .before .before .before) in ltb (lowest (length (t .kinds)) (badType t)) (length (t .kinds)) ≡ false
+kinds c =
+    let t = types (c .before .before .before .before) in
+    rw (c .before .lowest-bad-type .ensures (t .coloured) (t .cubes)) at (le-ltb _ _ (c .if2 .left))
 
 numbers : (c : tie.Else3) →
     let args = c .before .before .before .before .before .before .before .before .before .before .args in
@@ -59,8 +64,14 @@ is-finite-requires-2 c κs = search needs
 returns-3 : tie.Need-returns-3
 unfolding _then_ refuseIf BAD-TYPES BAD-NUMBER
 returns-3 c =
-    simp
-    (counts (c .before .before .before .before .before), kinds (c .before .before .before), ← c .before .before .is-finite .ensures, ← c .before .is-finite2 .ensures, not-true (c .before .before .is-finite .result && c .before .is-finite2 .result) (c .if3 .taken))
+    simp (
+      counts (c .before .before .before .before .before),
+      kinds (c .before .before .before),
+      ← c .before .before .is-finite .ensures,
+      ← c .before .is-finite2 .ensures,
+      not-true (c .before .before .is-finite .result && c .before .is-finite2 .result)
+          (c .if3 .taken),
+    )
 
 lowest-not-a-cube-requires : tie.Need-lowest-not-a-cube-requires
 lowest-not-a-cube-requires c κs =
@@ -73,15 +84,25 @@ returns-4 : tie.Need-returns-4
 unfolding _then_ refuseIf BAD-TYPES BAD-NUMBER
 returns-4 c =
     let t = types (c .before .before .before .before .before .before .before .before .before) in
-    simp
-    (counts (c .before .before .before .before .before .before .before), kinds (c .before .before .before .before .before), numbers (c .before .before), ← c .before .lowest-not-a-cube .ensures (t .covers), lt-ltb _ _ (c .if4 .taken))
+    simp (
+      counts (c .before .before .before .before .before .before .before),
+      kinds (c .before .before .before .before .before),
+      numbers (c .before .before),
+      ← c .before .lowest-not-a-cube .ensures (t .covers),
+      lt-ltb _ _ (c .if4 .taken),
+    )
 
 returns-5 : tie.Need-returns-5
 unfolding _then_ refuseIf BAD-TYPES BAD-NUMBER
 returns-5 c =
     let t = types (c .before .before .before .before .before .before .before .before .before) in
-    simp
-    (counts (c .before .before .before .before .before .before .before), kinds (c .before .before .before .before .before), numbers (c .before .before), ← c .before .lowest-not-a-cube .ensures (t .covers), le-ltb _ _ (c .if4 .left))
+    simp (
+      counts (c .before .before .before .before .before .before .before),
+      kinds (c .before .before .before .before .before),
+      numbers (c .before .before),
+      ← c .before .lowest-not-a-cube .ensures (t .covers),
+      le-ltb _ _ (c .if4 .left),
+    )
 
 pub types-verdict-spec : {M : Type 1} → statement M
 types-verdict-spec =

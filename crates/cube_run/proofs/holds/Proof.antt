@@ -1,0 +1,52 @@
+-- `cube_run::holds` meets its contract. Assumes nothing.
+use Prim.Native.Nat.{_≤_, _-_}
+use lib.ListN.{length}
+use borrow.Author.Needs.{needs}
+use native.Mathlib.Omega.{arith}
+use Rattle.cube_run.proofs.holds.Statement.{statement}
+use Rattle.cube_run.proofs.holds.Tie as tie
+
+abbrev Inv-loop : tie.InvT-loop
+Inv-loop room words ok₀ i₀ ok i = i ≤ length room
+
+abbrev μ-loop : tie.MeasureT-loop
+μ-loop room words ok₀ i₀ ok i = length room - i
+
+loop-holds : tie.Need-loop-holds Inv-loop μ-loop
+loop-holds c = omega arith
+
+mul-ok : tie.Need-mul-ok Inv-loop μ-loop
+mul-ok c = omega arith
+
+shared-slice-read-ok : tie.Need-shared-slice-read-ok Inv-loop μ-loop
+shared-slice-read-ok c = omega arith
+
+expected-at-requires : tie.Need-expected-at-requires Inv-loop μ-loop
+expected-at-requires c κs = search needs
+
+add-i : tie.Need-add-i Inv-loop μ-loop
+add-i c = omega arith
+
+loop-less : tie.Need-loop-less Inv-loop μ-loop
+loop-less c = omega arith
+
+loop-again : tie.Need-loop-again Inv-loop μ-loop
+loop-again c = omega arith
+
+returns : tie.Need-returns Inv-loop μ-loop
+returns c = search needs
+
+pub holds-spec : {M : Type 1} → statement M
+holds-spec =
+    tie.close
+    (tie.spec
+    Inv-loop
+    μ-loop
+    loop-holds
+    mul-ok
+    shared-slice-read-ok
+    expected-at-requires
+    add-i
+    loop-less
+    loop-again
+    returns)

@@ -1,0 +1,61 @@
+-- `cube_run::narrow` meets its contract. Assumes nothing.
+use mathlib.Core.Path.{_≡_, refl}
+use Prim.Native.Nat.{_≤_, _-_}
+use lib.ListN.{length, length-set}
+use borrow.Author.Needs.{needs}
+use native.Mathlib.Omega.{arith}
+use Rattle.cube_run.proofs.narrow.Statement.{statement}
+use Rattle.cube_run.proofs.narrow.Tie as tie
+
+abbrev Inv-loop : tie.InvT-loop
+Inv-loop words bytes₀ i₀ bytes i = (length bytes ≡ length bytes₀) × (i ≤ length bytes)
+
+abbrev μ-loop : tie.MeasureT-loop
+μ-loop words bytes₀ i₀ bytes i = length bytes - i
+
+loop-holds : tie.Need-loop-holds Inv-loop μ-loop
+loop-holds c = (refl, omega arith)
+
+mul-bytes : tie.Need-mul-bytes Inv-loop μ-loop
+mul-bytes c = omega arith
+
+shared-slice-read-bytes : tie.Need-shared-slice-read-bytes Inv-loop μ-loop
+shared-slice-read-bytes c = omega arith
+
+cast-bytes : tie.Need-cast-bytes Inv-loop μ-loop
+cast-bytes c = omega arith
+
+slice-write-bytes : tie.Need-slice-write-bytes Inv-loop μ-loop
+slice-write-bytes c = omega arith
+
+add-i : tie.Need-add-i Inv-loop μ-loop
+add-i c = omega arith
+
+loop-less : tie.Need-loop-less Inv-loop μ-loop
+loop-less c = simp length-set (omega arith)
+
+loop-again : tie.Need-loop-again Inv-loop μ-loop
+loop-again c = (simp length-set (c .before .before .loop .inv .0), simp length-set (omega arith))
+
+same-length : tie.Need-same-length Inv-loop μ-loop
+same-length c = c .before .loop .inv .0
+
+returns : tie.Need-returns Inv-loop μ-loop
+returns c = search needs
+
+pub narrow-spec : {M : Type 1} → statement M
+narrow-spec =
+    tie.close
+    (tie.spec
+    Inv-loop
+    μ-loop
+    loop-holds
+    mul-bytes
+    shared-slice-read-bytes
+    cast-bytes
+    slice-write-bytes
+    add-i
+    loop-less
+    loop-again
+    same-length
+    returns)
