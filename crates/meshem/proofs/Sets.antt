@@ -4,16 +4,16 @@ use mathlib.Core.Logic.{_≢_}
 use mathlib.Core.Bool.{Bool, true, false, cond}
 use mathlib.Core.List.{List}
 use mathlib.Core.Option.{Option, none, some}
-use Prim.Native.Nat.{ℕ, _*_, _≤_, _<_}
+use Prim.Native.Nat.{ℕ, zero, suc, _+_, _-_, _*_, _≤_, _<_}
 use native.Mathlib.Omega.{arith}
 use lib.ListN.{length}
 use borrow.Author.Tests.{eq-eqb, ne-eqb}
-use Rattle.rules.specs.Lists.{each, only, member}
-use Rattle.rules.specs.Cells.{cells, has, neighbour}
-use Rattle.rules.specs.Mesh.{Quad, World, Lists, quadAt, quadsBy, meshBy, typeAt, shown, layout}
+use Rattle.rules.specs.Lists.{each, only, member, count}
+use Rattle.rules.specs.Cells.{cells, has, quadsOf, neighbour}
+use Rattle.rules.specs.Mesh.{Quad, World, Lists, quadAt, quadsBy, meshBy, isNormalCube, typeAt, shown, layout}
 use Rattle.rules.specs.Calls.{Scene, world, span, faces, freshMesh}
-use Rattle.rules.proofs.ListLaws.{members, read-one}
-use Rattle.rules.proofs.Sets.{has-setOf, set-is}
+use Rattle.rules.proofs.ListLaws.{members, read-one, split}
+use Rattle.rules.proofs.Sets.{has-setOf, set-is, setOf-lt}
 use Rattle.rules.proofs.Demands.{words-sized}
 use Rattle.drawing.specs.Drawn.{cellsDrawn, asked}
 use Rattle.drawing.proofs.Laid.{Rooms, each-same, cellQuads, asked-is, drawn-is-layout}
@@ -55,6 +55,37 @@ named-set culling W outer g c =
         → sideDrawn culling W (facesOf (outerSet outer)) g c f ≡ sideDrawn culling W outer g c f
     by f true e = rw e
     by f false e = refl
+
+-- Naive asks for all six, or none
+pub naive-set : (W : World) (outer g : List ℕ) (c : ℕ) (b : Bool) → isNormalCube W (typeAt g c) ≡ b → cond b 63 0 ≡ setAt false W outer g c
+unfolding setAt
+naive-set W outer g c true e = rw e
+naive-set W outer g c false e = rw e
+
+pub set-below : (culling : Bool) (W : World) (outer g : List ℕ) (c : ℕ) → setAt culling W outer g c < 64
+unfolding setAt
+set-below culling W outer g c = setOf-lt (sideDrawn culling W outer g c)
+
+-- ---- counting, cell by cell
+few-below : (p : ℕ → Bool) (n : ℕ) → count n p ≤ n
+unfolding count
+few-below p zero = omega arith
+few-below p (suc n) =
+    split (λ t. count n p + cond t 1 0 ≤ suc n) (p n) (λ e. omega (arith, few-below p n)) (λ e. omega (arith, few-below p n))
+
+pub quads-le : (set : ℕ) → quadsOf set ≤ 6
+quads-le set = few-below (has set) 6
+
+pub asked-more : (sets : ℕ → ℕ) (n c : ℕ) → c < n → asked sets c (n - c) ≡ quadsOf (sets c) + asked sets (c + 1) (n - (c + 1))
+unfolding asked
+asked-more sets n c h =
+    let a : n - c ≡ suc (n - (c + 1)) = omega arith in
+    let b : suc c ≡ c + 1 = omega arith in
+    rw a (ap (λ (k : ℕ). quadsOf (sets c) + asked sets k (n - (c + 1))) b)
+
+pub asked-none : (sets : ℕ → ℕ) (n c : ℕ) → n ≤ c → asked sets c (n - c) ≡ 0
+unfolding asked
+asked-none sets n c h = let a : n - c ≡ 0 = omega arith in rw a
 
 -- both algorithms are one test
 fresh-by : (S : Scene) (outer g : List ℕ) (culling : Bool) → freshMesh S outer g culling ≡ meshBy (world S) (sideDrawn culling (world S) outer g) g

@@ -1,70 +1,90 @@
+-- `meshem::count_quads` meets its contract: what is counted and what is left to count are all that is asked. Assumes nothing.
+use mathlib.Core.Path.{_≡_, refl, sym, ap, _∙_}
+use Prim.Native.Nat.{ℕ, _+_, _-_, _*_, _≤_, _<_}
+use borrow.Author.Needs.{needs}
+use native.Mathlib.Omega.{arith}
+use denote.Ref.{now}
+use lib.ListN.{length}
+use Rattle.rules.specs.Cells.{cells, quadsOf}
+use Rattle.util.specs.Grid.{sizeOf}
+use Rattle.admit.specs.Culling.{worldOf}
+use Rattle.drawing.specs.Drawn.{asked}
+use Rattle.meshem.specs.Fresh.{setAt, facesOf}
+use Rattle.meshem.proofs.Sets.{set-below, quads-le, asked-more, asked-none}
 use Rattle.meshem.proofs.count_quads.Statement.{statement}
 use Rattle.meshem.proofs.count_quads.Tie as tie
-use Rattle.meshem.proofs.count_quads.Reads as reads
-use Rattle.meshem.proofs.count_quads.Lts as lts
-use Rattle.face.proofs.quads_of.Reads as quads-of-reads
-use Rattle.meshem.proofs.side_set.Reads as side-set-reads
-use Rattle.util.proofs.Dimensions.cell_count.Reads as cell-count-reads
 
 abbrev Inv-loop : tie.InvT-loop
-Inv-loop dims culling outer grid kinds covers end n₀ c₀ n c = ?
+Inv-loop dims culling outer grid kinds covers end n₀ c₀ n c =
+    (c ≤ end) × (end ≡ cells (sizeOf dims)) × (n ≤ 6 * c)
+    × (n + asked (setAt culling (worldOf (sizeOf dims) kinds covers) (facesOf outer) grid) c (cells (sizeOf dims) - c)
+    ≡ asked (setAt culling (worldOf (sizeOf dims) kinds covers) (facesOf outer) grid) 0 (cells (sizeOf dims)))
 
 abbrev μ-loop : tie.MeasureT-loop
-μ-loop dims culling outer grid kinds covers end n₀ c₀ n c = ?
+μ-loop dims culling outer grid kinds covers end n₀ c₀ n c = end - c
 
--- src/lib.rt:89:9
+abbrev sets : tie.After-cell-count Inv-loop μ-loop → ℕ → ℕ
+sets c =
+    let args = c .before .before .before .before .args in
+    setAt (args .culling) (worldOf (sizeOf (args .dims)) (now (args .kinds)) (now (args .covers))) (facesOf (args .outer)) (now (args .grid))
+
 cell-count-requires : tie.Need-cell-count-requires Inv-loop μ-loop
-cell-count-requires c κs = ?
+cell-count-requires c κs = c .before .before .before .pre .0 .within .sides
 
--- src/lib.rt:92:5
 loop-holds : tie.Need-loop-holds Inv-loop μ-loop
-loop-holds c = ?
+loop-holds c =
+    let dims = c .before .before .before .before .args .dims in
+    let z : cells (sizeOf dims) - 0 ≡ cells (sizeOf dims) = omega arith in
+    let s : asked (sets c) 0 (cells (sizeOf dims) - 0) ≡ asked (sets c) 0 (cells (sizeOf dims)) = ap (asked (sets c) 0) z in
+    (omega arith, c .cell-count .ensures, omega arith, omega arith)
 
--- src/lib.rt:93:13
 side-set-requires : tie.Need-side-set-requires Inv-loop μ-loop
-side-set-requires c κs = ?
+side-set-requires c κs =
+    let pre = c .before .before .before .before .before .before .pre in
+    (record { within = pre .0 .within; whole = pre .0 .whole; typed = pre .0 .typed; inside = omega (arith, c .before .loop .inv .1, c .loop-test .taken) }, pre .1, pre .2)
 
--- src/lib.rt:94:14
+few : (c : tie.After-side-set Inv-loop μ-loop) → c .side-set .result < 64
+few c =
+    let args = c .before .before .before .before .before .before .before .args in
+    rw (c .side-set .ensures) (set-below (args .culling) (worldOf (sizeOf (args .dims)) (now (args .kinds)) (now (args .covers))) (facesOf (args .outer)) (now (args .grid)) (c .before .before .loop .c))
+
 quads-of-requires : tie.Need-quads-of-requires Inv-loop μ-loop
-quads-of-requires c κs = ?
+quads-of-requires c κs = few c
 
--- src/lib.rt:94:14
+drew : (c : tie.After-quads-of Inv-loop μ-loop) → c .quads-of .result ≡ quadsOf (sets (c .before .before .before .before) (c .before .before .before .loop .c))
+drew c = c .quads-of .ensures ∙ ap quadsOf (c .before .side-set .ensures)
+
 cast-n : tie.Need-cast-n Inv-loop μ-loop
-cast-n c = ?
+cast-n c = omega (arith, c .quads-of .ensures, quads-le (c .before .side-set .result))
 
--- src/lib.rt:94:9
 add-n : tie.Need-add-n Inv-loop μ-loop
-add-n c = ?
+add-n c = omega (arith, c .quads-of .ensures, quads-le (c .before .side-set .result), c .before .before .before .loop .inv .2, c .before .before .before .loop .inv .0)
 
--- src/lib.rt:95:9
 add-c : tie.Need-add-c Inv-loop μ-loop
-add-c c = ?
+add-c c = omega (arith, c .before .before .loop-test .taken)
 
--- src/lib.rt:92:5
 loop-less : tie.Need-loop-less Inv-loop μ-loop
-loop-less c = ?
+loop-less c = omega (arith, c .before .before .loop-test .taken)
 
--- src/lib.rt:92:5
 loop-again : tie.Need-loop-again Inv-loop μ-loop
-loop-again c = ?
+loop-again c =
+    let l = c .before .before .before .loop in
+    let s = sets (c .before .before .before .before) in
+    let dims = c .before .before .before .before .before .before .before .before .args .dims in
+    let t = c .before .before .loop-test .taken in
+    let m = asked-more s (cells (sizeOf dims)) (l .c) (omega (arith, l .inv .1)) in
+    let q = quads-le (c .before .side-set .result) in
+    (omega arith, l .inv .1, omega (arith, c .quads-of .ensures, l .inv .2), omega (arith, l .inv .3, m, drew c))
 
--- src/lib.rt:78:1
 returns : tie.Need-returns Inv-loop μ-loop
-returns c = ?
+returns c =
+    let l = c .before .loop in
+    let s = sets (c .before .before) in
+    let dims = c .before .before .before .before .before .before .args .dims in
+    let m = asked-none s (cells (sizeOf dims)) (l .c) (omega (arith, l .inv .1, c .loop-test .left)) in
+    omega (arith, l .inv .3, m)
 
 pub count-quads-spec : {M : Type 1} → statement M
 count-quads-spec =
     tie.close
-    (tie.spec
-    Inv-loop
-    μ-loop
-    cell-count-requires
-    loop-holds
-    side-set-requires
-    quads-of-requires
-    cast-n
-    add-n
-    add-c
-    loop-less
-    loop-again
-    returns)
+    (tie.spec Inv-loop μ-loop cell-count-requires loop-holds side-set-requires quads-of-requires cast-n add-n add-c loop-less loop-again returns)

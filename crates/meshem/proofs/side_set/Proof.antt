@@ -1,52 +1,73 @@
+-- `meshem::side_set` meets its contract: Culling asks for what `drawn_set` finds, Naive for all six of a NormalCube. Assumes nothing.
+use mathlib.Core.Path.{_≡_, refl, sym, ap, _∙_}
+use mathlib.Core.Bool.{Bool, true, false}
 use borrow.Author.Needs.{needs}
+use borrow.Author.Tests.{eq-eqb, ne-eqb}
+use native.Mathlib.Omega.{arith}
+use denote.Ref.{now}
+use lib.ListN.{length, getD}
+use Prim.Native.Nat.{_<_}
+use Rattle.rules.specs.Mesh.{typeAt}
+use Rattle.admit.proofs.Books.{within}
+use Rattle.meshem.specs.Fresh.{setAt, facesOf}
+use Rattle.meshem.proofs.Sets.{outer-faces, naive-set}
 use Rattle.meshem.proofs.side_set.Statement.{statement}
 use Rattle.meshem.proofs.side_set.Tie as tie
-use Rattle.meshem.proofs.side_set.Reads as reads
-use Rattle.meshem.proofs.side_set.Lts as lts
-use Rattle.admit.proofs.culling.drawn_set.Reads as drawn-set-reads
-use Rattle.meshem.proofs.wide.Reads as wide-reads
 
--- src/lib.rt:70:9
+-- the code that stands in the cell is a type's
+code : (c : tie.After-wide) →
+    let start = c .before .before .before .before .before .before .before in c .wide .result ≡ getD (now (start .args .grid)) (start .args .cell .0) 0
+code c = c .wide .ensures .0
+
+listed : (c : tie.After-wide) → c .wide .result < length (now (c .before .before .before .before .before .before .before .args .kinds))
+listed c =
+    let start = c .before .before .before .before .before .before .before in
+    let laid = start .pre .0 in
+    let inside : start .args .cell .0 < length (now (start .args .grid)) = rw (laid .whole) (laid .inside) in
+    omega (arith, laid .typed (start .args .cell .0) inside, code c, start .pre .1)
+
+standing : (c : tie.After-wide) →
+    let start = c .before .before .before .before .before .before .before in typeAt (now (start .args .grid)) (start .args .cell .0) ≡ c .wide .result
+standing c =
+    let start = c .before .before .before .before .before .before .before in
+    let laid = start .pre .0 in
+    let inside : start .args .cell .0 < length (now (start .args .grid)) = rw (laid .whole) (laid .inside) in
+    within (now (start .args .grid)) (start .args .cell .0) 255 0 inside ∙ sym (code c)
+
 drawn-set-requires : tie.Need-drawn-set-requires
 drawn-set-requires c κs = search needs
 
--- src/lib.rt:70:9
 returns : tie.Need-returns
-returns c = ?
+unfolding setAt
+returns c =
+    let start = c .before .before .before .before .before in
+    rw (c .before .if1 .taken) (c .drawn-set .ensures (facesOf (start .args .outer)) (outer-faces (start .args .outer) (start .pre .2)))
 
--- src/lib.rt:72:14
 cast-at : tie.Need-cast-at
 cast-at c = search needs
 
--- src/lib.rt:73:21
 shared-slice-read-wide : tie.Need-shared-slice-read-wide
 shared-slice-read-wide c = search needs
 
--- src/lib.rt:73:9
 wide-requires : tie.Need-wide-requires
 wide-requires c κs = search needs
 
--- src/lib.rt:74:8
 shared-slice-read-if2 : tie.Need-shared-slice-read-if2
-shared-slice-read-if2 c = ?
+shared-slice-read-if2 c = listed (c .before)
 
--- src/lib.rt:57:1
 returns-2 : tie.Need-returns-2
-returns-2 c = ?
+returns-2 c =
+    let w = c .before .before in
+    rw (w .before .before .before .if1 .left)
+    (naive-set _ _ _ _ true (rw (standing w) (eq-eqb _ 1 (c .if2 .taken))))
 
--- src/lib.rt:57:1
 returns-3 : tie.Need-returns-3
-returns-3 c = ?
+returns-3 c =
+    let w = c .before .before in
+    rw (w .before .before .before .if1 .left)
+    (naive-set _ _ _ _ false (rw (standing w) (ne-eqb _ 1 (c .if2 .left))))
 
 pub side-set-spec : {M : Type 1} → statement M
 side-set-spec =
     tie.close
-    (tie.spec
-    drawn-set-requires
-    returns
-    cast-at
-    shared-slice-read-wide
-    wide-requires
-    shared-slice-read-if2
-    returns-2
-    returns-3)
+    (tie.spec drawn-set-requires returns cast-at shared-slice-read-wide wide-requires shared-slice-read-if2 returns-2 returns-3)
