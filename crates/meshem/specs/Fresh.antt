@@ -41,4 +41,5 @@ pub record Roomy (S : Scene) (culling : Bool) (outer : ℕ) (g : List ℕ) (B : 
 pub record Meshable (S : Scene) (culling : Bool) (outer : ℕ) (g : List ℕ) (B : Lists) (c base : ℕ) : Type 0 where
   pub roomy : Roomy S culling outer g B
   pub inside : c < cells (S .size)
+  pub low : base ≤ 6 * c
   pub fits : base + quadsOf (setAt culling (world S) (facesOf outer) g c) ≤ room S B

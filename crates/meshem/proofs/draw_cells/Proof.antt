@@ -1,61 +1,75 @@
+-- `meshem::draw_cells` meets its contract: what is left to do on what is there is the whole work on what was there. Assumes nothing.
+use mathlib.Core.Path.{_≡_, sym}
+use Prim.Native.Nat.{ℕ, _≤_, _-_}
+use native.Mathlib.Omega.{arith}
+use denote.Ref.{now}
+use Rattle.rules.specs.Cells.{cells}
+use Rattle.rules.specs.Calls.{Scene}
+use Rattle.util.specs.Grid.{sizeOf}
+use Rattle.admit.specs.Scenes.{sceneOf, listsOf}
+use Rattle.meshem.proofs.Turns.{Turned, turned, meshable, turn, ended}
 use Rattle.meshem.proofs.draw_cells.Statement.{statement}
 use Rattle.meshem.proofs.draw_cells.Tie as tie
-use Rattle.meshem.proofs.draw_cells.Reads as reads
-use Rattle.meshem.proofs.draw_cells.Lts as lts
-use Rattle.meshem.proofs.draw_sides.Reads as draw-sides-reads
-use Rattle.util.proofs.Dimensions.cell_count.Reads as cell-count-reads
 
 abbrev Inv-loop : tie.InvT-loop
 Inv-loop vertices₀ triangles₀ links₀ slots₀ scene culling outer grid kinds covers cubes end base₀ c₀ vertices triangles links slots base c =
-    ?
+    (end ≡ cells (sizeOf (scene .dims)))
+    × Turned (sceneOf scene kinds covers cubes) culling outer grid c base (listsOf vertices₀ triangles₀ links₀ slots₀) (listsOf vertices triangles links slots)
 
 abbrev μ-loop : tie.MeasureT-loop
-μ-loop vertices₀ triangles₀ links₀ slots₀ scene culling outer grid kinds covers cubes end base₀ c₀ vertices triangles links slots base c =
-    ?
+μ-loop vertices₀ triangles₀ links₀ slots₀ scene culling outer grid kinds covers cubes end base₀ c₀ vertices triangles links slots base c = end - c
 
--- src/lib.rt:170:9
+abbrev start : tie.After-cell-count Inv-loop μ-loop → tie.Start Inv-loop μ-loop
+start c = c .before .before .before .before .before .before .before .before .before
+
+abbrev scene : tie.Start Inv-loop μ-loop → Scene
+scene s = let a = s .args in sceneOf (a .scene) (now (a .kinds)) (now (a .covers)) (now (a .cubes))
+
 cell-count-requires : tie.Need-cell-count-requires Inv-loop μ-loop
-cell-count-requires c κs = ?
+cell-count-requires c κs = c .before .before .before .before .before .before .before .before .pre .grid .within .sides
 
--- src/lib.rt:173:5
 loop-holds : tie.Need-loop-holds Inv-loop μ-loop
-loop-holds c = ?
+loop-holds c = let s = start c in (c .cell-count .ensures, turned (scene s) (s .args .culling) (s .args .outer) (now (s .args .grid)) _)
 
--- src/lib.rt:174:9
 draw-sides-requires : tie.Need-draw-sides-requires Inv-loop μ-loop
-draw-sides-requires c κs = ?
+draw-sides-requires c κs =
+    let i = c .before .before .before .before in
+    let s = start (i .before .before) in
+    meshable (scene s) (s .args .culling) (s .args .outer) (now (s .args .grid)) (s .pre) (omega (arith, i .before .loop .inv .0, i .loop-test .taken)) (i .before .loop .inv .1)
 
--- src/lib.rt:189:9
 add-c : tie.Need-add-c Inv-loop μ-loop
-add-c c = ?
+add-c c = omega (arith, c .before .before .before .before .before .before .before .before .before .before .before .before .before .loop-test .taken)
 
--- src/lib.rt:173:5
 loop-less : tie.Need-loop-less Inv-loop μ-loop
-loop-less c = ?
+loop-less c = omega (arith, c .before .before .before .before .before .before .before .before .before .before .before .before .before .loop-test .taken)
 
--- src/lib.rt:173:5
 loop-again : tie.Need-loop-again Inv-loop μ-loop
-loop-again c = ?
+loop-again c =
+    let d = c .before .before .before .before .before .before .before .before in
+    let i = d .before .before .before .before .before in
+    let s = start (i .before .before) in
+    let l = i .before .loop in (
+      l .inv .0,
+      turn (scene s) (s .args .culling) (s .args .outer) (now (s .args .grid)) (s .pre) (omega (arith, l .inv .0, i .loop-test .taken)) (l .inv .1)
+          (d .draw-sides .ensures .0) (d .draw-sides .ensures .1),
+    )
 
--- src/lib.rt:149:1
 same-length : tie.Need-same-length Inv-loop μ-loop
-same-length c = ?
+same-length c = c .before .loop .inv .1 .kept .vertices
 
--- src/lib.rt:149:1
 same-length-2 : tie.Need-same-length-2 Inv-loop μ-loop
-same-length-2 c = ?
+same-length-2 c = c .before .loop .inv .1 .kept .triangles
 
--- src/lib.rt:149:1
 same-length-3 : tie.Need-same-length-3 Inv-loop μ-loop
-same-length-3 c = ?
+same-length-3 c = c .before .loop .inv .1 .kept .links
 
--- src/lib.rt:149:1
 same-length-4 : tie.Need-same-length-4 Inv-loop μ-loop
-same-length-4 c = ?
+same-length-4 c = c .before .loop .inv .1 .kept .slots
 
--- src/lib.rt:149:1
 returns : tie.Need-returns Inv-loop μ-loop
-returns c = ?
+returns c =
+    let s = start (c .before .before) in
+    ended (scene s) (s .args .culling) (s .args .outer) (now (s .args .grid)) (omega (arith, c .before .loop .inv .0, c .loop-test .left)) (c .before .loop .inv .1)
 
 pub draw-cells-spec : {M : Type 1} → statement M
 draw-cells-spec =
