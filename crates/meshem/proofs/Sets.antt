@@ -15,7 +15,7 @@ use Rattle.rules.specs.Calls.{Scene, world, span, faces, freshMesh}
 use Rattle.rules.proofs.ListLaws.{members, read-one, split}
 use Rattle.rules.proofs.Sets.{has-setOf, set-is, setOf-lt}
 use Rattle.rules.proofs.Demands.{words-sized}
-use Rattle.drawing.specs.Drawn.{cellsDrawn, asked}
+use Rattle.drawing.specs.Drawn.{facesDrawn, cellsDrawn, asked}
 use Rattle.drawing.proofs.Laid.{Rooms, each-same, cellQuads, asked-is, drawn-is-layout}
 use Rattle.admit.specs.Culling.{outerSet}
 use Rattle.admit.proofs.Sides.{setOf-cong}
@@ -86,6 +86,18 @@ asked-more sets n c h =
 pub asked-none : (sets : ℕ → ℕ) (n c : ℕ) → n ≤ c → asked sets c (n - c) ≡ 0
 unfolding asked
 asked-none sets n c h = let a : n - c ≡ 0 = omega arith in rw a
+
+-- sets that are the same ask for, and draw, the same
+pub asked-cong : (n c : ℕ) (s t : ℕ → ℕ) → ((k : ℕ) → s k ≡ t k) → asked s c n ≡ asked t c n
+unfolding asked
+asked-cong zero c s t e = refl
+asked-cong (suc n) c s t e = rw (e c, asked-cong n (suc c) s t e)
+
+pub drawn-cong : (w : ℕ) (quad : ℕ → ℕ → Quad) (n base c : ℕ) (s t : ℕ → ℕ) → ((k : ℕ) → s k ≡ t k) → (B : Lists)
+    → cellsDrawn w s quad base c n B ≡ cellsDrawn w t quad base c n B
+unfolding cellsDrawn
+drawn-cong w quad zero base c s t e B = refl
+drawn-cong w quad (suc n) base c s t e B = rw (e c) (drawn-cong w quad n (base + quadsOf (t c)) (suc c) s t e (facesDrawn w (t c) (quad c) base c 0 6 B))
 
 -- both algorithms are one test
 fresh-by : (S : Scene) (outer g : List ℕ) (culling : Bool) → freshMesh S outer g culling ≡ meshBy (world S) (sideDrawn culling (world S) outer g) g
