@@ -1,19 +1,19 @@
 -- What a verdict that refuses nothing says of the input. Assumes nothing.
 use mathlib.Core.Path.{_≡_, sym, subst}
-use mathlib.Core.Bool.{Bool, true, false, not, _&&_, _||_}
+use mathlib.Core.Bool.{true, _&&_}
 use mathlib.Core.List.{List}
-use Prim.Native.Nat.{ℕ, _+_, _*_, _^_, _≤_, _<_}
+use Prim.Native.Nat.{ℕ, _*_, _^_, _≤_, _<_}
 use native.Mathlib.Nat.{mul-le-mul-right}
 use native.Mathlib.Omega.{arith}
-use lib.Dec.{T, eqb, leb, ltb}
+use lib.Dec.{T, leb, ltb}
 use lib.ListN.{length, getD}
 use lib.Ieee.Fits.{and-l, and-r}
 use borrow.Author.Tests.{ltb-false, leb-false, eqb-true, eq-eqb, not-false}
 use Rattle.rules.specs.Cells.{cells}
 use Rattle.rules.specs.Floats.{finite3}
-use Rattle.rules.specs.Types.{floats, cubeOf, isCube}
+use Rattle.rules.specs.Types.{floats}
 use Rattle.rules.specs.Mesh.{Lists}
-use Rattle.rules.specs.Answers.{fine, refuseIf, refuseLowest, badLimits, badCounts, badType, notACube, roomOf, BAD-SIZE, BAD-GRID, BAD-TYPES, BAD-NUMBER, NOT-A-CUBE, BAD-OUTER, BAD-CELL, SHORT-SLOTS, BAD-COUNT}
+use Rattle.rules.specs.Answers.{fine, refuseIf, refuseLowest, badCounts, badType, notACube, BAD-SIZE, BAD-GRID, BAD-TYPES, BAD-NUMBER, NOT-A-CUBE, BAD-OUTER, BAD-CELL, SHORT-SLOTS, BAD-COUNT}
 use Rattle.rules.specs.Calls.{Scene, span, room, typesVerdict}
 use Rattle.rules.proofs.ListLaws.{or-false, not-true}
 use Rattle.rules.proofs.Checking.{then-fine, if-fine, lowest-fine}

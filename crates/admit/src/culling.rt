@@ -41,7 +41,8 @@ fn is_shown(dims: Dimensions, outer: u8, grid: &[u8], covers: &[u8], cell: Cell,
         Neighbor::At(beside) => {
             let at = beside.0 as usize;
             let code = wide(grid[at]);
-            !has(covers[code], face.opposite())
+            let facing = face.opposite();
+            !has(covers[code], facing)
         }
         Neighbor::Nothing => !has(outer, face),
     }

@@ -7,13 +7,11 @@ use util::Dimensions;
 use voxel_mesh::floats_of;
 use voxel_mesh::types::types_verdict;
 ghost use mathlib.Core.Path.{_≡_};
-ghost use mathlib.Core.Bool.{not};
 ghost use mathlib.Core.List.{List};
-ghost use Prim.Native.Nat.{ℕ, _+_, _*_, _^_, _≤_, _<_, min};
+ghost use Prim.Native.Nat.{ℕ, _*_, _<_, min};
 ghost use lib.ListN.{length, getD};
 ghost use lib.Dec.{leb, ltb};
 ghost use Rattle.rules.specs.Lists.{lowest};
-ghost use Rattle.rules.specs.Cells.{cells};
 ghost use Rattle.rules.specs.Cube.{floatsOf};
 ghost use Rattle.rules.specs.Types.{Types};
 ghost use Rattle.rules.specs.Mesh.{Lists};
@@ -105,7 +103,7 @@ fn lowest_bad_cell(types: usize, grid: &[u8]) -> usize
     cell
 }
 
-fn wide(code: u8) -> usize
+pub fn wide(code: u8) -> usize
     ensures { λ r. ⌜ r ≡ code ⌝ }
 {
     code as usize

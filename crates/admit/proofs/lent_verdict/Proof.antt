@@ -34,7 +34,9 @@ is-refusal-requires : tie.Need-is-refusal-requires
 is-refusal-requires c κs = search needs
 
 returns : tie.Need-returns
-returns c = λ kinds covers cubes. stops _ _ _ (c .before .before .slots-verdict .ensures (lists (c .before .before .before .before .before .before .before .before)) refl) (sym (c .before .is-refusal .ensures) ∙ c .if1 .taken)
+returns c =
+    λ kinds covers cubes. let start = c .before .before .before .before .before .before .before .before in
+    stops _ _ _ (c .before .before .slots-verdict .ensures (lists start) refl) (sym (c .before .is-refusal .ensures) ∙ c .if1 .taken)
 
 count-verdict-requires : tie.Need-count-verdict-requires
 count-verdict-requires c κs = search needs
@@ -44,8 +46,9 @@ is-refusal-requires-2 c κs = search needs
 
 returns-2 : tie.Need-returns-2
 returns-2 c =
-    λ kinds covers cubes. goes _ _ (c .before .before .before .before .before .slots-verdict .ensures (lists (c .before .before .before .before .before .before .before .before .before .before .before)) refl) (slots (c .before .before .before))
-    (stops _ _ _ (c .before .before .count-verdict .ensures (lists (c .before .before .before .before .before .before .before .before .before .before .before)) (lengths (c .before .before .before .before .before .before .before .before .before .before .before))) (sym (c .before .is-refusal2 .ensures) ∙ c .if2 .taken))
+    λ kinds covers cubes. let start = c .before .before .before .before .before .before .before .before .before .before .before in
+    goes _ _ (c .before .before .before .before .before .slots-verdict .ensures (lists start) refl) (slots (c .before .before .before))
+    (stops _ _ _ (c .before .before .count-verdict .ensures (lists start) (lengths start)) (sym (c .before .is-refusal2 .ensures) ∙ c .if2 .taken))
 
 cell-count-requires : tie.Need-cell-count-requires
 cell-count-requires c κs = search needs
@@ -54,16 +57,17 @@ book-verdict-requires : tie.Need-book-verdict-requires
 book-verdict-requires c κs =
     let start = c .before .before .before .before .before .before .before .before .before .before .before .before in
     let B = lists start in
-    let scene = sceneOf (start .args .scene) [] [] [] in
-    let l = lent scene B (start .args .count) (start .pre) (omega arith)
-    (passes _ _ (c .before .before .before .before .before .before .slots-verdict .ensures B refl) (slots (c .before .before .before .before))) (passes _ _ (c .before .before .before .count-verdict .ensures B (lengths start)) (count (c .before))) in
+    let short = passes _ _ (c .before .before .before .before .before .before .slots-verdict .ensures B refl) (slots (c .before .before .before .before)) in
+    let fits = passes _ _ (c .before .before .before .count-verdict .ensures B (lengths start)) (count (c .before)) in
+    let l = lent (sceneOf (start .args .scene) [] [] []) B (start .args .count) (start .pre) (omega arith) short fits in
     (rw (c .cell-count .ensures) (l .0), l .1 .triangles)
 
 returns-3 : tie.Need-returns-3
 returns-3 c =
-    λ kinds covers cubes. goes _ _ (c .before .before .before .before .before .before .before .slots-verdict .ensures (lists (c .before .before .before .before .before .before .before .before .before .before .before .before .before)) refl) (slots (c .before .before .before .before .before))
-    (goes _ _ (c .before .before .before .before .count-verdict .ensures (lists (c .before .before .before .before .before .before .before .before .before .before .before .before .before)) (lengths (c .before .before .before .before .before .before .before .before .before .before .before .before .before))) (count (c .before .before))
-    (c .book-verdict .ensures (now (c .before .before .before .before .before .before .before .before .before .before .before .before .before .args .vertices)) ∙ rw (c .before .cell-count .ensures)))
+    λ kinds covers cubes. let start = c .before .before .before .before .before .before .before .before .before .before .before .before .before in
+    goes _ _ (c .before .before .before .before .before .before .before .slots-verdict .ensures (lists start) refl) (slots (c .before .before .before .before .before))
+    (goes _ _ (c .before .before .before .before .count-verdict .ensures (lists start) (lengths start)) (count (c .before .before))
+    (c .book-verdict .ensures (now (start .args .vertices)) ∙ rw (c .before .cell-count .ensures)))
 
 pub lent-verdict-spec : {M : Type 1} → statement M
 lent-verdict-spec =

@@ -1,14 +1,12 @@
 -- `admit::open_verdict` meets its contract: each return is what the tests before it leave. Assumes nothing.
 use mathlib.Core.Path.{_≡_, refl, sym, _∙_}
-use mathlib.Core.Bool.{false}
 use lib.ListN.{length}
 use denote.Ref.{now}
 use Rattle.rules.specs.Mesh.{Lists}
 use Rattle.rules.specs.Answers.{_then_, BAD-COUNT}
 use Rattle.rules.specs.Calls.{openVerdict}
-use Rattle.answers.specs.Verdicts.{verdictOf}
 use Rattle.rules.specs.Cube.{floatsOf}
-use Rattle.admit.specs.Scenes.{sceneOf, listsOf, refuses, Long, inputVerdict}
+use Rattle.admit.specs.Scenes.{sceneOf, listsOf, Long, inputVerdict}
 use Rattle.admit.proofs.Chains.{stops, goes, then-assoc}
 use borrow.Author.Needs.{needs}
 use Rattle.admit.proofs.open_verdict.Statement.{statement}
@@ -34,16 +32,19 @@ is-refusal-requires : tie.Need-is-refusal-requires
 is-refusal-requires c κs = search needs
 
 returns : tie.Need-returns
-returns c = stops _ _ _ (c .before .before .input-verdict .ensures (lists (c .before .before .before .before .before .before .before .before .before .before .before .before)) refl) (sym (c .before .is-refusal .ensures) ∙ c .if1 .taken) ∙ joined (c .before .before .before .before .before .before .before .before .before .before .before .before)
+returns c =
+    let start = c .before .before .before .before .before .before .before .before .before .before .before .before in
+    stops _ _ _ (c .before .before .input-verdict .ensures (lists start) refl) (sym (c .before .is-refusal .ensures) ∙ c .if1 .taken) ∙ joined start
 
 count-verdict-requires : tie.Need-count-verdict-requires
 count-verdict-requires c κs = search needs
 
 returns-2 : tie.Need-returns-2
 returns-2 c =
-    goes _ _ (c .before .before .before .input-verdict .ensures (lists (c .before .before .before .before .before .before .before .before .before .before .before .before .before)) refl) (sym (c .before .before .is-refusal .ensures) ∙ c .before .if1 .left)
-    (c .count-verdict .ensures (lists (c .before .before .before .before .before .before .before .before .before .before .before .before .before)) (lengths (c .before .before .before .before .before .before .before .before .before .before .before .before .before)))
-    ∙ joined (c .before .before .before .before .before .before .before .before .before .before .before .before .before)
+    let start = c .before .before .before .before .before .before .before .before .before .before .before .before .before in
+    goes _ _ (c .before .before .before .input-verdict .ensures (lists start) refl) (sym (c .before .before .is-refusal .ensures) ∙ c .before .if1 .left)
+    (c .count-verdict .ensures (lists start) (lengths start))
+    ∙ joined start
 
 pub open-verdict-spec : {M : Type 1} → statement M
 open-verdict-spec =

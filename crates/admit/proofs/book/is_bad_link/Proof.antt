@@ -17,16 +17,20 @@ use Rattle.admit.proofs.book.is_bad_link.Statement.{statement}
 use Rattle.admit.proofs.book.is_bad_link.Tie as tie
 
 -- the word that was read, and what the two tests of it say
-abbrev word : tie.Else1 → ℕ
-word c = let args = c .before .before .before .before .before .before .before .args in getD (now (args .links)) (args .q) 0
+abbrev start : tie.Else1 → tie.Start
+start c = c .before .before .before .before .before .before .before
 
-passed : (c : tie.Else1) → (ltb 5 (codeIn (word c)) ≡ false) × (leb (c .before .before .before .before .before .before .before .args .cells) (cellIn (word c)) ≡ false)
+abbrev word : tie.Else1 → ℕ
+word c = getD (now (start c .args .links)) (start c .args .q) 0
+
+passed : (c : tie.Else1) → (ltb 5 (codeIn (word c)) ≡ false) × (leb (start c .args .cells) (cellIn (word c)) ≡ false)
 passed c = or-false _ _ (rw (c .before .before .before .code-of .ensures, c .before .before .cell-of .ensures) at (c .if1 .left))
 
-slot-within : (c : tie.After-key-of) → c .key-of .result < length (now (c .before .before .before .before .before .before .before .before .args .slots))
+slot-within : (c : tie.After-key-of) → c .key-of .result < length (now (start (c .before) .args .slots))
 slot-within c =
-    omega
-    (arith, c .key-of .ensures, ltb-false 5 (codeIn (word (c .before))) (passed (c .before) .0), leb-false (c .before .before .before .before .before .before .before .before .args .cells) (cellIn (word (c .before))) (passed (c .before) .1))
+    let w = word (c .before) in
+    let both = passed (c .before) in
+    omega (arith, c .key-of .ensures, ltb-false 5 (codeIn w) (both .0), leb-false (start (c .before) .args .cells) (cellIn w) (both .1))
 
 mul-word : tie.Need-mul-word
 mul-word c = search needs

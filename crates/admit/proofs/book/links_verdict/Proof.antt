@@ -1,5 +1,5 @@
 -- `admit::book::links_verdict` meets its contract. Assumes nothing.
-use mathlib.Core.Path.{_≡_, _∙_}
+use mathlib.Core.Path.{_∙_}
 use Rattle.rules.specs.Answers.{badLink}
 use Rattle.admit.specs.Scenes.{listsOf}
 use Rattle.admit.proofs.Books.{links-refused, links-counted}

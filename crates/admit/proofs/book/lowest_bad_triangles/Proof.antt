@@ -1,7 +1,7 @@
 -- `admit::book::lowest_bad_triangles` meets its contract. Assumes nothing.
 use mathlib.Core.Path.{_≡_, sym, ap, _∙_}
 use mathlib.Core.Bool.{not}
-use Prim.Native.Nat.{ℕ, _+_, _-_, _*_}
+use Prim.Native.Nat.{_+_, _-_, _*_}
 use denote.Ref.{now}
 use Rattle.rules.specs.Lists.{row, same}
 use Rattle.rules.specs.Mesh.{pattern}

@@ -1,4 +1,4 @@
--- `admit::culling::drawn_set` meets its contract. Assumes nothing.
+-- `admit::culling::drawn_set` meets its contract: each return is what the tests before it leave. Assumes nothing.
 use mathlib.Core.Path.{_≡_, refl, sym, ap, _∙_}
 use mathlib.Core.Bool.{Bool}
 use Prim.Native.Nat.{ℕ}
@@ -17,12 +17,17 @@ use native.Mathlib.Omega.{arith}
 use Rattle.admit.proofs.culling.drawn_set.Statement.{statement}
 use Rattle.admit.proofs.culling.drawn_set.Tie as tie
 
-code : (c : tie.After-wide) → c .wide .result ≡ typeAt (now (c .before .before .before .before .before .before .args .grid)) (c .before .before .before .before .before .before .args .cell .0)
-code c = c .wide .ensures ∙ within (now (c .before .before .before .before .before .before .args .grid)) (c .before .before .before .before .before .before .args .cell .0) 0 255 (omega arith)
+abbrev start : tie.After-wide → tie.Start
+start c = c .before .before .before .before .before .before
 
-cube : (c : tie.After-wide) → let args = c .before .before .before .before .before .before .args in
-    eqb (getD (now (args .kinds)) (typeAt (now (args .grid)) (args .cell .0)) 0) 1 ≡ eqb (getD (now (args .kinds)) (c .wide .result) 0) 1
-cube c = ap (λ (t : ℕ). eqb (getD (now (c .before .before .before .before .before .before .args .kinds)) t 0) 1) (sym (code c))
+code : (c : tie.After-wide) → c .wide .result ≡ typeAt (now (start c .args .grid)) (start c .args .cell .0)
+code c = c .wide .ensures ∙ within (now (start c .args .grid)) (start c .args .cell .0) 0 255 (omega arith)
+
+abbrev isCube : tie.After-wide → ℕ → Bool
+isCube c t = eqb (getD (now (start c .args .kinds)) t 0) 1
+
+cube : (c : tie.After-wide) → isCube c (typeAt (now (start c .args .grid)) (start c .args .cell .0)) ≡ isCube c (c .wide .result)
+cube c = ap (isCube c) (sym (code c))
 
 cast-at : tie.Need-cast-at
 cast-at c = search needs
@@ -34,7 +39,7 @@ wide-requires : tie.Need-wide-requires
 wide-requires c κs = search needs
 
 shared-slice-read-if1 : tie.Need-shared-slice-read-if1
-shared-slice-read-if1 c = omega (arith, c .before .wide .ensures, c .before .before .before .before .before .before .before .pre .0 .typed (c .before .before .before .before .before .before .before .args .cell .0) (omega arith))
+shared-slice-read-if1 c = let start = c .before .before .before .before .before .before .before in omega (arith, c .before .wide .ensures, start .pre .0 .typed (start .args .cell .0) (omega arith))
 
 returns : tie.Need-returns
 returns c = λ faces e. rw (cube (c .before .before) ∙ ne-eqb _ _ (c .if1 .taken))
@@ -74,12 +79,15 @@ add-result-5 c = search needs
 
 returns-2 : tie.Need-returns-2
 returns-2 c =
-    λ faces e. let args = c .before .before .before .before .before .before .before .before .before .before .before .before .before .before .args in
-    let side : ℕ → Bool = shownAt (sizeOf (args .dims)) (now (args .covers)) faces (now (args .grid)) (args .cell .0) in
+    λ faces e. let args = start (c .before .before .before .before .before .before .before .before) .args in
+    let size = sizeOf (args .dims) in
+    let g = now (args .grid) in
+    let side : ℕ → Bool = shownAt size (now (args .covers)) faces g (args .cell .0) in
+    let normal = cube (c .before .before .before .before .before .before .before .before) ∙ eq-eqb _ _ (c .before .before .before .before .before .before .if1 .left) in
     six-sides side (c .before .before .before .before .before .shown-side .ensures .0 faces e) (c .before .before .before .before .shown-side2 .ensures .0 faces e) (c .before .before .before .shown-side3 .ensures .0 faces e)
     (c .before .before .shown-side4 .ensures .0 faces e) (c .before .shown-side5 .ensures .0 faces e) (c .shown-side6 .ensures .0 faces e)
-    ∙ setOf-cong side (drawn (worldOf (sizeOf (args .dims)) (now (args .kinds)) (now (args .covers))) faces (now (args .grid)) (args .cell .0))
-    (λ f l. rw (cube (c .before .before .before .before .before .before .before .before) ∙ eq-eqb _ _ (c .before .before .before .before .before .before .if1 .left)) (shown-by _ _ faces _ f (neighbour (sizeOf (args .dims)) (args .cell .0) f) refl))
+    ∙ setOf-cong side (drawn (worldOf size (now (args .kinds)) (now (args .covers))) faces g (args .cell .0))
+    (λ f l. rw normal (shown-by _ _ faces _ f (neighbour size (args .cell .0) f) refl))
 
 pub drawn-set-spec : {M : Type 1} → statement M
 drawn-set-spec =

@@ -1,7 +1,6 @@
 -- `admit::culling::outer_set` meets its contract. Assumes nothing.
 use mathlib.Core.Path.{_≡_, ap, _∙_}
-use mathlib.Core.List.{List}
-use Prim.Native.Nat.{ℕ, _≤_, _-_}
+use Prim.Native.Nat.{_≤_, _-_}
 use denote.Ref.{now}
 use lib.Bits.{bitOr}
 use lib.ListN.{length, getD, take}

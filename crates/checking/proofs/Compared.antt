@@ -1,0 +1,142 @@
+-- WRONG_VERTEX, word by word. Assumes nothing.
+use mathlib.Core.Path.{_≡_, sym, ap, _∙_}
+use mathlib.Core.Bool.{Bool, true, false, cond}
+use mathlib.Core.List.{List}
+use Prim.Native.Nat.{ℕ, zero, suc, _+_, _-_, _*_, _≤_, _<_}
+use native.Mathlib.Nat.{zero-add, mul-suc}
+use native.Mathlib.Numerals.{add-one}
+use native.Mathlib.Omega.{arith}
+use lib.Dec.{T, eqb}
+use lib.ListN.{length, getD, take, drop}
+use lib.Seq.{ext-getD}
+use Rattle.rules.specs.Lists.{table, part, row, same}
+use Rattle.rules.specs.Cells.{Triple, along, coordinates, code, codeIn, cellIn}
+use Rattle.rules.specs.Floats.{finite3}
+use Rattle.rules.specs.Types.{order, quadWord, quadWords}
+use Rattle.rules.specs.Mesh.{typeAt}
+use Rattle.rules.proofs.ListLaws.{both-ways, same-true, same-refl, length-each, length-table, getD-table}
+use borrow.Author.Tests.{le-ltb}
+use Rattle.face.specs.declared.Face.{Face}
+use Rattle.face.specs.declared.FoundFace.the-variants as Found
+use Rattle.face.specs.Face.{number, faceOfCode}
+use Rattle.face.proofs.Laws.{faceAt-below}
+use Rattle.util.specs.Grid.{sizeOf}
+use Rattle.rules.proofs.Neighbours.{inside-of}
+use Rattle.floats.specs.Triples.{tripleOf}
+use Rattle.voxel_mesh.proofs.Shapes.{row-within}
+use Rattle.voxel_mesh.proofs.Rows.{length-lent, getD-each}
+use Rattle.admit.specs.declared.Scene.{Scene}
+use Rattle.admit.proofs.Books.{within}
+use Rattle.checking.specs.Quads.{Drawable, Comparable, cubeAt, quadAt}
+
+-- ---- faces, corners and coordinates
+
+pub code-face : (k : ℕ) → k ≤ 5 → (f : Face) → faceOfCode k ≡ Found.Face f → number f ≡ code k
+code-face k h f e =
+    let below = faceAt-below (code k) (omega arith) in
+    let g = below .0 in
+    let is : Found.Face g ≡ Found.Face f = sym (below .1) ∙ (rw (le-ltb 5 k h) at e) in
+    let same : g ≡ f = cc in
+    ap number (sym same) ∙ below .2
+
+pub code-none : (k : ℕ) → k ≤ 5 → faceOfCode k ≡ Found.Nothing → ⊥
+code-none k h e =
+    let below = faceAt-below (code k) (omega arith) in
+    let is : Found.Face (below .0) ≡ Found.Nothing = sym (below .1) ∙ (rw (le-ltb 5 k h) at e) in
+    let z : _≡_ {A = ℕ} 0 1 = cc in
+    omega arith
+
+pub order-below : (i : ℕ) → i < 4 → getD order i 0 < 4
+unfolding order
+order-below zero h = omega arith
+order-below (suc zero) h = omega arith
+order-below (suc (suc zero)) h = omega arith
+order-below (suc (suc (suc zero))) h = omega arith
+order-below (suc (suc (suc (suc i)))) h = absurd (omega arith)
+
+pub low-along : {cube : List ℕ} {n : ℕ} {a d : Triple} → Drawable cube n a d → (axis : ℕ) → along a axis ≤ 1024
+low-along {a = a} h axis = go (eqb axis 0) (eqb axis 1)
+  where
+    go : (b c : Bool) → cond b (a .x) (cond c (a .y) (a .z)) ≤ 1024
+    go true c = h .x
+    go false true = h .y
+    go false false = h .z
+
+-- ---- the words of a quad
+
+module _ (cube : List ℕ) (n : ℕ) (d : Triple) (f : ℕ) (a : Triple) where
+  abbrev vertex : ℕ → List ℕ
+  vertex i = table n (quadWord cube n d f a i)
+
+  pub length-words : length (quadWords cube n d f a) ≡ 4 * n
+  unfolding quadWords
+  length-words = length-each n 4 0 vertex (λ i. length-table (quadWord cube n d f a i) n)
+
+  pub word-at : (i k : ℕ) → i < 4 → k < n → getD (quadWords cube n d f a) (n * i + k) 0 ≡ quadWord cube n d f a i k
+  unfolding quadWords
+  word-at i k I K =
+      getD-each n vertex (λ i. length-table (quadWord cube n d f a i) n) 4 0 i k I K
+      ∙ ap (λ (j : ℕ). getD (vertex j) k 0) (zero-add i) ∙ getD-table (quadWord cube n d f a i) n k 0 K
+
+-- ---- two lists that agree up to a place
+
+abbrev pub Agreed : List ℕ → List ℕ → ℕ → Type 0
+Agreed xs ys m = (k : ℕ) → k < m → getD xs k 0 ≡ getD ys k 0
+
+pub agreed-same : (xs ys : List ℕ) (s : ℕ) → length xs ≡ s → length ys ≡ s → Agreed xs ys s → same xs ys ≡ true
+agreed-same xs ys s a b e = rw (ext-getD 0 xs ys (a ∙ sym b) (λ k h. e k (omega arith))) (same-refl ys)
+
+pub agreed-not : (xs ys : List ℕ) (k : ℕ) → (getD xs k 0 ≡ getD ys k 0 → ⊥) → same xs ys ≡ false
+agreed-not xs ys k d = both-ways (same xs ys) (λ e. d (ap (λ (l : List ℕ). getD l k 0) (same-true xs ys e)))
+
+-- a part that is lent
+pub lent-is : (a n : ℕ) (xs : List ℕ) → take (a + n - a) (drop a xs) ≡ part a n xs
+lent-is a n xs = let e : a + n - a ≡ n = omega arith in rw e
+
+pub row-next : (n v : ℕ) → n * (v + 1) ≡ n * v + n
+row-next n v = rw add-one (mul-suc n v)
+
+-- ---- the quad that a link names
+
+module _ (scene : Scene) (n : ℕ) (g cubes : List ℕ) (link : ℕ) where
+  -- what was read of it: the type, the face and the coordinates
+  pub record Named (t f : ℕ) (a : Triple) : Type 0 where
+    pub type : t ≡ typeAt g (cellIn link)
+    pub face : f ≡ code (codeIn link)
+    pub at : a ≡ coordinates (sizeOf (scene .dims)) (cellIn link)
+
+  pub named-word : (t f : ℕ) (a : Triple) → Named t f a → (i k : ℕ) → i < 4 → k < n
+      → quadWord (take (24 * n * t + 24 * n - 24 * n * t) (drop (24 * n * t) cubes)) n (tripleOf (scene .d)) f a i k
+      ≡ getD (quadAt scene n g cubes link) (n * i + k) 0
+  named-word t f a r i k I K =
+      rw (lent-is (24 * n * t) (24 * n) cubes, r .type, r .face, r .at)
+      (sym (word-at (cubeAt n g cubes (cellIn link)) n (tripleOf (scene .d)) (code (codeIn link)) (coordinates (sizeOf (scene .dims)) (cellIn link)) i k I K))
+
+module _ (scene : Scene) (n : ℕ) (few : (8 ≤ n) × (n ≤ 12)) (g cubes vertices links : List ℕ) (count : ℕ)
+    (ok : Comparable (sizeOf (scene .dims)) n g cubes vertices links count) (q : ℕ) (h : q < count) where
+  pub stretch-within : (t : ℕ) → t ≡ typeAt g (cellIn (getD links q 0)) → 24 * n * t + 24 * n ≤ length cubes
+  stretch-within t e =
+      let c : cellIn (getD links q 0) < length g = omega (arith, ok .inside q h, ok .whole) in
+      rw (e ∙ within g (cellIn (getD links q 0)) 255 0 c) (ok .stretch (cellIn (getD links q 0)) c)
+
+  pub drawable : T (finite3 (tripleOf (scene .d))) → (t f : ℕ) (a : Triple) → Named scene n g cubes (getD links q 0) t f a
+      → Drawable (take (24 * n * t + 24 * n - 24 * n * t) (drop (24 * n * t) cubes)) n a (tripleOf (scene .d))
+  drawable fin t f a r =
+      let sides = ok .within .sides in
+      let i = inside-of (sizeOf (scene .dims)) (cellIn (getD links q 0)) (sides .wide) (sides .long) (ok .inside q h) in
+      let all = length-lent (24 * n * t) (24 * n) cubes (stretch-within t (r .type)) in
+      record {
+        words = record { least = few .0; most = few .1; whole = omega arith };
+        placed = rw (lent-is (24 * n * t) (24 * n) cubes, r .type) (ok .placed q h);
+        finite = fin;
+        x = rw (r .at) (omega (arith, i .x, sides .widest));
+        y = rw (r .at) (omega (arith, i .y, sides .highest));
+        z = rw (r .at) (omega (arith, i .z, sides .longest));
+      }
+
+  -- row q of the vertices
+  pub quad-within : 4 * n * q + 4 * n ≤ length vertices
+  quad-within = omega (arith, row-within (4 * n) q count h, ok .room)
+
+  pub length-quad : length (row (4 * n) vertices q) ≡ 4 * n
+  length-quad = (rw (lent-is (4 * n * q) (4 * n) vertices) at (length-lent (4 * n * q) (4 * n) vertices quad-within))

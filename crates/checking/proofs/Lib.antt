@@ -1,0 +1,3 @@
+pub mod Faces
+pub mod Compared
+pub mod Checked

@@ -1,0 +1,25 @@
+-- `checking::words::linked_face` meets its contract. Assumes nothing.
+use mathlib.Core.Path.{sym, _∙_}
+use Rattle.checking.proofs.Compared.{code-face, code-none}
+use borrow.Author.Needs.{needs}
+use Rattle.checking.proofs.words.linked_face.Statement.{statement}
+use Rattle.checking.proofs.words.linked_face.Tie as tie
+
+face-of-requires : tie.Need-face-of-requires
+face-of-requires c κs = search needs
+
+enum-known-face : tie.Need-enum-known-face
+enum-known-face c = search needs
+
+enum-told : tie.Need-enum-told
+enum-told c = search needs
+
+returns : tie.Need-returns
+returns c = code-face _ (c .before .before .before .before .pre) _ (sym (c .before .before .before .face-of .ensures) ∙ c .before .face .given .1)
+
+returns-2 : tie.Need-returns-2
+returns-2 c = absurd (code-none _ (c .before .before .before .pre) (sym (c .before .before .face-of .ensures) ∙ c .enum-told .given .1))
+
+pub linked-face-spec : {M : Type 1} → statement M
+linked-face-spec =
+    tie.close (tie.spec face-of-requires enum-known-face enum-told returns returns-2)

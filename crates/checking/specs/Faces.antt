@@ -1,0 +1,31 @@
+-- WRONG_SET, told by slots: after BAD_LINKS has passed, a face is there exactly if its slot is filled. Definitions only.
+use Prim.Native.Nat.{ℕ, _*_, _/_, _%_, _≤_, _<_}
+use mathlib.Core.Path.{_≡_}
+use mathlib.Core.Bool.{Bool, cond, not}
+use mathlib.Core.List.{List}
+use lib.ListN.{length, getD}
+use lib.Dec.{eqb}
+use Rattle.rules.specs.Cells.{Size, cells, keyOf, has, setOf}
+use Rattle.rules.specs.Mesh.{World, NONE, drawn}
+use Rattle.util.specs.Grid.{Within}
+
+abbrev pub isFilled : List ℕ → ℕ → Bool
+isFilled slots k = not (eqb (getD slots k NONE) NONE)
+
+-- the faces of a cell whose slots are filled
+abbrev pub filledSet : List ℕ → ℕ → ℕ
+filledSet slots c = setOf (λ f. isFilled slots (keyOf c f))
+
+abbrev pub unlike : Bool → Bool → Bool
+unlike a b = cond a (not b) b
+
+-- a face that is drawn and not there, or there and not drawn
+abbrev pub wrongSlot : World → List ℕ → List ℕ → List ℕ → ℕ → Bool
+wrongSlot W outer g slots k = unlike (drawn W outer g (k / 6) (k % 6)) (isFilled slots k)
+
+-- a whole grid whose codes are types, with six slots a cell
+pub record Gridded (size : Size) (g slots : List ℕ) (types : ℕ) : Type 0 where
+  pub within : Within size
+  pub whole : length g ≡ cells size
+  pub typed : (k : ℕ) → k < length g → getD g k 0 < types
+  pub slotted : 6 * cells size ≤ length slots

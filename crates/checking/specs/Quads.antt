@@ -1,0 +1,49 @@
+-- WRONG_VERTEX: what a comparison asks for. Definitions only.
+use Prim.Native.Nat.{ℕ, _+_, _*_, _≤_, _<_}
+use mathlib.Core.Path.{_≡_}
+use mathlib.Core.Bool.{Bool, not}
+use mathlib.Core.List.{List}
+use lib.ListN.{length, getD}
+use lib.Dec.{T}
+use Rattle.rules.specs.Lists.{part, row, same}
+use Rattle.rules.specs.Cells.{Size, Triple, cells, coordinates, code, codeIn, cellIn}
+use Rattle.rules.specs.Floats.{finite3}
+use Rattle.rules.specs.Types.{quadWords}
+use Rattle.rules.specs.Mesh.{typeAt}
+use Rattle.util.specs.Grid.{sizeOf, Within}
+use Rattle.floats.specs.Triples.{tripleOf}
+use Rattle.voxel_mesh.specs.Tests.{Words, Placed}
+use Rattle.admit.specs.declared.Scene.{Scene}
+
+-- a cube of finite positions, which d and the coordinates `a` move
+pub record Drawable (cube : List ℕ) (floats : ℕ) (a d : Triple) : Type 0 where
+  pub words : Words cube floats
+  pub placed : Placed cube floats
+  pub finite : T (finite3 d)
+  pub x : a .x ≤ 1024
+  pub y : a .y ≤ 1024
+  pub z : a .z ≤ 1024
+
+-- the stretch of the type that stands in a cell, n words a vertex
+abbrev pub cubeAt : ℕ → List ℕ → List ℕ → ℕ → List ℕ
+cubeAt n g cubes c = part (24 * n * typeAt g c) (24 * n) cubes
+
+-- the words of the face that a link names
+abbrev pub quadAt : Scene → ℕ → List ℕ → List ℕ → ℕ → List ℕ
+quadAt scene n g cubes link =
+    quadWords (cubeAt n g cubes (cellIn link)) n (tripleOf (scene .d)) (code (codeIn link)) (coordinates (sizeOf (scene .dims)) (cellIn link))
+
+-- quad q differs in any of its words
+abbrev pub otherQuad : Scene → ℕ → List ℕ → List ℕ → List ℕ → List ℕ → ℕ → Bool
+otherQuad scene n g cubes vertices links q = not (same (row (4 * n) vertices q) (quadAt scene n g cubes (getD links q 0)))
+
+-- quads that are linked to cubes of the grid, n words a vertex
+pub record Comparable (size : Size) (n : ℕ) (g cubes vertices links : List ℕ) (count : ℕ) : Type 0 where
+  pub within : Within size
+  pub whole : length g ≡ cells size
+  pub stretch : (c : ℕ) → c < length g → 24 * n * getD g c 0 + 24 * n ≤ length cubes
+  pub room : 4 * n * count ≤ length vertices
+  pub linked : count ≤ length links
+  pub code : (q : ℕ) → q < count → codeIn (getD links q 0) ≤ 5
+  pub inside : (q : ℕ) → q < count → cellIn (getD links q 0) < cells size
+  pub placed : (q : ℕ) → q < count → Placed (cubeAt n g cubes (cellIn (getD links q 0))) n

@@ -1,0 +1,136 @@
+// The check of a mesh: whether it shows what culling shows, every word right, index and quads naming each other.
+use admit::Scene;
+use admit::book::NONE;
+use admit::book::book_verdict;
+use admit::culling::drawn_set;
+use admit::culling::outer_set;
+use admit::is_refusal;
+use admit::open_verdict;
+use admit::refuse_if;
+use answers::Refusal;
+use answers::Verdict;
+use face::Cell;
+use util::Dimensions;
+use words::first_wrong_quad;
+ghost use mathlib.Core.Path.{_≡_};
+ghost use mathlib.Core.Bool.{cond};
+ghost use mathlib.Core.List.{List};
+ghost use Prim.Native.Nat.{ℕ, _+_, _*_, _≤_, _<_};
+ghost use lib.ListN.{length};
+ghost use Rattle.rules.specs.Lists.{lowest};
+ghost use Rattle.rules.specs.Cells.{cells, has};
+ghost use Rattle.rules.specs.Calls.{checkVerdict};
+ghost use Rattle.answers.specs.Verdicts.{verdictOf};
+ghost use Rattle.util.specs.Grid.{sizeOf};
+ghost use Rattle.admit.specs.Scenes.{sceneOf, listsOf};
+ghost use Rattle.admit.specs.Culling.{worldOf, outerSet};
+ghost use Rattle.checking.specs.Faces.{filledSet, unlike, wrongSlot, Gridded};
+
+pub mod words; // words.rt: the words of the quads, compared
+
+fn bit_if(kept: bool, bit: u8) -> u8
+    ensures { λ r. ⌜ (r ≡ cond kept bit 0) × (r ≤ bit) ⌝ }
+{
+    if kept { bit } else { 0 }
+}
+
+// The faces of a cell whose slots are filled.
+fn filled_set(slots: &[u32], cell: usize) -> u8
+    requires { ⌜ 6 * cell + 6 ≤ length (now slots) ⌝ }
+    ensures { λ r. ⌜ r ≡ filledSet (now (slots .entry)) cell ⌝ }
+{
+    let at = 6 * cell;
+    bit_if(slots[at] != NONE, 1)
+        + bit_if(slots[at + 1] != NONE, 2)
+        + bit_if(slots[at + 2] != NONE, 4)
+        + bit_if(slots[at + 3] != NONE, 8)
+        + bit_if(slots[at + 4] != NONE, 16)
+        + bit_if(slots[at + 5] != NONE, 32)
+}
+
+// The lowest face that one side set has and the other has not, or 6.
+fn lowest_unlike(a: u8, b: u8) -> usize
+    ensures { λ r. ⌜ r ≡ lowest 6 (λ f. unlike (has a f) (has b f)) ⌝ }
+{
+    let mut face: usize = 0;
+    while face < 6 {
+        if (a >> face) % 2 != (b >> face) % 2 {
+            return face;
+        }
+        face += 1;
+    }
+    face
+}
+
+// The lowest face that is drawn and not there, or there and not drawn, or the number of faces.
+fn lowest_wrong_face(
+    dims: Dimensions,
+    outer: u8,
+    grid: &[u8],
+    kinds: &[u8],
+    covers: &[u8],
+    slots: &[u32],
+) -> usize
+    requires { ⌜ Gridded (sizeOf dims) (now grid) (now slots) (length (now covers)) × (length (now covers) ≡ length (now kinds)) ⌝ }
+    ensures { λ r. ⌜ ((faces : List ℕ) → outer ≡ outerSet faces → r ≡ lowest (6 * cells (sizeOf dims)) (wrongSlot (worldOf (sizeOf dims) (now (kinds .entry)) (now (covers .entry))) faces (now (grid .entry)) (now (slots .entry)))) ⌝ }
+{
+    let cells = dims.cell_count();
+    let mut cell: u32 = 0;
+    while cell < cells {
+        let at = cell as usize;
+        let drawn = drawn_set(dims, outer, grid, kinds, covers, Cell(cell));
+        let filled = filled_set(slots, at);
+        if drawn != filled {
+            return 6 * at + lowest_unlike(drawn, filled);
+        }
+        cell += 1;
+    }
+    6 * cell as usize
+}
+
+// Tries the refusals in their order; a mesh that passes is right.
+pub fn check_mesh(
+    scene: Scene,
+    outer: &[u8],
+    grid: &[u8],
+    kinds: &[u8],
+    covers: &[u8],
+    cubes: &[u32],
+    vertices: &[u32],
+    triangles: &[u32],
+    links: &[u32],
+    slots: &[u32],
+    count: usize,
+) -> Verdict
+    ensures { λ r. ⌜ verdictOf r ≡ checkVerdict (sceneOf scene (now (kinds .entry)) (now (covers .entry)) (now (cubes .entry))) (now (outer .entry)) (now (grid .entry)) (listsOf (now (vertices .entry)) (now (triangles .entry)) (now (links .entry)) (now (slots .entry))) count ⌝ }
+{
+    let opened = open_verdict(
+        scene,
+        outer,
+        grid,
+        kinds,
+        covers,
+        cubes,
+        vertices,
+        triangles,
+        links,
+        slots,
+        count,
+    );
+    if is_refusal(opened) {
+        return opened;
+    }
+    let dims = scene.dims;
+    let cells = dims.cell_count();
+    let booked = book_verdict(cells, triangles, links, slots, count);
+    if is_refusal(booked) {
+        return booked;
+    }
+    let face = lowest_wrong_face(dims, outer_set(outer), grid, kinds, covers, slots);
+    let faced = refuse_if(face < 6 * cells as usize, Refusal::WrongSet, face);
+    if is_refusal(faced) {
+        return faced;
+    }
+    let quad = first_wrong_quad(scene, grid, cubes, vertices, links, count);
+    refuse_if(quad < count, Refusal::WrongVertex, quad)
+}
