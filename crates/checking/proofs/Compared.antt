@@ -12,7 +12,7 @@ use lib.Seq.{ext-getD}
 use Rattle.rules.specs.Lists.{table, part, row, same}
 use Rattle.rules.specs.Cells.{Triple, along, coordinates, code, codeIn, cellIn}
 use Rattle.rules.specs.Floats.{finite3}
-use Rattle.rules.specs.Types.{order, quadWord, quadWords}
+use Rattle.rules.specs.Types.{quadWord, quadWords}
 use Rattle.rules.specs.Mesh.{typeAt}
 use Rattle.rules.proofs.ListLaws.{both-ways, same-true, same-refl, length-each, length-table, getD-table}
 use borrow.Author.Tests.{le-ltb}
@@ -27,7 +27,8 @@ use Rattle.voxel_mesh.proofs.Shapes.{row-within}
 use Rattle.voxel_mesh.proofs.Rows.{length-lent, getD-each}
 use Rattle.admit.specs.declared.Scene.{Scene}
 use Rattle.admit.proofs.Books.{within}
-use Rattle.checking.specs.Quads.{Drawable, Comparable, cubeAt, quadAt}
+use Rattle.drawing.specs.Rooms.{Drawable}
+use Rattle.checking.specs.Quads.{Comparable, cubeAt, quadAt}
 
 -- ---- faces, corners and coordinates
 
@@ -45,22 +46,6 @@ code-none k h e =
     let is : Found.Face (below .0) ≡ Found.Nothing = sym (below .1) ∙ (rw (le-ltb 5 k h) at e) in
     let z : _≡_ {A = ℕ} 0 1 = cc in
     omega arith
-
-pub order-below : (i : ℕ) → i < 4 → getD order i 0 < 4
-unfolding order
-order-below zero h = omega arith
-order-below (suc zero) h = omega arith
-order-below (suc (suc zero)) h = omega arith
-order-below (suc (suc (suc zero))) h = omega arith
-order-below (suc (suc (suc (suc i)))) h = absurd (omega arith)
-
-pub low-along : {cube : List ℕ} {n : ℕ} {a d : Triple} → Drawable cube n a d → (axis : ℕ) → along a axis ≤ 1024
-low-along {a = a} h axis = go (eqb axis 0) (eqb axis 1)
-  where
-    go : (b c : Bool) → cond b (a .x) (cond c (a .y) (a .z)) ≤ 1024
-    go true c = h .x
-    go false true = h .y
-    go false false = h .z
 
 -- ---- the words of a quad
 

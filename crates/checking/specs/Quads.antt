@@ -4,25 +4,14 @@ use mathlib.Core.Path.{_≡_}
 use mathlib.Core.Bool.{Bool, not}
 use mathlib.Core.List.{List}
 use lib.ListN.{length, getD}
-use lib.Dec.{T}
 use Rattle.rules.specs.Lists.{part, row, same}
-use Rattle.rules.specs.Cells.{Size, Triple, cells, coordinates, code, codeIn, cellIn}
-use Rattle.rules.specs.Floats.{finite3}
+use Rattle.rules.specs.Cells.{Size, cells, coordinates, code, codeIn, cellIn}
 use Rattle.rules.specs.Types.{quadWords}
 use Rattle.rules.specs.Mesh.{typeAt}
 use Rattle.util.specs.Grid.{sizeOf, Within}
 use Rattle.floats.specs.Triples.{tripleOf}
-use Rattle.voxel_mesh.specs.Tests.{Words, Placed}
+use Rattle.voxel_mesh.specs.Tests.{Placed}
 use Rattle.admit.specs.declared.Scene.{Scene}
-
--- a cube of finite positions, which d and the coordinates `a` move
-pub record Drawable (cube : List ℕ) (floats : ℕ) (a d : Triple) : Type 0 where
-  pub words : Words cube floats
-  pub placed : Placed cube floats
-  pub finite : T (finite3 d)
-  pub x : a .x ≤ 1024
-  pub y : a .y ≤ 1024
-  pub z : a .z ≤ 1024
 
 -- the stretch of the type that stands in a cell, n words a vertex
 abbrev pub cubeAt : ℕ → List ℕ → List ℕ → ℕ → List ℕ

@@ -1,12 +1,12 @@
 // The words of the quads, compared as bits with those of the registry.
 use admit::Scene;
 use admit::wide;
+use drawing::quad_word;
 use face::Face;
 use face::FoundFace;
 use face::cell_of;
 use face::face_of;
 use floats::Triple;
-use floats::moved_word;
 use util::Coordinates;
 use util::three_d_cords;
 use voxel_mesh::floats_of;
@@ -16,58 +16,16 @@ ghost use Prim.Native.Nat.{_+_, _*_, _≤_, _<_};
 ghost use lib.ListN.{length, getD};
 ghost use lib.Dec.{T, eqb};
 ghost use Rattle.rules.specs.Lists.{lowest};
-ghost use Rattle.rules.specs.Cells.{codeIn, code, along};
+ghost use Rattle.rules.specs.Cells.{codeIn, code};
 ghost use Rattle.rules.specs.Floats.{finite3};
 ghost use Rattle.rules.specs.Cube.{floatsOf};
-ghost use Rattle.rules.specs.Types.{order, quadWord};
+ghost use Rattle.rules.specs.Types.{quadWord};
 ghost use Rattle.face.specs.Face.{number};
 ghost use Rattle.util.specs.Grid as grid;
 ghost use Rattle.util.specs.Grid.{sizeOf};
 ghost use Rattle.floats.specs.Triples.{tripleOf};
-ghost use Rattle.checking.specs.Quads.{otherQuad, Drawable, Comparable};
-
-// The order in which a quad takes the four vertices of its face.
-const ORDER: [usize; 4] = [0, 1, 3, 2];
-
-fn corner_of(i: usize) -> usize
-    requires { ⌜ i < 4 ⌝ }
-    ensures { λ r. ⌜ (r ≡ getD order i 0) × (r < 4) ⌝ }
-{
-    ORDER[i]
-}
-
-fn coordinate(at: Coordinates, axis: usize) -> u32
-    ensures { λ r. ⌜ r ≡ along (grid.tripleOf at) axis ⌝ }
-{
-    let cell = Triple {
-        x: at.x,
-        y: at.y,
-        z: at.z,
-    };
-    cell.along(axis)
-}
-
-// Word k of the i-th vertex of a quad.
-fn quad_word(
-    cube: &[u32],
-    floats: usize,
-    face: Face,
-    at: Coordinates,
-    d: Triple,
-    i: usize,
-    k: usize,
-) -> u32
-    requires { ⌜ Drawable (now cube) floats (grid.tripleOf at) (tripleOf d) × (i < 4) × (k < floats) ⌝ }
-    ensures { λ r. ⌜ r ≡ quadWord (now (cube .entry)) floats (tripleOf d) (number face) (grid.tripleOf at) i k ⌝ }
-{
-    let vertex = 4 * (face.number() as usize) + corner_of(i);
-    let word = cube[floats * vertex + k];
-    if k < 3 {
-        moved_word(word, coordinate(at, k), d.along(k))
-    } else {
-        word
-    }
-}
+ghost use Rattle.drawing.specs.Rooms.{Drawable};
+ghost use Rattle.checking.specs.Quads.{otherQuad, Comparable};
 
 // Whether word k of the i-th vertex of a quad differs from the registry's.
 fn is_other_word(

@@ -1,0 +1,5 @@
+pub mod Files
+pub mod Filling
+pub mod Writing
+pub mod Decimals
+pub mod Lining

@@ -1,0 +1,69 @@
+-- `workfile_run::is_right_example` meets its contract. Assumes nothing.
+use borrow.Author.Needs.{needs}
+use mathlib.Core.Path.{_≡_, sym}
+use mathlib.Core.List.{List, [], _∷_}
+use Prim.Native.Nat.{ℕ, _≤_}
+use native.Mathlib.Omega.{arith}
+use lib.ListN.{length}
+use lib.Seq.{length-take-le}
+use Rattle.rules.specs.Cells.{codeIn}
+use Rattle.rules.specs.Calls.{answered}
+use Rattle.rules.specs.Program.{meshLines}
+use Rattle.rules.proofs.ListLaws.{all-at}
+use Rattle.workfile.specs.Written.{OfFaces, Room, quadsOf}
+use Rattle.workfile.proofs.Writing.{end-inside}
+use Rattle.workfile.proofs.Lining.{lines-room}
+use Rattle.workfile_run.proofs.is_right_example.Statement.{statement}
+use Rattle.workfile_run.proofs.is_right_example.Tie as tie
+
+abbrev example : List ℕ
+example = 1 ∷ 536870913 ∷ 2684354561 ∷ 2147483649 ∷ 1610612737 ∷ 1073741825 ∷ []
+
+faces : OfFaces example
+faces i h = all-at (λ w. codeIn w ≤ 5) example i 0 (omega arith, (omega arith, (omega arith, (omega arith, (omega arith, (omega arith, tt)))))) h
+
+lines : {out : List ℕ} → 4096 ≡ length out → Room (meshLines (answered 6 14) (quadsOf example)) 0 out
+lines e =
+    lines-room (answered 6 14) (quadsOf example) (omega arith)
+    (omega arith, (omega arith, (omega arith, (omega arith, (omega arith, (omega arith, tt)))))) (omega arith) (omega arith) (omega arith)
+
+buffer-requires : tie.Need-buffer-requires
+buffer-requires c κs = search needs
+
+slice-aggregate-write-lines : tie.Need-slice-aggregate-write-lines
+slice-aggregate-write-lines c = search needs
+
+slice-aggregate-write-lines-2 : tie.Need-slice-aggregate-write-lines-2
+slice-aggregate-write-lines-2 c = search needs
+
+write-lines-requires : tie.Need-write-lines-requires
+write-lines-requires c κs = (faces, lines (c .before .before .buffer .ensures))
+
+array-share-prefix-out : tie.Need-array-share-prefix-out
+array-share-prefix-out c = end-inside (c .before .write-lines .ensures) (lines (c .before .before .before .before .buffer .ensures))
+
+slice-aggregate-same : tie.Need-slice-aggregate-same
+slice-aggregate-same c = sym (length-take-le _ _ (end-inside (c .before .before .write-lines .ensures) (lines (c .before .before .before .before .before .buffer .ensures))))
+
+slice-aggregate-same-2 : tie.Need-slice-aggregate-same-2
+slice-aggregate-same-2 c = search needs
+
+same-requires : tie.Need-same-requires
+same-requires c κs = search needs
+
+returns : tie.Need-returns
+returns c = search needs
+
+pub is-right-example-spec : {M : Type 1} → statement M
+is-right-example-spec =
+    tie.close
+    (tie.spec
+    buffer-requires
+    slice-aggregate-write-lines
+    slice-aggregate-write-lines-2
+    write-lines-requires
+    array-share-prefix-out
+    slice-aggregate-same
+    slice-aggregate-same-2
+    same-requires
+    returns)

@@ -1,0 +1,116 @@
+#!/usr/bin/env python3
+"""Writes what the program workfile_run reads and must print: crates/workfile_run/stdin and stdout.
+
+A case is its kind and its length as u32, then its bytes. Kinds: 0 a file that is bad; 1 the length of a file that is good, the
+file, its grid and its log; 2 a number and its decimal; 3 a refusal's number and place, and its line; 4 a set, and its faces.
+Run it at the repository's root.
+"""
+import struct
+
+
+def words(*numbers):
+    return struct.pack("<%dI" % len(numbers), *numbers)
+
+
+def type_bytes(kind, sides, tile=0):
+    return bytes([kind, sides]) + b"".join(words(face, tile, tile) for face in range(6))
+
+
+ONE = 0x3F800000
+NULL, CUBE = type_bytes(0, 0), type_bytes(1, 63)
+BROKEN = words(0) + bytes([1, 1, 255, 255, 1, 255, 255, 255])
+
+
+def trailer(types, grid, log, size, **other):
+    """The 23 words of the trailer; `other` sets a word by its number, as w9=1."""
+    body = len(types) + len(grid) + len(log)
+    t = [body, body - len(types), len(log), len(types) // 74, len(log) // 12, *size, 0, 1]
+    t += [ONE, ONE, ONE, 0, 0, 0, 1, 1, 0, 0, 0, 0, 92]
+    for name, value in other.items():
+        t[int(name[1:])] = value
+    return words(*t)
+
+
+class File:
+    def __init__(self, types=(NULL, CUBE), grid=b"\1\1", log=BROKEN, size=(2, 1, 1), spare=b"", **other):
+        self.grid, self.log = grid, log
+        self.text = b"".join(types) + grid + log + spare + trailer(b"".join(types), grid, log, size, **other)
+
+    def told(self):
+        return words(len(self.text)) + self.text + self.grid + self.log
+
+
+def good_files():
+    yield File()
+    yield File(log=b"")
+    yield File(w19=1, w9=0, w8=63, w20=0x7FC00000, w21=0xFFFFFFFF)
+    yield File(types=(CUBE,) * 8, grid=b"\0" * 512, log=BROKEN * 7, size=(8, 8, 8))
+    yield File(types=(type_bytes(2, 64, 4096),), grid=bytes(range(12)), log=bytes(range(24)), size=(2, 3, 2))
+    yield File(types=(CUBE,), grid=b"\0" * 10, log=BROKEN * 668, size=(10, 1, 1))  # 8,192 bytes
+
+
+def bad_files():
+    whole = File().text
+    yield b""
+    yield whole[-91:]
+    yield trailer(b"", b"", b"", (0, 0, 0))
+    yield File(types=(CUBE,), grid=b"\0" * 11, log=BROKEN * 668, size=(11, 1, 1)).text  # 8,193 bytes
+    for number in (91, 93, 0):
+        yield File(w22=number).text
+    body = len(whole) - 92
+    for at, distance in ((0, body), (1, body - 148), (2, 12)):
+        yield File(**{"w%d" % at: distance - 1}).text
+        yield File(**{"w%d" % at: distance + 1}).text
+    yield File(w4=0).text
+    yield File(w4=2).text
+    yield File(w3=1).text
+    yield File(spare=b"\0").text
+    yield whole[:-92] + b"\0" + whole[-92:]
+    yield whole + b"\0"
+    yield File(w19=2).text
+    yield File(w9=2).text
+    yield File(w8=64).text
+    yield File(w8=0xFFFFFFFF).text
+    yield File(types=(CUBE,) * 9).text
+    yield File(grid=b"\0" * 513, size=(513, 1, 1)).text
+    yield File(grid=b"\0" * 520, size=(1, 26, 20)).text
+    yield File(types=()).text
+    for size in ((0, 1, 1), (1, 0, 1), (1, 1, 0), (0, 0, 0)):
+        yield File(grid=b"", size=size).text
+    # a product that is 2 in 32 bits, one that is 512 in 64 bits, and the most
+    yield File(size=(2, 0x80000001, 1)).text
+    yield File(grid=b"\0" * 512, size=(48912491 * 64, 2971 * 683 * 11, 3 * 11 * 8)).text
+    yield File(size=(0xFFFFFFFF, 0xFFFFFFFF, 0xFFFFFFFF)).text
+    # types and entries so many that the bytes they ask for wrap 32 bits
+    yield File(w3=2 + 0x80000000).text
+    yield File(w4=1 + 0x40000000).text
+
+
+assert 48912491 * 64 * 2971 * 683 * 11 * 3 * 11 * 8 == 2**64 + 512
+
+
+def cases():
+    for file in bad_files():
+        yield 0, file
+    for file in good_files():
+        yield 1, file.told()
+    for n in (0, 1, 9, 10, 11, 99, 100, 101, 1000, 65535, 999999999, 1000000000, 4294967295):
+        yield 2, words(n) + b"%d" % n
+    for number, place in ((1, 0), (14, 16777215), (16, 127), (4294967295, 4294967295)):
+        yield 3, words(number, place) + b"refused %d at %d\n" % (number, place)
+    for sides in range(64):
+        yield 4, words(sides) + bytes(f for f in range(6) if sides >> f & 1)
+
+
+def main():
+    told = list(cases())
+    assert len(File(types=(CUBE,), grid=b"\0" * 10, log=BROKEN * 668, size=(10, 1, 1)).text) == 8192
+    with open("crates/workfile_run/stdin", "wb") as out:
+        for kind, case in told:
+            out.write(words(kind, len(case)) + case)
+    # and the worked example, which the program holds
+    with open("crates/workfile_run/stdout", "w") as out:
+        out.write("cases %d right %d\n" % (len(told) + 1, len(told) + 1))
+
+
+main()
