@@ -215,12 +215,7 @@ pub fn mesh_grid(
     let culling = algorithm.is_culling();
     let sides = outer_set(outer);
     let quads = count_quads(scene.dims, culling, sides, grid, kinds, covers);
-    let room = room_of(
-        scene.coloured,
-        vertices.len(),
-        triangles.len(),
-        links.len(),
-    );
+    let room = room_of(scene.coloured, vertices.len(), triangles.len(), links.len());
     if room < quads {
         return Meshed::Refused(Refusal::NoRoom, 0);
     }

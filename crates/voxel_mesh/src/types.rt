@@ -1,7 +1,7 @@
 // The types' tests: BAD_TYPES, BAD_NUMBER and NOT_A_CUBE, in this order.
+use crate::floats_of;
 use answers::Refusal;
 use answers::Verdict;
-use crate::floats_of;
 use floats::Triple;
 use floats::is_finite_bits;
 ghost use mathlib.Core.Path.{_≡_};
