@@ -1,0 +1,34 @@
+-- `exports::meshem_check_mesh` meets its contract: the check's, with the answer told. Assumes nothing.
+use mathlib.Core.Path.{ap, _∙_}
+use denote.Ref.{now}
+use Rattle.rules.specs.Calls.{Scene, checkBy, checkMesh}
+use Rattle.answers.specs.Verdicts.{verdictOf}
+use Rattle.admit.specs.Scenes.{listsOf}
+use Rattle.exports.proofs.Telling.{bare}
+use borrow.Author.Needs.{needs}
+use Rattle.exports.proofs.meshem_check_mesh.Statement.{statement}
+use Rattle.exports.proofs.meshem_check_mesh.Tie as tie
+
+scene-of-requires : tie.Need-scene-of-requires
+scene-of-requires c κs = search needs
+
+check-mesh-requires : tie.Need-check-mesh-requires
+check-mesh-requires c κs = search needs
+
+told-by-verdict-requires : tie.Need-told-by-verdict-requires
+told-by-verdict-requires c κs = search needs
+
+returns : tie.Need-returns
+returns c =
+    let k = c .before in
+    let s = k .before in
+    let a = s .before .before .before .before .before .before .before .before .before .before .args in
+    bare (c .told-by-verdict .result) (verdictOf (k .check-mesh .result)) (c .told-by-verdict .ensures)
+    ∙ ap checkBy (k .check-mesh .ensures)
+    ∙ ap (λ (S : Scene). checkMesh S (now (a .outer)) (now (a .grid))
+    (listsOf (now (a .vertices)) (now (a .triangles)) (now (a .links)) (now (a .slots))) (a .count))
+    (s .scene-of .ensures (now (a .kinds)) (now (a .covers)) (now (a .cubes)))
+
+pub meshem-check-mesh-spec : {M : Type 1} → statement M
+meshem-check-mesh-spec =
+    tie.close (tie.spec scene-of-requires check-mesh-requires told-by-verdict-requires returns)

@@ -1,0 +1,58 @@
+-- `exports::meshem_mesh_grid` meets its contract: the mesh call's, with the answer told. Assumes nothing.
+use mathlib.Core.Path.{_∙_}
+use denote.Ref.{now}
+use Rattle.rules.specs.Calls.{meshGrid}
+use Rattle.admit.specs.Scenes.{listsOf}
+use Rattle.exports.proofs.Telling.{mesh-told}
+use borrow.Author.Needs.{needs}
+use Rattle.exports.proofs.meshem_mesh_grid.Statement.{statement}
+use Rattle.exports.proofs.meshem_mesh_grid.Tie as tie
+
+scene-of-requires : tie.Need-scene-of-requires
+scene-of-requires c κs = search needs
+
+algorithm-of-requires : tie.Need-algorithm-of-requires
+algorithm-of-requires c κs = search needs
+
+mesh-grid-requires : tie.Need-mesh-grid-requires
+mesh-grid-requires c κs = search needs
+
+told-by-mesh-requires : tie.Need-told-by-mesh-requires
+told-by-mesh-requires c κs = search needs
+
+same-length : tie.Need-same-length
+same-length c = search needs
+
+same-length-2 : tie.Need-same-length-2
+same-length-2 c = search needs
+
+same-length-3 : tie.Need-same-length-3
+same-length-3 c = search needs
+
+same-length-4 : tie.Need-same-length-4
+same-length-4 c = search needs
+
+returns : tie.Need-returns
+returns c =
+    let m = c .before .before .before .before .before .before .before .before .before in
+    let y = m .before .before .before .before .before in
+    let s = y .before in
+    let a = s .before .before .before .before .before .before .before .before .before .before .args in
+    let scene = s .scene-of .ensures (now (a .kinds)) (now (a .covers)) (now (a .cubes)) in
+    let lists = listsOf (now (a .vertices)) (now (a .triangles)) (now (a .links)) (now (a .slots)) in
+    mesh-told (c .told-by-mesh .ensures)
+    (m .mesh-grid .ensures ∙ (λ i. meshGrid (scene i) (now (a .outer)) (now (a .grid)) (y .algorithm-of .ensures i) lists))
+
+pub meshem-mesh-grid-spec : {M : Type 1} → statement M
+meshem-mesh-grid-spec =
+    tie.close
+    (tie.spec
+    scene-of-requires
+    algorithm-of-requires
+    mesh-grid-requires
+    told-by-mesh-requires
+    same-length
+    same-length-2
+    same-length-3
+    same-length-4
+    returns)

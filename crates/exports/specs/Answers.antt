@@ -1,0 +1,49 @@
+-- The C calls' arguments and answers, as the rules see them. Definitions only.
+use Prim.Native.Nat.{ℕ}
+use mathlib.Core.Bool.{Bool, not}
+use mathlib.Core.List.{List}
+use lib.Dec.{eqb}
+use Rattle.rules.specs.Cube.{Shape}
+use Rattle.rules.specs.Mesh.{Lists}
+use Rattle.rules.specs.Calls as rules
+use Rattle.rules.specs.Calls.{Answer, CubeOutcome, Outcome}
+use Rattle.exports.specs.declared.Told.{Told}
+
+-- 0 no, else yes
+abbrev pub isYes : ℕ → Bool
+isYes n = not (eqb n 0)
+
+abbrev pub answer : ℕ → ℕ → ℕ → ℕ → Answer
+answer number place quads moved = record { number = number; place = place; quads = quads; moved = moved }
+
+abbrev pub toldOf : Told → Answer
+toldOf t = answer (t .number) (t .place) (t .quads) 0
+
+abbrev pub cubeOut : Answer → List ℕ → CubeOutcome
+cubeOut a out = record { answer = a; out = out }
+
+abbrev pub outcome : Answer → Lists → Outcome
+outcome a lists = record { answer = a; lists = lists }
+
+abbrev pub shapeFrom : ℕ → ℕ → ℕ → ℕ → ℕ → List ℕ → ℕ → ℕ → ℕ → ℕ → ℕ → ℕ → ℕ → Shape
+shapeFrom dx dy dz atlasWidth atlasHeight texture cx cy cz padding coloured colour alpha =
+    record {
+      d = record { x = dx; y = dy; z = dz };
+      centre = record { x = cx; y = cy; z = cz };
+      atlasWidth = atlasWidth;
+      atlasHeight = atlasHeight;
+      texture = texture;
+      padding = padding;
+      coloured = isYes coloured;
+      colour = colour;
+      alpha = alpha;
+    }
+
+abbrev pub sceneFrom : ℕ → ℕ → ℕ → List ℕ → List ℕ → List ℕ → ℕ → ℕ → ℕ → ℕ → ℕ → ℕ → ℕ → rules.Scene
+sceneFrom w h l kinds covers cubes coloured dx dy dz cx cy cz =
+    record {
+      size = record { w = w; h = h; l = l };
+      types = record { coloured = isYes coloured; kinds = kinds; covers = covers; cubes = cubes };
+      d = record { x = dx; y = dy; z = dz };
+      centre = record { x = cx; y = cy; z = cz };
+    }

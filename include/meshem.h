@@ -1,0 +1,89 @@
+/*
+ * The C interface of Meshem. A slice is a pointer and then a count of elements; the slices and outputs of one call
+ * never overlap. Every float is its 32-bit pattern. Each call takes every number, length and content, returns 0 or
+ * the number of a refusal, and always writes its outputs, the thin pointers at its end: after success `place` is 0,
+ * after a refusal `quads` is 0 and nothing else has changed.
+ */
+#ifndef MESHEM_H
+#define MESHEM_H
+
+#include <stddef.h>
+#include <stdint.h>
+
+#ifdef __cplusplus
+extern "C" {
+#endif
+
+enum meshem_refusal {
+    MESHEM_DONE = 0,
+    MESHEM_BAD_FILE = 1,
+    MESHEM_BAD_SIZE = 2,
+    MESHEM_BAD_TYPES = 3,
+    MESHEM_BAD_NUMBER = 4,
+    MESHEM_BAD_ATLAS = 5,
+    MESHEM_NOT_A_CUBE = 6,
+    MESHEM_BAD_FACE = 7,
+    MESHEM_BAD_CELL = 8,
+    MESHEM_SHORT_ROOM = 9,
+    MESHEM_BAD_COUNT = 10,
+    MESHEM_BAD_LINKS = 11,
+    MESHEM_BAD_TRIANGLES = 12,
+    MESHEM_BAD_ENTRY = 13,
+    MESHEM_NO_ROOM = 14,
+    MESHEM_WRONG_SET = 15,
+    MESHEM_WRONG_VERTEX = 16
+};
+
+/* Writes the 24 vertices of one cube at the start of `out`. */
+uint32_t meshem_generate_voxel_mesh(
+    uint32_t dx, uint32_t dy, uint32_t dz,              /* d: f32 bits */
+    uint32_t atlas_width, uint32_t atlas_height,
+    const uint32_t *texture, size_t texture_len,        /* face, a, b; six times */
+    uint32_t cx, uint32_t cy, uint32_t cz,              /* centre: f32 bits */
+    uint32_t padding,                                   /* f32 bits */
+    uint32_t coloured,                                  /* 0 no, else yes */
+    uint32_t colour, uint32_t alpha,                    /* f32 bits, any */
+    uint32_t *out, size_t out_len,                      /* 24 vertices */
+    uint64_t *place);
+
+/* Writes the mesh of a grid into the four lists, and its count of quads. */
+uint32_t meshem_mesh_grid(
+    uint32_t width, uint32_t height, uint32_t length,
+    const uint8_t *outer, size_t outer_len,             /* face numbers */
+    const uint8_t *grid, size_t grid_len,
+    const uint8_t *kinds, size_t kinds_len,
+    const uint8_t *covers, size_t covers_len,           /* side sets */
+    const uint32_t *cubes, size_t cubes_len,            /* the registry's floats */
+    uint32_t coloured,                                  /* 0 no, else yes */
+    uint32_t dx, uint32_t dy, uint32_t dz,
+    uint32_t cx, uint32_t cy, uint32_t cz,
+    uint32_t algorithm,                                 /* 0 Naive, else Culling */
+    uint32_t *vertices, size_t vertices_len,
+    uint32_t *triangles, size_t triangles_len,
+    uint32_t *links, size_t links_len,
+    uint32_t *slots, size_t slots_len,
+    uint64_t *place, uint64_t *quads);
+
+/* Says whether the four lists hold the culled mesh of a grid with `count` quads. */
+uint32_t meshem_check_mesh(
+    uint32_t width, uint32_t height, uint32_t length,
+    const uint8_t *outer, size_t outer_len,             /* face numbers */
+    const uint8_t *grid, size_t grid_len,
+    const uint8_t *kinds, size_t kinds_len,
+    const uint8_t *covers, size_t covers_len,           /* side sets */
+    const uint32_t *cubes, size_t cubes_len,            /* the registry's floats */
+    uint32_t coloured,                                  /* 0 no, else yes */
+    uint32_t dx, uint32_t dy, uint32_t dz,
+    uint32_t cx, uint32_t cy, uint32_t cz,
+    const uint32_t *vertices, size_t vertices_len,
+    const uint32_t *triangles, size_t triangles_len,
+    const uint32_t *links, size_t links_len,
+    const uint32_t *slots, size_t slots_len,
+    uint64_t count,                                     /* quads of the mesh */
+    uint64_t *place);
+
+#ifdef __cplusplus
+}
+#endif
+
+#endif
