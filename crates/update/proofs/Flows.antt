@@ -1,23 +1,24 @@
 -- A log on the lists is the layout of the log on the quads. Assumes nothing.
-use mathlib.Core.Path.{_≡_, refl, sym, ap, _∙_, subst}
-use mathlib.Core.Bool.{Bool, true, false, cond}
+use mathlib.Core.Path.{_≡_, refl, sym, ap, _∙_}
+use mathlib.Core.Bool.{cond}
 use mathlib.Core.List.{List, [], _∷_, _++_}
 use mathlib.Core.Option.{Option, none, some}
-use Prim.Native.Nat.{ℕ, zero, suc, _+_, _-_, _*_, _≤_, _<_, max}
+use Prim.Native.Nat.{ℕ, zero, suc, _+_, _-_, _≤_, _<_}
 use native.Mathlib.Omega.{arith}
 use lib.Dec.{leb}
 use lib.ListN.{length}
 use borrow.Author.Tests.{leb-true}
 use Rattle.rules.specs.Mesh.{Quad, Lists, layout}
-use Rattle.rules.specs.Update.{Op, put, cut, run, moves, highest, Work, cuts, puts, ops, needed, Course, courseFrom}
+use Rattle.rules.specs.Update.{run, moves, highest, Work, cuts, puts, ops, needed, Course, courseFrom}
 use Rattle.rules.proofs.ListLaws.{All, all-append, split}
-use Rattle.rules.proofs.Quads.{run-append, run-once}
+use Rattle.rules.proofs.Quads.{run-once}
 use Rattle.rules.proofs.Laying.{Fits}
-use Rattle.rules.proofs.Courses.{highest-needed, fits-ops, run-le}
+use Rattle.rules.proofs.Courses.{Sane, highest-needed, fits-ops, run-le}
 use Rattle.drawing.proofs.Laid.{Rooms}
-use Rattle.update.specs.Flat.{State, flatRun}
+use Rattle.update.specs.Holding.{held, Good}
+use Rattle.update.specs.Flat.{flatRun}
 use Rattle.update.specs.Courses.{filledOf, missingOf, flatNeeded, Flow, going, full, flowFrom}
-use Rattle.update.proofs.Held.{held, Held, Good, AllGood, run-held, filled-is}
+use Rattle.update.proofs.Held.{run-held, filled-is}
 use Rattle.update.proofs.Needed.{thereOf, keysOf, Apart, absentAfter, needed-is}
 
 -- the flow of a course over what the lists held first
@@ -34,22 +35,22 @@ pub record GoodWork (n s : ℕ) (w : Work) : Type 0 where
   pub newApart : Apart (keysOf (w .new))
 
 module _ (s R n : ℕ) (B : Lists) (rooms : Rooms s R n B) (exact : length (B .slots) ≡ n) (hn : n ≤ 1073741823) where
-  cuts-good : (ks : List ℕ) → All (λ k. k < n) ks → AllGood s R n B rooms exact hn (cuts ks)
+  cuts-good : (ks : List ℕ) → All (λ k. k < n) ks → All (Good n s) (cuts ks)
   cuts-good [] h = tt
   cuts-good (k ∷ ks) h = (h .0, cuts-good ks (h .1))
 
-  puts-good : (qs : List Quad) → All (Fits n s) qs → AllGood s R n B rooms exact hn (puts qs)
+  puts-good : (qs : List Quad) → All (Fits n s) qs → All (Good n s) (puts qs)
   puts-good [] h = tt
   puts-good (q ∷ qs) h = (h .0, puts-good qs (h .1))
 
-  pub ops-good : (w : Work) → GoodWork n s w → AllGood s R n B rooms exact hn (ops w)
+  pub ops-good : (w : Work) → GoodWork n s w → All (Good n s) (ops w)
   unfolding ops
   ops-good w g =
-      all-append (Good s R n B rooms exact hn) (cuts (w .own)) (puts (w .new) ++ cuts (w .facing)) (cuts-good (w .own) (g .own))
-      (all-append (Good s R n B rooms exact hn) (puts (w .new)) (cuts (w .facing)) (puts-good (w .new) (g .new)) (cuts-good (w .facing) (g .facing)))
+      all-append (Good n s) (cuts (w .own)) (puts (w .new) ++ cuts (w .facing)) (cuts-good (w .own) (g .own))
+      (all-append (Good n s) (puts (w .new)) (cuts (w .facing)) (puts-good (w .new) (g .new)) (cuts-good (w .facing) (g .facing)))
 
-  module _ (m : List Quad) (h v : ℕ) (k : Held s R n B rooms exact hn m h) where
-    filled-there : (ks : List ℕ) → All (λ k. k < n) ks → filledOf (layout n s h m B) ks ≡ thereOf ks m
+  module _ (m : List Quad) (h v : ℕ) (k : Sane n s R m h) where
+    pub filled-there : (ks : List ℕ) → All (λ k. k < n) ks → filledOf (layout n s h m B) ks ≡ thereOf ks m
     filled-there [] g = refl
     filled-there (j ∷ ks) g = rw (filled-is s R n B rooms exact hn m h k j (g .0), filled-there ks (g .1))
 
@@ -63,7 +64,7 @@ module _ (s R n : ℕ) (B : Lists) (rooms : Rooms s R n B) (exact : length (B .s
 
   -- LAW: a log on the lists is the layout of the log on the quads
   pub flow-held : (work : ℕ → Work) (i e : ℕ) (m : List Quad) (v h : ℕ) → ((j : ℕ) → i ≤ j → j < i + e → GoodWork n s (work j))
-      → Held s R n B rooms exact hn m h
+      → Sane n s R m h
       → flowFrom s R work i e (held n s B h m v) ≡ flowOf n s B (courseFrom R work i e m v h) ((courseFrom R work i e m v h) .full)
   unfolding flowFrom courseFrom
   flow-held work i zero m v h g k = refl

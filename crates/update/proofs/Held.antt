@@ -1,34 +1,29 @@
 -- A mesh held in the four lists, through draws and cuts: the lists stay the layout of the quads. Assumes nothing.
-use mathlib.Core.Path.{_≡_, refl, sym, ap, _∙_, subst}
+use mathlib.Core.Path.{_≡_, refl, sym, ap, _∙_}
 use mathlib.Core.Bool.{Bool, true, false, cond, not}
 use mathlib.Core.List.{List, [], _∷_, _++_, map, append-nil}
-use Prim.Native.Nat.{ℕ, zero, suc, _+_, _-_, _*_, _/_, _≤_, _<_, max}
+use Prim.Native.Nat.{ℕ, suc, _+_, _-_, _*_, _/_, _≤_, _<_, max}
 use native.Mathlib.Omega.{arith}
 use lib.Dec.{eqb}
-use lib.ListN.{length, set, drop, length-append, drop-of-length-le}
-use borrow.Author.Tests.{eq-eqb, ne-eqb}
+use lib.ListN.{length, set, length-append, drop-of-length-le}
+use borrow.Author.Tests.{ne-eqb}
 use Rattle.rules.specs.Lists.{table}
 use Rattle.rules.specs.Cells.{linkOf, firstVertex}
-use Rattle.rules.specs.Mesh.{Quad, Lists, NONE, there, placeOf, pattern, laid, slotOf, slotted, layout}
-use Rattle.rules.specs.Update.{draw, removeAt, remove, movedBy, moved, Op, put, cut, step, run, movedIn, moves, highest, Work, cuts, puts, ops}
+use Rattle.rules.specs.Mesh.{Quad, Lists, NONE, there, placeOf, pattern, slotOf, slotted, layout}
+use Rattle.rules.specs.Update.{draw, removeAt, remove, movedBy, moved, Op, put, cut, step, run, movedIn, moves, highest, cuts, ops}
 use Rattle.rules.specs.Answers.{slotAt}
 use Rattle.rules.proofs.ListLaws.{All, all-append, split}
-use Rattle.rules.proofs.Quads.{Once, placed, absent, length-removeAt, run-once}
+use Rattle.rules.proofs.Quads.{placed, length-removeAt, run-once}
 use Rattle.rules.proofs.Laying.{Sized, Fits, slots-at}
-use Rattle.rules.proofs.Courses.{fits-ops}
-use Rattle.vav.specs.Rows as rows
-use Rattle.vav.specs.Rows.{zeros, freed}
+use Rattle.rules.proofs.Courses.{Sane, fits-ops}
 use Rattle.vav.proofs.Laid.{remove-laid, pattern-laid}
 use Rattle.mesh_metadata.specs.Index.{renum}
 use Rattle.mesh_metadata.proofs.Meshes.{slots-removed, slots-drawn, few}
 use Rattle.drawing.specs.Drawn.{drawnAt}
 use Rattle.drawing.proofs.Laid.{Rooms, vertices-drawn, triangles-drawn, links-drawn}
 use Rattle.update.specs.Courses.{isFilled}
-use Rattle.update.specs.Flat.{State, removedAt, flatPut, flatCut, flatStep, flatRun}
-
--- the state of a mesh m whose highest count was h, laid out over what B held; v quads have moved
-abbrev pub held : ℕ → ℕ → Lists → ℕ → List Quad → ℕ → State
-held n s B h m v = record { lists = layout n s h m B; quads = length m; moved = v }
+use Rattle.update.specs.Holding.{held, Good}
+use Rattle.update.specs.Flat.{removedAt, flatPut, flatCut, flatStep, flatRun}
 
 words-sized : (n s : ℕ) (m : List Quad) → All (Fits n s) m → Sized s (λ q x. x .words) m
 words-sized n s [] f = tt
@@ -42,20 +37,17 @@ one-sized : (m : List Quad) → Sized 1 (λ q x. linkOf (x .key) ∷ []) m
 one-sized [] = tt
 one-sized (x ∷ m) = (λ i. refl, one-sized m)
 
+pub highest-ge : (os : List Op) (h : ℕ) (m : List Quad) → h ≤ highest h os m
+highest-ge [] h m = omega arith
+highest-ge (o ∷ os) h m = let a = highest-ge os (max h (length (step o m))) (step o m) in omega arith
+
 -- ---- over lists with room for R quads, and slots for n faces and no more
 module _ (s R n : ℕ) (B : Lists) (rooms : Rooms s R n B) (exact : length (B .slots) ≡ n) (hn : n ≤ 1073741823) where
-  slots-are : (m : List Quad) → slotted n m (B .slots) ≡ table n (slotOf m)
+  pub slots-are : (m : List Quad) → slotted n m (B .slots) ≡ table n (slotOf m)
   unfolding slotted
   slots-are m = rw (drop-of-length-le (B .slots) {i = n} (omega arith)) (append-nil (table n (slotOf m)))
 
-  -- a mesh that can be held
-  pub record Held (m : List Quad) (h : ℕ) : Type 0 where
-    pub fits : All (Fits n s) m
-    pub once : Once m
-    pub reached : length m ≤ h
-    pub within : h ≤ R
-
-  module _ (m : List Quad) (h : ℕ) (k : Held m h) where
+  module _ (m : List Quad) (h : ℕ) (k : Sane n s R m h) where
     small : firstVertex (length m) < NONE
     small = omega (arith, few n m (k .once) (keys-below n s m (k .fits)))
 
@@ -81,10 +73,10 @@ module _ (s R n : ℕ) (B : Lists) (rooms : Rooms s R n B) (exact : length (B .s
         λ i. record { vertices = v i; triangles = t i; links = l i; slots = z i }
 
     -- a slot tells whether its face is there, and where
-    slot-is : (j : ℕ) → j < n → slotAt (layout n s h m B) j ≡ slotOf m j
+    pub slot-is : (j : ℕ) → j < n → slotAt (layout n s h m B) j ≡ slotOf m j
     slot-is j l = slots-at n s h (omega arith) m B (k .fits) (rooms .slots) j l
 
-    slot-none : (j : ℕ) → j < n → eqb (slotAt (layout n s h m B) j) NONE ≡ not (there j m)
+    pub slot-none : (j : ℕ) → j < n → eqb (slotAt (layout n s h m B) j) NONE ≡ not (there j m)
     slot-none j l =
         rw (slot-is j l)
         (split (λ t. eqb (cond t (firstVertex (placeOf j m)) NONE) NONE ≡ not t) (there j m)
@@ -97,18 +89,13 @@ module _ (s R n : ℕ) (B : Lists) (rooms : Rooms s R n B) (exact : length (B .s
         twice true = refl
         twice false = refl
 
-    slot-place : (j : ℕ) → j < n → there j m ≡ true → slotAt (layout n s h m B) j / 4 ≡ placeOf j m
+    pub slot-place : (j : ℕ) → j < n → there j m ≡ true → slotAt (layout n s h m B) j / 4 ≡ placeOf j m
     slot-place j l e = let a : slotAt (layout n s h m B) j ≡ 4 * placeOf j m = slot-is j l ∙ rw e in rw a (omega arith)
 
     same-top : max h (length m) ≡ h
     same-top = let r = k .reached in omega arith
 
-  -- an operation that fits
-  abbrev pub Good : Op → Type 0
-  Good (put x) = Fits n s x
-  Good (cut j) = j < n
-
-  put-held : (x : Quad) → Fits n s x → (m : List Quad) (h v : ℕ) → Held m h → length (draw x m) ≤ R
+  put-held : (x : Quad) → Fits n s x → (m : List Quad) (h v : ℕ) → Sane n s R m h → length (draw x m) ≤ R
       → flatPut s x (held n s B h m v) ≡ held n s B (max h (length (draw x m))) (draw x m) (v + 0)
   unfolding flatPut
   put-held x f m h v k fit =
@@ -123,7 +110,7 @@ module _ (s R n : ℕ) (B : Lists) (rooms : Rooms s R n B) (exact : length (B .s
       let g : length m + 1 ≡ length (m ++ (x ∷ [])) = omega arith in
       λ i. record { lists = d i; quads = g i; moved = z i }) refl fit)
 
-  cut-held : (j : ℕ) → j < n → (m : List Quad) (h v : ℕ) → Held m h
+  cut-held : (j : ℕ) → j < n → (m : List Quad) (h v : ℕ) → Sane n s R m h
       → flatCut s j (held n s B h m v) ≡ held n s B (max h (length (remove j m))) (remove j m) (v + moved j m)
   unfolding flatCut remove
   cut-held j l m h v k =
@@ -145,7 +132,7 @@ module _ (s R n : ℕ) (B : Lists) (rooms : Rooms s R n B) (exact : length (B .s
       (λ a e. let z : v ≡ v + 0 = omega arith in let y = sym (same-top m h k) in λ i. held n s B (y i) m (z i)) refl)
 
   -- ---- a run of operations
-  held-step : (o : Op) → Good o → (m : List Quad) (h : ℕ) → Held m h → length (step o m) ≤ R → Held (step o m) (max h (length (step o m)))
+  pub held-step : (o : Op) → Good n s o → (m : List Quad) (h : ℕ) → Sane n s R m h → length (step o m) ≤ R → Sane n s R (step o m) (max h (length (step o m)))
   unfolding ops
   held-step (put x) f m h k fit =
       let w = k .within in
@@ -166,15 +153,13 @@ module _ (s R n : ℕ) (B : Lists) (rooms : Rooms s R n B) (exact : length (B .s
       fits-cut : All (Fits n s) (run (ops (record { own = j ∷ []; new = []; facing = [] })) m) → All (Fits n s) (remove j m)
       fits-cut f = f
 
-  abbrev pub AllGood : List Op → Type 0
-  AllGood = All Good
-
-  highest-ge : (os : List Op) (h : ℕ) (m : List Quad) → h ≤ highest h os m
-  highest-ge [] h m = omega arith
-  highest-ge (o ∷ os) h m = let a = highest-ge os (max h (length (step o m))) (step o m) in omega arith
+  pub step-held : (o : Op) → Good n s o → (m : List Quad) (h v : ℕ) → Sane n s R m h → length (step o m) ≤ R
+      → flatStep s o (held n s B h m v) ≡ held n s B (max h (length (step o m))) (step o m) (v + movedIn o m)
+  step-held (put x) f m h v k fit = put-held x f m h v k fit
+  step-held (cut j) l m h v k fit = cut-held j l m h v k
 
   -- LAW: a run on the lists is the layout of the run on the quads
-  pub run-held : (os : List Op) (m : List Quad) (h v : ℕ) → AllGood os → Held m h → highest h os m ≤ R
+  pub run-held : (os : List Op) (m : List Quad) (h v : ℕ) → All (Good n s) os → Sane n s R m h → highest h os m ≤ R
       → flatRun s os (held n s B h m v) ≡ held n s B (highest h os m) (run os m) (v + moves os m)
   run-held [] m h v g k fit = let z : v ≡ v + 0 = omega arith in λ i. held n s B h m (z i)
   run-held (o ∷ os) m h v g k fit =
@@ -183,8 +168,3 @@ module _ (s R n : ℕ) (B : Lists) (rooms : Rooms s R n B) (exact : length (B .s
       ap (flatRun s os) (step-held o (g .0) m h v k (omega arith))
       ∙ run-held os (step o m) (max h (length (step o m))) (v + movedIn o m) (g .1) (held-step o (g .0) m h k (omega arith)) fit
       ∙ (λ i. held n s B (highest (max h (length (step o m))) os (step o m)) (run os (step o m)) (z i))
-    where
-      step-held : (o : Op) → Good o → (m : List Quad) (h v : ℕ) → Held m h → length (step o m) ≤ R
-          → flatStep s o (held n s B h m v) ≡ held n s B (max h (length (step o m))) (step o m) (v + movedIn o m)
-      step-held (put x) f m h v k fit = put-held x f m h v k fit
-      step-held (cut j) l m h v k fit = cut-held j l m h v k

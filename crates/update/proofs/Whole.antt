@@ -1,28 +1,31 @@
 -- The whole of an update: on the lists, with the slots of the grid alone, it is the rule's course. Assumes nothing.
-use mathlib.Core.Path.{_≡_, refl, sym, ap, _∙_, subst}
-use mathlib.Core.List.{List, [], _∷_, _++_, append-nil}
+use mathlib.Core.Path.{_≡_, refl, sym, ap, _∙_}
+use mathlib.Core.Logic.{⊎-elim}
+use mathlib.Core.Bool.{true, true≢false}
+use mathlib.Core.List.{List, _++_, append-nil}
 use mathlib.Core.Option.{Option, none, some}
-use Prim.Native.Nat.{ℕ, zero, suc, _+_, _*_, _/_, _≤_, _<_}
+use Prim.Native.Nat.{ℕ, _+_, _/_, _≤_}
 use native.Mathlib.Omega.{arith}
 use lib.ListN.{length, take, drop, drop-of-length-le}
 use lib.Seq.{length-take-le, take-at}
-use borrow.Author.Tests.{ltb-false}
+use borrow.Author.Tests.{ltb-false, le-leb}
 use Rattle.rules.specs.Lists.{table}
 use Rattle.rules.specs.Cells.{cells}
 use Rattle.rules.specs.Mesh.{Quad, Lists, decode, layout, slotted, slotOf}
-use Rattle.rules.specs.Update.{Tested, Entry, entryAt, work, Course, courseFrom}
+use Rattle.rules.specs.Update.{Tested, entryAt, work, Course}
 use Rattle.rules.specs.Types.{floats}
-use Rattle.rules.specs.Answers.{fine, _then_, BAD-SIZE, SHORT-SLOTS, BAD-COUNT, BAD-ENTRY}
-use Rattle.rules.specs.Calls.{Scene, world, span, faces, room, typesVerdict, lentVerdict, bookVerdict, updateVerdict, course}
+use Rattle.rules.specs.Answers.{Verdict, fine, _then_, refuseLowest, badEntry, BAD-SIZE, SHORT-SLOTS, BAD-COUNT, BAD-ENTRY}
+use Rattle.rules.specs.Calls.{Scene, world, span, faces, room, typesVerdict, lentVerdict, bookVerdict, updateVerdict, course, Outcome, answered, courseAnswer, updateBy, updateMeshBy}
 use Rattle.rules.proofs.ListLaws.{length-table}
-use Rattle.rules.proofs.Checking.{then-fine, if-fine, book-of-fine, length-decode}
-use Rattle.rules.proofs.Demands.{words-sized, limits, sound, Room, room-for, lent-sane, entry-inside}
-use Rattle.rules.proofs.Courses.{Sane}
+use Rattle.rules.proofs.Checking.{then-fine, if-fine, lowest-fine, book-of-fine, length-decode}
+use Rattle.rules.proofs.Demands.{words-sized, limits, sound, room-for, lent-sane, entry-inside}
 use Rattle.rules.proofs.Idle.{layout-stands}
+use Rattle.admit.proofs.Admitting.{sized, typed}
+use Rattle.mesh_metadata.proofs.Slots.{order}
 use Rattle.drawing.proofs.Laid.{Rooms}
 use Rattle.update.specs.Flat.{State}
-use Rattle.update.specs.Courses.{Flow, flowFrom}
-use Rattle.update.proofs.Held.{held, Held}
+use Rattle.update.specs.Courses.{Flow, going, full, flowFrom}
+use Rattle.update.specs.Holding.{held, Logging}
 use Rattle.update.proofs.Flows.{flowOf, flow-held}
 use Rattle.update.proofs.Works.{good-work}
 
@@ -47,12 +50,16 @@ with-rest n s h m B r =
       slots = e i ++ drop n (B .slots);
     }
 
+past-limit : (n types : ℕ) (log : List ℕ) (k : ℕ) → 16777216 ≤ k → badEntry n types log k ≡ true
+unfolding badEntry
+past-limit n types log k h = rw (le-leb 16777216 k h)
+
 -- what an accepted update starts from
 module _ (tested : Tested) (S : Scene) (log : List ℕ) (B : Lists) (Q : ℕ) (v : updateVerdict S log B Q ≡ fine) where
   abbrev pub start : State
   start = record { lists = within (faces S) B; quads = Q; moved = 0 }
 
-  size-fine : BAD-SIZE (S .size) ≡ fine
+  pub size-fine : BAD-SIZE (S .size) ≡ fine
   size-fine = then-fine (BAD-SIZE (S .size)) _ v .0
 
   types-fine : typesVerdict S ≡ fine
@@ -123,3 +130,68 @@ module _ (tested : Tested) (S : Scene) (log : List ℕ) (B : Lists) (Q : ℕ) (v
       (λ j a b. good-work (world S) (sound S size-fine types-fine) (span S) (words-sized S) (entryAt log j)
       (entry-inside (cells (S .size)) (length (S .types .kinds)) log entry-fine j (omega arith)) tested)
       (record { fits = sane .fits; once = sane .once; reached = sane .reached; within = sane .within })
+
+  few-entries : length log / 12 ≤ 16777216
+  unfolding BAD-ENTRY
+  few-entries =
+      let bad = lowest-fine 13 (length log / 12) (badEntry (cells (S .size)) (length (S .types .kinds)) log)
+      (then-fine (refuseLowest 13 (length log / 12) (badEntry (cells (S .size)) (length (S .types .kinds)) log)) _ entry-fine .0) in
+      ⊎-elim (λ l. absurd (true≢false (sym (past-limit (cells (S .size)) (length (S .types .kinds)) log 16777216 (omega arith)) ∙ bad 16777216 l))) (λ l. l)
+      (order 16777216 (length log / 12))
+
+  -- what the log starts from
+  pub logging : Logging S (room S B) log start
+  logging =
+      let sane = lent-sane S B Q size-fine slots-fine count-fine book-fine in
+      record {
+        within = sized S size-fine;
+        typed = typed S types-fine;
+        mesh = record {
+          first = within (faces S) B;
+          top = Q;
+          all = decode (span S) Q B;
+          rooms = rooms;
+          exact = exact;
+          small = small;
+          sane = sane;
+          is = starts;
+        };
+        inside = λ k h. entry-inside (cells (S .size)) (length (S .types .kinds)) log entry-fine k h;
+        few = few-entries;
+        still = refl;
+      }
+
+-- ---- the outcome
+abbrev pub outcomeIn : List ℕ → Flow → Outcome
+outcomeIn rest (going St) = record { answer = answered (St .quads) (St .moved); lists = withRest rest (St .lists) }
+outcomeIn rest (full i St) = record { answer = record { number = 14; place = i; quads = St .quads; moved = St .moved }; lists = withRest rest (St .lists) }
+
+-- LAW: the log run on the lists gives the outcome that the rule gives
+pub outcome-is : (tested : Tested) (S : Scene) (log : List ℕ) (B : Lists) (Q : ℕ) (v : updateVerdict S log B Q ≡ fine)
+    → outcomeIn (drop (faces S) (B .slots)) (flowFrom (span S) (room S B) (λ k. work tested (world S) (entryAt log k)) 0 (length log / 12) (start tested S log B Q v))
+    ≡ updateMeshBy tested S log B Q
+outcome-is tested S log B Q v =
+    let c = course tested S log B Q in
+    let back = with-rest (faces S) (span S) (c .highest) (c .quads) B (slots-room tested S log B Q v) in
+    ap (outcomeIn (drop (faces S) (B .slots))) (whole tested S log B Q v) ∙ ended c back (c .full) ∙ sym (ap (λ (x : Verdict). updateBy x S c B) v)
+  where
+    ended : (c : Course) → withRest (drop (faces S) (B .slots)) (layout (faces S) (span S) (c .highest) (c .quads) (within (faces S) B)) ≡ layout (faces S) (span S) (c .highest) (c .quads) B
+        → (o : Option ℕ) → outcomeIn (drop (faces S) (B .slots)) (flowOf (faces S) (span S) (within (faces S) B) c o)
+        ≡ record { answer = courseAnswer c o; lists = layout (faces S) (span S) (c .highest) (c .quads) B }
+    ended c e none = λ i. record { answer = answered (length (c .quads)) (c .moved); lists = e i }
+    ended c e (some k) = λ i. record { answer = courseAnswer c (some k); lists = e i }
+
+-- the same with the slots lent and the room found
+module _ (tested : Tested) (S : Scene) (log : List ℕ) (B : Lists) (Q : ℕ) (v : updateVerdict S log B Q ≡ fine) {n R : ℕ} (hn : n ≡ faces S) (hR : R ≡ room S B) where
+  pub lent-ends : n ≤ length (B .slots)
+  lent-ends = rw hn (slots-room tested S log B Q v)
+
+  pub lent-logging : Logging S R log (record { lists = within n B; quads = Q; moved = 0 })
+  lent-logging = rw (hn, hR) (logging tested S log B Q v)
+
+  pub lent-outcome : {F : Flow} → F ≡ flowFrom (span S) R (λ k. work tested (world S) (entryAt log k)) 0 (length log / 12) (record { lists = within n B; quads = Q; moved = 0 })
+      → outcomeIn (drop n (B .slots)) F ≡ updateMeshBy tested S log B Q
+  lent-outcome {F} e =
+      ap (outcomeIn (drop n (B .slots))) e
+      ∙ (λ i. outcomeIn (drop (hn i) (B .slots)) (flowFrom (span S) (hR i) (λ k. work tested (world S) (entryAt log k)) 0 (length log / 12) (record { lists = within (hn i) B; quads = Q; moved = 0 })))
+      ∙ outcome-is tested S log B Q v

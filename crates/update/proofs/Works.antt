@@ -1,18 +1,17 @@
 -- What an entry does keeps to the faces of the grid, and names no face twice. Assumes nothing.
-use mathlib.Core.Path.{_≡_, refl, sym, ap, _∙_, subst}
-use mathlib.Core.Bool.{Bool, true, false, cond, not, _&&_, false≢true}
+use mathlib.Core.Path.{_≡_, refl, ap, _∙_}
+use mathlib.Core.Bool.{Bool, true, false, cond, _&&_, false≢true}
 use mathlib.Core.List.{List, [], _∷_, _++_}
 use mathlib.Core.Option.{Option, none, some}
-use Prim.Native.Nat.{ℕ, zero, suc, _+_, _*_, _%_, _≤_, _<_}
+use Prim.Native.Nat.{ℕ, zero, suc, _+_, _*_, _%_, _<_}
 use native.Mathlib.Omega.{arith}
 use lib.ListN.{length}
 use Rattle.rules.specs.Lists.{each, only, member}
 use Rattle.rules.specs.Cells.{cells, opposite, neighbour, keyOf}
 use Rattle.rules.specs.Mesh.{Quad, World, isNormalCube, covering}
-use Rattle.rules.specs.Update.{Change, Broken, Added, CullFaces, AddFaces, Entry, givenAt, Work, Tested, quadOf, sides, quads, hide, reveal, all, isOpen, withGiven, nothing, added, workBy, work}
+use Rattle.rules.specs.Update.{Change, Broken, Added, CullFaces, AddFaces, Entry, givenAt, Tested, quadOf, sides, quads, hide, reveal, all, isOpen, withGiven, nothing, added, workBy, work}
 use Rattle.rules.proofs.ListLaws.{All, all-each, all-only, split}
 use Rattle.rules.proofs.Neighbours.{beside, opposite-lt, opposite-twice}
-use Rattle.rules.proofs.Laying.{Fits}
 use Rattle.rules.proofs.Mending.{Sound}
 use Rattle.rules.proofs.Courses.{fits-new}
 use Rattle.update.proofs.Needed.{keysOf, Apart, apart-each, member-only}

@@ -1,6 +1,6 @@
 -- A log on the four lists, entry by entry until one finds no room. Definitions only.
 use Prim.Native.Nat.{ℕ, zero, suc, _+_, _-_}
-use mathlib.Core.Bool.{Bool, true, false, cond, not}
+use mathlib.Core.Bool.{Bool, false, cond, not}
 use mathlib.Core.List.{List, [], _∷_}
 use lib.Dec.{eqb, leb}
 use Rattle.rules.specs.Lists.{member}
@@ -8,6 +8,13 @@ use Rattle.rules.specs.Mesh.{Quad, Lists, NONE}
 use Rattle.rules.specs.Update.{Work, ops}
 use Rattle.rules.specs.Answers.{slotAt}
 use Rattle.update.specs.Flat.{State, flatRun}
+use Rattle.update.specs.Holding.{stateOf}
+use Rattle.rules.specs.Calls.{Outcome, answered, refused}
+use Rattle.answers.specs.Verdicts.{numberOf}
+use Rattle.update.specs.declared.Updated.{Updated}
+use Rattle.update.specs.declared.Updated.the-variants.{Done, NoRoom, Refused}
+use Rattle.update.specs.declared.Ran.{Ran}
+use Rattle.update.specs.declared.Ran.the-variants.{Through, Full}
 
 abbrev pub isFilled : Lists → ℕ → Bool
 isFilled B k = not (eqb (slotAt B k) NONE)
@@ -31,6 +38,14 @@ pub data Flow : Type 0 where
   going : State → Flow
   full : ℕ → State → Flow
 
+-- one entry, number i
+abbrev pub flowOne : ℕ → ℕ → Work → ℕ → State → Flow
+flowOne s room w i S = cond (leb (flatNeeded w S) room) (going (flatRun s (ops w) S)) (full i S)
+
+abbrev pub ranOf : Ran → Lists → Flow
+ranOf (Through count) B = going (stateOf B count)
+ranOf (Full i count) B = full i (stateOf B count)
+
 -- entries i, i + 1, .., n of them
 unfoldable pub flowFrom : ℕ → ℕ → (ℕ → Work) → ℕ → ℕ → State → Flow
 flowFrom s room work i zero S = going S
@@ -38,3 +53,9 @@ flowFrom s room work i (suc n) S =
     cond (leb (flatNeeded (work i) S) room)
     (flowFrom s room work (suc i) n (flatRun s (ops (work i)) S))
     (full i S)
+
+-- what the call answers, with the lists at exit
+abbrev pub outcomeOf : Updated → Lists → Outcome
+outcomeOf (Done count) B = record { answer = answered (count .quads) (count .moved); lists = B }
+outcomeOf (NoRoom i count) B = record { answer = record { number = 14; place = i; quads = count .quads; moved = count .moved }; lists = B }
+outcomeOf (Refused why place) B = record { answer = refused (numberOf why) place; lists = B }

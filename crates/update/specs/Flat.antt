@@ -27,22 +27,19 @@ removedAt s q Q B =
       slots = map (renum q Q) (B .slots);
     }
 
+abbrev pub putAt : ℕ → Quad → State → State
+putAt s x S = record { lists = drawnAt s (S .quads) x (S .lists); quads = S .quads + 1; moved = S .moved }
+
 -- drawing appends, and skips a face whose slot is filled
 unfoldable pub flatPut : ℕ → Quad → State → State
-flatPut s x S =
-    cond (eqb (slotAt (S .lists) (x .key)) NONE)
-    (record { lists = drawnAt s (S .quads) x (S .lists); quads = S .quads + 1; moved = S .moved })
-    S
+flatPut s x S = cond (eqb (slotAt (S .lists) (x .key)) NONE) (putAt s x S) S
+
+abbrev pub cutAt : ℕ → ℕ → State → State
+cutAt s q S =
+    record { lists = removedAt s q (S .quads) (S .lists); quads = S .quads - 1; moved = S .moved + movedBy (S .quads) q }
 
 unfoldable pub flatCut : ℕ → ℕ → State → State
-flatCut s k S =
-    cond (eqb (slotAt (S .lists) k) NONE)
-    S
-    (record {
-      lists = removedAt s (slotAt (S .lists) k / 4) (S .quads) (S .lists);
-      quads = S .quads - 1;
-      moved = S .moved + movedBy (S .quads) (slotAt (S .lists) k / 4);
-    })
+flatCut s k S = cond (eqb (slotAt (S .lists) k) NONE) S (cutAt s (slotAt (S .lists) k / 4) S)
 
 abbrev pub flatStep : ℕ → Op → State → State
 flatStep s (put x) S = flatPut s x S
