@@ -1,14 +1,18 @@
 // Runs the vectors that tools/cube_vectors.py wrote: cubes, the types' tests and moved positions, each held to its expected words.
 use answers::Verdict;
 use floats::Triple;
-use libc::STDIN_FILENO;
-use libc::STDOUT_FILENO;
-use std::num::wrapping_add_u64;
+use vectors::Count;
+use vectors::empty;
+use vectors::holds;
+use vectors::narrow;
+use vectors::read_record;
+use vectors::say;
+use vectors::size;
 use voxel_mesh::Cubed;
 use voxel_mesh::Shape;
 use voxel_mesh::types::types_verdict;
 ghost use mathlib.Core.Path.{_≡_};
-ghost use Prim.Native.Nat.{_+_, _*_, _<_, _≤_};
+ghost use Prim.Native.Nat.{_+_, _*_, _≤_};
 ghost use lib.ListN.{length};
 ghost use Rattle.rules.specs.Calls.{checkBy};
 ghost use Rattle.voxel_mesh.specs.Outcome.{verdictOf};
@@ -17,68 +21,6 @@ ghost use Rattle.answers.specs.Verdicts as types;
 struct Told {
     number: u32,
     place: usize,
-}
-
-// The room that is lent holds this before the call.
-const SPARE: u32 = 0xa5a5_a5a5;
-
-fn wide(byte: u8) -> u32
-    ensures { λ r. ⌜ (r ≡ byte) × (r < 256) ⌝ }
-{
-    byte as u32
-}
-
-fn size(word: u32) -> usize
-    ensures { λ r. ⌜ r ≡ word ⌝ }
-{
-    word as usize
-}
-
-// The word that starts at a byte, the lowest byte first.
-fn word_at(bytes: &[u8], at: usize) -> u32
-    requires { ⌜ at + 4 ≤ length (now bytes) ⌝ }
-{
-    let low = wide(bytes[at]) + 256 * wide(bytes[at + 1]);
-    let high = wide(bytes[at + 2]) + 256 * wide(bytes[at + 3]);
-    low + 65536 * high
-}
-
-fn decode(bytes: &[u8], words: &mut [u32])
-    requires { ⌜ 4 * length (now words) ≤ length (now bytes) ⌝ }
-{
-    let mut i: usize = 0;
-    while i < words.len() {
-        words[i] = word_at(bytes, 4 * i);
-        i += 1;
-    }
-}
-
-fn read_words(bytes: &mut [u8], words: &mut [u32]) -> bool
-    requires { ⌜ length (now bytes) ≡ 4 * length (now words) ⌝ }
-{
-    let got = io::read_full(STDIN_FILENO, bytes);
-    decode(bytes, words);
-    got == bytes.len()
-}
-
-// Reads the next record, and answers how many words it has: none at the end.
-fn read_record(bytes: &mut [u8], words: &mut [u32]) -> usize
-    requires { ⌜ (4096 ≤ length (now bytes)) × (1024 ≤ length (now words)) ⌝ }
-    ensures { λ r. ⌜ r ≤ 1024 ⌝ }
-{
-    let mut head = [0u8; 4];
-    if io::read_full(STDIN_FILENO, &mut head) != 4 {
-        return 0;
-    }
-    let count = size(word_at(&head, 0));
-    if 1024 < count {
-        return 0;
-    }
-    let whole = 4 * count;
-    if read_words(&mut bytes[..whole], &mut words[..count]) {
-        return count;
-    }
-    0
 }
 
 fn triple_at(r: &[u32], at: usize) -> Triple
@@ -130,21 +72,6 @@ fn told_by_types(answer: Verdict) -> Told
     }
 }
 
-fn expected_at(words: &[u32], i: usize) -> u32 {
-    if i < words.len() { words[i] } else { SPARE }
-}
-
-// Whether the room holds the words, and is as it was past them.
-fn holds(room: &[u32], words: &[u32]) -> bool {
-    let mut ok = words.len() <= room.len();
-    let mut i: usize = 0;
-    while i < room.len() {
-        ok = ok & (room[i] == expected_at(words, i));
-        i += 1;
-    }
-    ok
-}
-
 fn is_told(told: Told, r: &[u32], at: usize) -> bool
     requires { ⌜ at + 2 ≤ length (now r) ⌝ }
 {
@@ -163,14 +90,6 @@ fn shape_in(r: &[u32]) -> Shape
         coloured: r[9] == 1,
         colour: r[10],
         alpha: r[11],
-    }
-}
-
-fn empty(room: &mut [u32]) {
-    let mut i: usize = 0;
-    while i < room.len() {
-        room[i] = SPARE;
-        i += 1;
     }
 }
 
@@ -215,17 +134,6 @@ fn is_right_only(r: &[u32], cube: &[u32]) -> bool
         triple_at(r, 3),
     );
     is_told(told_by_types(answer), r, 16)
-}
-
-// The lowest bytes of the words.
-fn narrow(words: &[u32], bytes: &mut [u8])
-    requires { ⌜ length (now bytes) ≤ length (now words) ⌝ }
-{
-    let mut i: usize = 0;
-    while i < bytes.len() {
-        bytes[i] = (words[i] % 256) as u8;
-        i += 1;
-    }
 }
 
 // The kinds from word 11 on, then the sets, then the registry's words.
@@ -297,30 +205,6 @@ fn is_right(kind: u32, r: &[u32], room: &mut [u32], kinds: &mut [u8], covers: &m
     is_right_moved(r)
 }
 
-struct Count {
-    right: u64,
-    wrong: u64,
-}
-
-impl Count {
-    fn none() -> Self {
-        Self { right: 0, wrong: 0 }
-    }
-
-    fn and(self, ok: bool) -> Self {
-        if ok {
-            return Self {
-                right: wrapping_add_u64(self.right, 1),
-                wrong: self.wrong,
-            };
-        }
-        Self {
-            right: self.right,
-            wrong: wrapping_add_u64(self.wrong, 1),
-        }
-    }
-}
-
 struct Tally {
     cubes: Count,
     types: Count,
@@ -361,7 +245,7 @@ fn run(
     kinds: &mut [u8],
     covers: &mut [u8],
 ) -> Tally
-    requires { ⌜ (4096 ≤ length (now bytes)) × (1024 ≤ length (now words)) ⌝ }
+    requires { ⌜ length (now bytes) ≡ 4 * length (now words) ⌝ }
     requires { ⌜ (512 ≤ length (now room)) × (256 ≤ length (now kinds)) × (256 ≤ length (now covers)) ⌝ }
 {
     let mut tally = Tally {
@@ -380,19 +264,6 @@ fn run(
         turn += 1;
     }
     tally
-}
-
-fn say(name: &[u8], count: Count) {
-    let right = count.right;
-    let wrong = count.wrong;
-    io::write_all(STDOUT_FILENO, name);
-    io::write_all(STDOUT_FILENO, b" ");
-    io::print_decimal(STDOUT_FILENO, wrapping_add_u64(right, wrong));
-    io::write_all(STDOUT_FILENO, b" right ");
-    io::print_decimal(STDOUT_FILENO, right);
-    io::write_all(STDOUT_FILENO, b" wrong ");
-    io::print_decimal(STDOUT_FILENO, wrong);
-    io::write_all(STDOUT_FILENO, b"\n");
 }
 
 // Zeros, of which only the number counts.

@@ -8,6 +8,7 @@ use Rattle.rules.specs.Mesh.{Lists}
 use Rattle.rules.specs.Calls as rules
 use Rattle.rules.specs.Calls.{Answer, CubeOutcome, Outcome}
 use Rattle.exports.specs.declared.Told.{Told}
+use Rattle.exports.specs.declared.Mended.{Mended}
 
 -- 0 no, else yes
 abbrev pub isYes : ℕ → Bool
@@ -18,6 +19,9 @@ answer number place quads moved = record { number = number; place = place; quads
 
 abbrev pub toldOf : Told → Answer
 toldOf t = answer (t .number) (t .place) (t .quads) 0
+
+abbrev pub mendedOf : Mended → Answer
+mendedOf t = answer (t .number) (t .place) (t .quads) (t .moved)
 
 abbrev pub cubeOut : Answer → List ℕ → CubeOutcome
 cubeOut a out = record { answer = a; out = out }

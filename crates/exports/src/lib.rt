@@ -7,6 +7,8 @@ use floats::Triple;
 use meshem::Meshed;
 use meshem::MeshingAlgorithm;
 use meshem::mesh_grid;
+use update::Updated;
+use update::update_mesh;
 use util::Dimensions;
 use voxel_mesh::Cubed;
 use voxel_mesh::Shape;
@@ -14,18 +16,28 @@ use voxel_mesh::generate_voxel_mesh;
 ghost use mathlib.Core.Path.{_≡_};
 ghost use mathlib.Core.List.{List};
 ghost use Prim.Native.Nat.{ℕ};
-ghost use Rattle.rules.specs.Calls.{checkBy, generateVoxelMesh, meshGrid, checkMesh};
+ghost use Rattle.rules.specs.Calls.{checkBy, generateVoxelMesh, meshGrid, updateMesh, checkMesh};
 ghost use Rattle.answers.specs.Verdicts as answers;
 ghost use Rattle.voxel_mesh.specs.Outcome as cube;
 ghost use Rattle.meshem.specs.Outcome.{answerOf, isCulling};
+ghost use Rattle.update.specs.Courses as update;
 ghost use Rattle.admit.specs.Scenes.{sceneOf, listsOf};
-ghost use Rattle.exports.specs.Answers.{isYes, answer, toldOf, shapeFrom, sceneFrom, cubeOut, outcome};
+ghost use Rattle.rules.specs.Mesh.{Lists};
+ghost use Rattle.exports.specs.Answers.{isYes, answer, toldOf, mendedOf, shapeFrom, sceneFrom, cubeOut, outcome};
 
 // An answer's number, place and count.
 pub struct Told {
     pub number: u32,
     pub place: u64,
     pub quads: u64,
+}
+
+// An update's answer.
+pub struct Mended {
+    pub number: u32,
+    pub place: u64,
+    pub quads: u64,
+    pub moved: u64,
 }
 
 fn wide(n: usize) -> u64
@@ -102,6 +114,31 @@ fn told_by_mesh(meshed: Meshed) -> Told
             number: why.number(),
             place: wide(place),
             quads: 0,
+        },
+    }
+}
+
+fn told_by_update(updated: Updated) -> Mended
+    ensures { λ r. ⌜ ((lists : Lists) → outcome (mendedOf r) lists ≡ update.outcomeOf updated lists) ⌝ }
+{
+    match updated {
+        Updated::Done(count) => Mended {
+            number: 0,
+            place: 0,
+            quads: wide(count.quads),
+            moved: count.moved,
+        },
+        Updated::NoRoom(place, count) => Mended {
+            number: 14,
+            place: wide(place),
+            quads: wide(count.quads),
+            moved: count.moved,
+        },
+        Updated::Refused(why, place) => Mended {
+            number: why.number(),
+            place: wide(place),
+            quads: 0,
+            moved: 0,
         },
     }
 }
@@ -243,6 +280,56 @@ pub extern "C" fn meshem_mesh_grid(
     *place = meshed.place;
     *quads = meshed.quads;
     meshed.number
+}
+
+#[no_mangle]
+pub extern "C" fn meshem_update_mesh(
+    vertices: &mut [u32],
+    triangles: &mut [u32],
+    links: &mut [u32],
+    slots: &mut [u32],
+    count: u64,
+    width: u32,
+    height: u32,
+    length: u32,
+    log: &[u8],
+    kinds: &[u8],
+    covers: &[u8],
+    cubes: &[u32],
+    coloured: u32,
+    dx: u32,
+    dy: u32,
+    dz: u32,
+    cx: u32,
+    cy: u32,
+    cz: u32,
+    place: &mut u64,
+    quads: &mut u64,
+    moved: &mut u64,
+) -> u32
+    ensures { λ r. ⌜ outcome (answer r (now (place .exit)) (now (quads .exit)) (now (moved .exit)))
+        (listsOf (now (vertices .exit)) (now (triangles .exit)) (now (links .exit)) (now (slots .exit)))
+        ≡ updateMesh (sceneFrom width height length (now (kinds .entry)) (now (covers .entry)) (now (cubes .entry)) coloured dx dy dz cx cy cz)
+        (now (log .entry))
+        (listsOf (now (vertices .entry)) (now (triangles .entry)) (now (links .entry)) (now (slots .entry))) count ⌝ }
+{
+    let scene = scene_of(width, height, length, coloured, dx, dy, dz, cx, cy, cz);
+    let mended = told_by_update(update_mesh(
+        vertices,
+        triangles,
+        links,
+        slots,
+        scene,
+        kinds,
+        covers,
+        cubes,
+        log,
+        count as usize,
+    ));
+    *place = mended.place;
+    *quads = mended.quads;
+    *moved = mended.moved;
+    mended.number
 }
 
 #[no_mangle]

@@ -1,11 +1,11 @@
--- `cube_run::narrow` meets its contract. Assumes nothing.
+-- `vectors::narrow` meets its contract. Assumes nothing.
 use mathlib.Core.Path.{_≡_, refl}
 use Prim.Native.Nat.{_≤_, _-_}
 use lib.ListN.{length, length-set}
 use borrow.Author.Needs.{needs}
 use native.Mathlib.Omega.{arith}
-use Rattle.cube_run.proofs.narrow.Statement.{statement}
-use Rattle.cube_run.proofs.narrow.Tie as tie
+use Rattle.vectors.proofs.narrow.Statement.{statement}
+use Rattle.vectors.proofs.narrow.Tie as tie
 
 abbrev Inv-loop : tie.InvT-loop
 Inv-loop words bytes₀ i₀ bytes i = (length bytes ≡ length bytes₀) × (i ≤ length bytes)

@@ -1,11 +1,11 @@
--- `cube_run::read_record` meets its contract. Assumes nothing.
+-- `vectors::read_record` meets its contract. Assumes nothing.
 use mathlib.Core.Path.{sym}
 use lib.ListN.{length-take}
 use lib.Seq.{length-take-le}
 use borrow.Author.Needs.{needs}
 use native.Mathlib.Omega.{arith}
-use Rattle.cube_run.proofs.read_record.Statement.{statement}
-use Rattle.cube_run.proofs.read_record.Tie as tie
+use Rattle.vectors.proofs.read_record.Statement.{statement}
+use Rattle.vectors.proofs.read_record.Tie as tie
 
 slice-aggregate-read-full : tie.Need-slice-aggregate-read-full
 slice-aggregate-read-full c = search needs

@@ -1,11 +1,11 @@
--- `cube_run::decode` meets its contract. Assumes nothing.
+-- `vectors::decode` meets its contract. Assumes nothing.
 use mathlib.Core.Path.{_≡_, refl}
 use Prim.Native.Nat.{_≤_, _-_}
 use lib.ListN.{length, length-set}
 use borrow.Author.Needs.{needs}
 use native.Mathlib.Omega.{arith}
-use Rattle.cube_run.proofs.decode.Statement.{statement}
-use Rattle.cube_run.proofs.decode.Tie as tie
+use Rattle.vectors.proofs.decode.Statement.{statement}
+use Rattle.vectors.proofs.decode.Tie as tie
 
 abbrev Inv-loop : tie.InvT-loop
 Inv-loop bytes words₀ i₀ words i = (length words ≡ length words₀) × (i ≤ length words)

@@ -1,10 +1,10 @@
--- `cube_run::holds` meets its contract. Assumes nothing.
+-- `vectors::holds` meets its contract. Assumes nothing.
 use Prim.Native.Nat.{_≤_, _-_}
 use lib.ListN.{length}
 use borrow.Author.Needs.{needs}
 use native.Mathlib.Omega.{arith}
-use Rattle.cube_run.proofs.holds.Statement.{statement}
-use Rattle.cube_run.proofs.holds.Tie as tie
+use Rattle.vectors.proofs.holds.Statement.{statement}
+use Rattle.vectors.proofs.holds.Tie as tie
 
 abbrev Inv-loop : tie.InvT-loop
 Inv-loop room words ok₀ i₀ ok i = i ≤ length room

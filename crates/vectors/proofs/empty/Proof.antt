@@ -1,11 +1,11 @@
--- `cube_run::empty` meets its contract. Assumes nothing.
+-- `vectors::empty` meets its contract. Assumes nothing.
 use mathlib.Core.Path.{_≡_, refl}
 use Prim.Native.Nat.{_≤_, _-_}
 use lib.ListN.{length, length-set}
 use borrow.Author.Needs.{needs}
 use native.Mathlib.Omega.{arith}
-use Rattle.cube_run.proofs.empty.Statement.{statement}
-use Rattle.cube_run.proofs.empty.Tie as tie
+use Rattle.vectors.proofs.empty.Statement.{statement}
+use Rattle.vectors.proofs.empty.Tie as tie
 
 abbrev Inv-loop : tie.InvT-loop
 Inv-loop room₀ i₀ room i = (length room ≡ length room₀) × (i ≤ length room)

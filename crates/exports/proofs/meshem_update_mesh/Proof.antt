@@ -1,0 +1,51 @@
+-- `exports::meshem_update_mesh` meets its contract: it tells what the update told. Assumes nothing.
+use mathlib.Core.Path.{_∙_}
+use denote.Ref.{now}
+use Rattle.rules.specs.Calls.{updateMesh}
+use Rattle.admit.specs.Scenes.{listsOf}
+use borrow.Author.Needs.{needs}
+use Rattle.exports.proofs.meshem_update_mesh.Statement.{statement}
+use Rattle.exports.proofs.meshem_update_mesh.Tie as tie
+
+scene-of-requires : tie.Need-scene-of-requires
+scene-of-requires c κs = search needs
+
+update-mesh-requires : tie.Need-update-mesh-requires
+update-mesh-requires c κs = search needs
+
+told-by-update-requires : tie.Need-told-by-update-requires
+told-by-update-requires c κs = search needs
+
+same-length : tie.Need-same-length
+same-length c = search needs
+
+same-length-2 : tie.Need-same-length-2
+same-length-2 c = search needs
+
+same-length-3 : tie.Need-same-length-3
+same-length-3 c = search needs
+
+same-length-4 : tie.Need-same-length-4
+same-length-4 c = search needs
+
+returns : tie.Need-returns
+returns c =
+    let m = c .before .before .before .before .before .before .before .before .before in
+    let s = m .before .before .before .before .before in
+    let a = s .before .before .before .before .before .before .before .before .before .args in
+    let scene = s .scene-of .ensures (now (a .kinds)) (now (a .covers)) (now (a .cubes)) in
+    let lists = listsOf (now (a .vertices)) (now (a .triangles)) (now (a .links)) (now (a .slots)) in
+    c .told-by-update .ensures _ ∙ (m .update-mesh .ensures ∙ (λ i. updateMesh (scene i) (now (a .log)) lists (a .count)))
+
+pub meshem-update-mesh-spec : {M : Type 1} → statement M
+meshem-update-mesh-spec =
+    tie.close
+    (tie.spec
+    scene-of-requires
+    update-mesh-requires
+    told-by-update-requires
+    same-length
+    same-length-2
+    same-length-3
+    same-length-4
+    returns)

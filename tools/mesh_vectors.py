@@ -1,0 +1,290 @@
+#!/usr/bin/env python3
+"""Writes what the program mesh_run reads and must print: crates/mesh_run/stdin and stdout.
+
+Every expected word is computed here, from document 01's sentences, with no code of the crates; cubes, float steps and the
+types' tests are those of cube_vectors.py. Run it at the repository's root.
+"""
+import random
+import struct
+
+from cube_vectors import INF, MAX, NAN, NEG, ONE, bits, cube, f, op, shape, types_answer
+
+NONE = 0xFFFFFFFF
+STEPS = [(0, 1, 0), (0, -1, 0), (1, 0, 0), (-1, 0, 0), (0, 0, 1), (0, 0, -1)]  # Top, Bottom, Right, Left, Back, Forward
+RECORD, REGISTRY, LENT = 32768, 73440, (32768, 4096, 4096, 8192)  # what the program has room for
+
+
+def floats(m):
+    return 12 if m["coloured"] else 8
+
+
+def cells(m):
+    """The cells in order, each with its coordinates."""
+    w, h, l = m["dims"]
+    return [(y * l * w + z * w + x, (x, y, z)) for y in range(h) for z in range(l) for x in range(w)]
+
+
+def is_drawn(m, at, face):
+    """Whether a side of a cell is drawn."""
+    w, h, l = m["dims"]
+
+    def code(x, y, z):
+        return m["grid"][y * l * w + z * w + x]
+
+    if m["kinds"][code(*at)] != 1:
+        return False
+    if not m["culling"]:
+        return True
+    x, y, z = (at[k] + STEPS[face][k] for k in range(3))
+    if 0 <= x < w and 0 <= y < h and 0 <= z < l:
+        return not m["covers"][code(x, y, z)] >> (face ^ 1) & 1
+    return face not in m["outer"]
+
+
+def faces(m):
+    return [(cell, at, face) for cell, at in cells(m) for face in range(6) if is_drawn(m, at, face)]
+
+
+def answer(m):
+    w, h, l = m["dims"]
+    if any(not 1 <= n <= 1024 for n in m["dims"]) or w * h * l > 1048576 or len(m["grid"]) != w * h * l:
+        return 2, 0
+    number, place = types_answer(m)
+    if number:
+        return number, place
+    for i, face in enumerate(m["outer"]):
+        if face > 5:
+            return 7, i
+    for cell, code in enumerate(m["grid"]):
+        if code >= len(m["kinds"]):
+            return 8, cell
+    vertices, triangles, links, slots = m["lent"]
+    if slots < 6 * w * h * l:
+        return 9, 0
+    room = min(vertices // (4 * floats(m)), triangles // 6, links)
+    return (14, 0) if len(faces(m)) > room else (0, 0)
+
+
+def mesh(m):
+    """The words of vertices, triangles, links and slots."""
+    n = floats(m)
+    vertices, triangles, links, slots = [], [], [], [NONE] * (6 * len(m["grid"]))
+    for q, (cell, at, face) in enumerate(faces(m)):
+        for v in (4 * face, 4 * face + 1, 4 * face + 3, 4 * face + 2):
+            start = n * (24 * m["grid"][cell] + v)
+            vertex = m["cubes"][start:start + n]
+            vertices += [op("+", vertex[k], op("*", bits(float(at[k])), m["d"][k])) for k in range(3)] + vertex[3:]
+        triangles += [4 * q + k for k in (0, 1, 2, 3, 2, 1)]
+        links.append(cell | 5 - face << 29)
+        slots[6 * cell + face] = 4 * q
+    return vertices, triangles, links, slots
+
+
+# ---- records: how many words follow, and these
+
+records = []
+
+
+def add(m):
+    """Adds a call to the records; answers number and place, or 0 and the quads."""
+    number, place = answer(m)
+    lists = mesh(m) if number == 0 else ([], [], [], [])
+    given = m["given"] if "given" in m else m["cubes"]
+    assert m["cubes"] == [given[i % len(given)] for i in range(len(m["cubes"]))]
+    quads = len(lists[2])
+    r = m["dims"] + [int(m["coloured"])] + m["d"] + m["centre"] + [int(m["culling"])]
+    r += [len(x) for x in (m["outer"], m["grid"], m["kinds"], m["covers"], given)] + [len(m["cubes"])] + list(m["lent"])
+    r += [number, place, quads] + [len(x) for x in lists]
+    assert len(r) == 28 and max(m["outer"] + m["grid"] + m["kinds"] + m["covers"] + [0]) < 256
+    r += m["outer"] + m["grid"] + m["kinds"] + m["covers"] + given + sum(lists, [])
+    assert len(r) <= RECORD and len(m["cubes"]) <= REGISTRY and all(n <= most for n, most in zip(m["lent"], LENT))
+    records.append([len(r)] + r)
+    return (number, place) if number else (0, quads)
+
+
+def fit(m, quads, slots=None):
+    """The lent lengths that exactly so many quads fill."""
+    return [4 * floats(m) * quads, 6 * quads, quads, 6 * len(m["grid"]) if slots is None else slots]
+
+
+UNIT = cube(shape())
+JUNK = [NAN, 0xA5A5A5A5, INF] * 64  # floats of other kinds are ignored
+
+
+def call(**more):
+    """Document 01's types with a grid; as much room as it fills, unless said."""
+    m = dict(dims=[len(more.get("grid", [1])), 1, 1], coloured=False, d=[ONE] * 3, centre=[0] * 3, culling=True, outer=[], grid=[1],
+             kinds=[0, 1], covers=[0, 63], cubes=JUNK + UNIT, lent=LENT)
+    m.update(more)
+    if "lent" not in more and answer(m)[0] == 0:
+        m["lent"] = fit(m, len(faces(m)))
+    return m
+
+
+def longer(m, *by):
+    return dict(m, lent=[n + k for n, k in zip(m["lent"], by)])
+
+
+# ---- the meshes worked by hand
+PAIR = call(grid=[1, 1])
+assert add(call()) == (0, 6)
+assert add(PAIR) == (0, 10)
+assert add(call(grid=[1, 1], culling=False)) == (0, 12)
+assert add(call(grid=[1, 1], outer=[0])) == (0, 8)
+assert add(call(dims=[3, 3, 3], grid=[1] * 27)) == (0, 54)
+assert add(call(grid=[1, 0], covers=[63, 63])) == (0, 5)
+for covers, quads in ((2, 10), (1, 11)):
+    assert add(call(dims=[1, 2, 1], grid=[1, 2], kinds=[0, 1, 1], covers=[0, 63, covers], cubes=JUNK + UNIT * 2)) == (0, quads)
+SIXTH = call(dims=[2, 2, 2], grid=[0, 0, 0, 0, 0, 1, 0, 0])
+assert add(SIXTH) == (0, 6) and mesh(SIXTH)[2][0] == 2684354565 and mesh(call())[2][5] == 0 and mesh(call())[3][0] == 0
+
+# ---- room
+assert add(dict(PAIR, lent=fit(PAIR, 9))) == (14, 0) and add(dict(PAIR, lent=fit(PAIR, 10))) == (0, 10)
+for by in ((-1, 0, 0, 0), (0, -1, 0, 0), (0, 0, -1, 0), (-32, 0, 0, 0), (0, -6, 0, 0), (31, -1, 3, 0), (-320, 0, 0, 0), (0, 0, -10, 0)):
+    assert add(longer(PAIR, *by)) == (14, 0)
+assert add(longer(PAIR, 0, 0, 0, -1)) == (9, 0) and add(longer(PAIR, 0, 0, 0, -12)) == (9, 0)
+for by in ((31, 5, 0, 0), (1, 0, 0, 0), (0, 1, 0, 0), (0, 0, 1, 1), (32, 6, 1, 6), (47, 3, 2, 5), (999, 99, 9, 88)):
+    assert add(longer(PAIR, *by)) == (0, 10)
+TINTED = call(grid=[1, 1], coloured=True, cubes=cube(shape(coloured=True, colour=ONE, alpha=bits(0.5))) * 2)
+assert add(TINTED) == (0, 10) and add(longer(TINTED, -1, 0, 0, 0)) == (14, 0) and add(longer(TINTED, 47, 5, 2, 7)) == (0, 10)
+assert add(dict(TINTED, lent=[320, 60, 10, 12])) == (14, 0)  # enough without colour
+for spare in (0, 5):
+    assert add(call(grid=[0, 0, 0], lent=[0, 0, 0, 18 + spare])) == (0, 0)
+assert add(call(lent=[0, 0, 0, 6])) == (14, 0)
+
+# ---- sizes
+for n in (2, 5):
+    for dims in ([n, 1, 1], [1, n, 1], [1, 1, n]):
+        for culling in (True, False):
+            assert add(call(dims=dims, grid=[1] * n, culling=culling)) == (0, 4 * n + 2 if culling else 6 * n)
+FAR = [0] * 1023 + [1]
+for dims in ([1024, 1, 1], [1, 1024, 1], [1, 1, 1024]):
+    assert add(call(dims=dims, grid=FAR, d=f(1.1, 0.3, 7.7))) == (0, 6)
+for dims in ([1025, 1, 1], [1, 1025, 1], [1, 1, 1025]):
+    assert add(call(dims=dims, grid=[1] * 1025)) == (2, 0)
+for dims in ([0, 1, 1], [1, 0, 1], [1, 1, 0], [0, 0, 0]):
+    assert add(call(dims=dims, grid=[])) == (2, 0) and add(call(dims=dims, grid=[1])) == (2, 0)
+# The last of these keeps the limits; it is refused because its list is too short.
+for dims in ([1024, 32, 33], [65536, 65536, 1], [NONE, 1, 1], [NONE] * 3, [1 << 31, 2, 1], [1024, 1024, 2], [1024, 32, 32]):
+    assert add(call(dims=dims, grid=[])) == (2, 0)
+for length in (0, 1, 3):
+    assert add(call(dims=[2, 1, 1], grid=[1] * length)) == (2, 0)
+
+# ---- outer lists
+BOX = dict(dims=[2, 2, 2], grid=[1] * 8)
+assert add(call(**BOX)) == (0, 24) and add(call(outer=[5, 4, 3, 2, 1, 0], **BOX)) == (0, 0)
+for face in range(6):
+    assert add(call(outer=[face], **BOX)) == (0, 20) and add(call(outer=[face] * 3, **BOX)) == (0, 20)
+assert add(call(outer=[0, 3, 0, 0, 3], **BOX)) == (0, 16) and add(call(outer=[2, 1, 0, 3, 4, 5] * 40, **BOX)) == (0, 0)
+assert add(call(outer=[0, 1, 2], culling=False, **BOX)) == (0, 48)
+assert add(call(outer=[6])) == (7, 0) and add(call(outer=[5, 0, 255, 6])) == (7, 2)
+assert add(call(outer=[0, 1, 2, 3, 4, 5, 6])) == (7, 6) and add(call(outer=[1, 1, 8], culling=False)) == (7, 2)
+
+# ---- 255 types, the registry's floats seven cubes over and over
+TILES = [cube(shape(atlas=[8, 8], texture=[w for k in range(6) for w in (k, t, k)])) for t in range(7)]
+GIVEN = sum(TILES, [])
+
+
+def many(count, **more):
+    return call(kinds=[i % 3 for i in range(count)], covers=[63 * (i % 2) for i in range(count)], given=GIVEN,
+                cubes=(GIVEN * 37)[:192 * count], **more)
+
+
+assert (254 % 3, 253 % 3) == (2, 1)
+SWAPPED = many(255, dims=[2, 1, 2], grid=[254, 253, 253, 254])
+SWAPPED["kinds"][254] = 1
+SWAPPED["lent"] = fit(SWAPPED, 20, 30)
+assert add(SWAPPED) == (0, 20) and add(dict(SWAPPED, culling=False)) == (14, 0)
+assert add(dict(SWAPPED, culling=False, lent=fit(SWAPPED, 24))) == (0, 24)
+assert mesh(SWAPPED)[0][6:8] == TILES[254 % 7][6:8] != TILES[253 % 7][6:8]
+assert add(many(255, grid=[254])) == (0, 0) and add(many(255, grid=[253, 254, 252])) == (0, 6)
+assert add(many(255, grid=[254, 255])) == (8, 1) and add(many(254, grid=[253, 254])) == (8, 1)
+assert add(many(256)) == (3, 255)
+LAST = many(255)
+assert add(dict(LAST, kinds=LAST["kinds"][:254] + [3])) == (3, 254) and add(dict(LAST, covers=LAST["covers"][:254] + [64])) == (3, 254)
+
+# ---- refusals, each and each two of them in one call
+BENT = UNIT[:1] + UNIT[:1] + UNIT[2:]  # one corner of Top is elsewhere
+FAULTS = [
+    (2, 0, dict(dims=[3, 1, 1])), (3, 1, dict(covers=[0, 64])), (4, 0, dict(d=[ONE, NAN, ONE])), (6, 1, dict(cubes=UNIT + [0] * 192)),
+    (7, 2, dict(outer=[0, 1, 6])), (8, 1, dict(grid=[1, 2])), (9, 0, dict(slots=11)), (14, 0, dict(links=9))]
+
+
+def faulty(*parts):
+    m = call(grid=[1, 1])
+    lent = list(m["lent"])
+    for part in parts:
+        m.update({k: x for k, x in part.items() if k not in ("slots", "links")})
+        lent[3], lent[2] = part.get("slots", lent[3]), part.get("links", lent[2])
+    return dict(m, lent=lent)
+
+
+for i, (number, place, part) in enumerate(FAULTS):
+    assert add(faulty(part)) == (number, place) and add(dict(faulty(part), culling=False)) == (number, place)
+    for _, _, later in FAULTS[i + 1:]:
+        assert add(faulty(part, later)) == (number, place)
+for more, place in ((dict(kinds=[], covers=[], cubes=[]), 255), (dict(covers=[0]), 255), (dict(cubes=JUNK + UNIT[1:]), 255),
+                    (dict(cubes=JUNK + UNIT + [0]), 255), (dict(coloured=True), 255), (dict(kinds=[3, 1], covers=[0]), 255),
+                    (dict(kinds=[3, 1], covers=[64, 255]), 0), (dict(kinds=[2, 255]), 1)):
+    if more.get("cubes") == []:
+        more["given"] = [0]
+    assert add(call(**more)) == (3, place)
+for k in range(3):
+    for bad in (INF, NEG | INF, NAN, NONE):
+        for name in ("d", "centre"):
+            assert add(call(**{name: [ONE] * k + [bad] + [ONE] * (2 - k)})) == (4, 0)
+for cubes, place in (([0] * 192 + UNIT, 0), (UNIT + BENT, 1), ([INF] + UNIT[1:] + [0] * 192, 0),
+                     (UNIT + UNIT[32:64] + UNIT[:32] + UNIT[64:], 1)):
+    assert add(call(kinds=[1, 1], cubes=cubes)) == (6, place)
+assert add(call(kinds=[2, 0], cubes=[NAN] * 384)) == (0, 0)
+assert add(call(grid=[1, 0, 2, 255, 2])) == (8, 2) and add(call(grid=[255])) == (8, 0)
+
+# ---- positions: rounded after the product and after the sum; past the greatest; d that is not the cubes'
+TENTH = call(grid=[1] * 4, d=[0x3DCCCCCD] * 3, cubes=JUNK + cube(shape(d=[0x3DCCCCCD] * 3)))
+assert add(TENTH) == (0, 18) and 0x3EB33334 in mesh(TENTH)[0] and 0x3EB33333 not in mesh(TENTH)[0]
+VAST = call(grid=[1, 1, 1], d=[MAX] * 3)
+assert add(VAST) == (0, 14) and INF in mesh(VAST)[0]
+assert add(call(dims=[2, 2, 2], grid=[1] * 8, d=[NEG | MAX, NEG, 1])) == (0, 24)
+assert add(call(grid=[1, 1], d=[0] * 3)) == (0, 10)
+
+# ---- grids at random, seven types of four cubes
+rng = random.Random(2)
+
+
+def some(scale):
+    return bits(rng.uniform(0.1, 1) * 2.0 ** rng.randint(-scale, scale))
+
+
+def some_types(coloured):
+    d = [some(4) for _ in range(3)]
+    centre = [some(2) | rng.choice((0, NEG)) for _ in range(3)]
+    given = []
+    for _ in range(4):
+        given += cube(shape(
+            d=d, centre=centre, atlas=[rng.randint(1, 64), rng.randint(1, 64)], padding=some(6), coloured=coloured,
+            texture=[w for _ in range(6) for w in (rng.randint(0, 5), rng.randint(0, 63), rng.randint(0, 63))],
+            colour=rng.getrandbits(32), alpha=rng.getrandbits(32)))
+    kinds = [0, 1, 1, 2, 1, 1, 0]
+    rng.shuffle(kinds)
+    covers = [rng.choice((0, 63, rng.randint(0, 63), rng.randint(0, 63))) for _ in kinds]
+    cubes = (given * 2)[:7 * len(given) // 4]
+    return dict(d=d, centre=centre, given=given, cubes=cubes, kinds=kinds, covers=covers, coloured=coloured)
+
+
+for turn in range(32):
+    dims = [4, 4, 4] if turn in (6, 17) else [rng.choice((1, 1, 2, 2, 3, 4)) for _ in range(3)]
+    m = call(dims=dims, grid=[rng.randint(0, 6) for _ in range(dims[0] * dims[1] * dims[2])],
+             culling=turn % 4 != 3, outer=[rng.randint(0, 5) for _ in range(rng.choice((0, 0, 1, 2, 9)))], **some_types(turn % 3 == 1))
+    number, quads = add(longer(m, *[rng.choice((0, 1, 7, 60)) for _ in range(4)]))
+    assert number == 0
+    if quads and turn % 11 == 0:
+        assert add(dict(m, lent=fit(m, quads - 1))) == (14, 0)
+
+if __name__ == "__main__":
+    data = b"".join(struct.pack("<%dI" % len(r), *r) for r in records)
+    assert len(data) < 1000000
+    with open("crates/mesh_run/stdin", "wb") as out:
+        out.write(data)
+    with open("crates/mesh_run/stdout", "w") as out:
+        out.write("meshes %d right %d wrong 0\n" % (len(records), len(records)))
+    print(len(data), "bytes,", len(records), "records, at most", max(map(len, records)), "words")
