@@ -401,7 +401,8 @@ fn hide_facing(
     let Neighbor::At(next) = get_neighbor(cell, face, scene.dims) else {
         return count;
     };
-    if is_covering(covers, voxel, tested.side(face)) {
+    let side = tested.side(face);
+    if is_covering(covers, voxel, side) {
         return cut_face(
             vertices,
             triangles,
