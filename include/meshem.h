@@ -2,7 +2,8 @@
  * The C interface of Meshem. A slice is a pointer and then a count of elements; the slices and outputs of one call
  * never overlap. Every float is its 32-bit pattern. Each call takes every number, length and content, returns 0 or
  * the number of a refusal, and always writes its outputs, the thin pointers at its end: after success `place` is 0,
- * after a refusal `quads` is 0 and nothing else has changed.
+ * after a refusal the counts are 0 and nothing else has changed, but for an update's MESHEM_NO_ROOM, which keeps the
+ * entries before `place` and tells their counts.
  */
 #ifndef MESHEM_H
 #define MESHEM_H
@@ -63,6 +64,23 @@ uint32_t meshem_mesh_grid(
     uint32_t *links, size_t links_len,
     uint32_t *slots, size_t slots_len,
     uint64_t *place, uint64_t *quads);
+
+/* Mends a mesh in place by a log, and counts its quads and those that moved. */
+uint32_t meshem_update_mesh(
+    uint32_t *vertices, size_t vertices_len,
+    uint32_t *triangles, size_t triangles_len,
+    uint32_t *links, size_t links_len,
+    uint32_t *slots, size_t slots_len,
+    uint64_t count,                                     /* quads before the log */
+    uint32_t width, uint32_t height, uint32_t length,
+    const uint8_t *log, size_t log_len,                 /* 12 bytes an entry */
+    const uint8_t *kinds, size_t kinds_len,
+    const uint8_t *covers, size_t covers_len,           /* side sets */
+    const uint32_t *cubes, size_t cubes_len,            /* the registry's floats */
+    uint32_t coloured,                                  /* 0 no, else yes */
+    uint32_t dx, uint32_t dy, uint32_t dz,
+    uint32_t cx, uint32_t cy, uint32_t cz,
+    uint64_t *place, uint64_t *quads, uint64_t *moved);
 
 /* Says whether the four lists hold the culled mesh of a grid with `count` quads. */
 uint32_t meshem_check_mesh(
