@@ -9,3 +9,4 @@ pub mod Facings
 pub mod Asked
 pub mod Entering
 pub mod Changes
+pub mod Right

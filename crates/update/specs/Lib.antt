@@ -2,3 +2,4 @@ pub mod Flat
 pub mod Courses
 pub mod Holding
 pub mod Facing
+pub mod Repeated
