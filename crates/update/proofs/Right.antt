@@ -6,9 +6,9 @@ use Rattle.rules.specs.Mesh.{Lists}
 use Rattle.rules.specs.Update.{source, gridLog, Honest, Mends}
 use Rattle.rules.specs.Calls.{Scene, Answer, Outcome, world, answered, entriesOf, updateMesh, checkMesh}
 use Rattle.rules.proofs.Demands.{mended-accepted}
-use Rattle.update.specs.declared.Count.{Count}
+use Rattle.mending.specs.declared.Count.{Count}
 use Rattle.update.specs.declared.Updated.the-variants.{Done}
-use Rattle.update.specs.Courses.{outcomeOf}
+use Rattle.update.specs.Outcome.{outcomeOf}
 use Rattle.update.specs.Repeated.{Chunk, afterCall, afterCalls, Passes, AllUnrefused}
 
 -- LAW: if the check accepts a mesh with no outer face named, and update_mesh answers Done for an honest log of demand 3, the check accepts

@@ -1,5 +1,2 @@
-pub mod Flat
-pub mod Courses
-pub mod Holding
-pub mod Facing
+pub mod Outcome
 pub mod Repeated

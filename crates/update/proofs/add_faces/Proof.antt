@@ -11,12 +11,12 @@ use Rattle.rules.specs.Calls.{Scene, world, span}
 use Rattle.rules.proofs.ListLaws.{not-true, not-false}
 use Rattle.mesh_metadata.specs.Log.{entryIn}
 use Rattle.admit.specs.Scenes.{sceneOf, listsOf}
-use Rattle.update.specs.Flat.{State}
-use Rattle.update.specs.Courses.{flatNeeded, going, flowOne}
-use Rattle.update.specs.Holding.{stateOf}
-use Rattle.update.proofs.Facings.{shaped}
-use Rattle.update.proofs.Entering.{entry-ground, flow-on, flow-full, run-work, ready-new}
-use Rattle.update.proofs.Changes.{run-as, ready-as, given-quads, given-sides, Asks, faced, faced-asks, change-ready, idle-flow}
+use Rattle.flat.specs.Flat.{State}
+use Rattle.flat.specs.Courses.{flatNeeded, going, flowOne}
+use Rattle.mending.specs.States.{stateOf}
+use Rattle.flat.proofs.Facings.{shaped}
+use Rattle.flat.proofs.Entering.{entry-ground, flow-on, flow-full, run-work, ready-new}
+use Rattle.flat.proofs.Changes.{run-as, ready-as, given-quads, given-sides, Asks, faced, faced-asks, change-ready, idle-flow}
 use borrow.Author.Needs.{needs}
 use Rattle.update.proofs.add_faces.Statement.{statement}
 use Rattle.update.proofs.add_faces.Tie as tie

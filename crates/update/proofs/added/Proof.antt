@@ -14,13 +14,14 @@ use Rattle.rules.proofs.ListLaws.{not-true, not-false}
 use Rattle.mesh_metadata.specs.Log.{entryIn}
 use Rattle.util.specs.Grid.{sizeOf}
 use Rattle.admit.specs.Scenes.{sceneOf, listsOf}
-use Rattle.update.specs.Facing.{testedBy}
-use Rattle.update.specs.Flat.{State, flatRun}
-use Rattle.update.specs.Courses.{flatNeeded, going, flowOne}
-use Rattle.update.specs.Holding.{stateOf, Ready}
-use Rattle.update.proofs.Facings.{shaped}
-use Rattle.update.proofs.Entering.{entry-ground, flow-on, flow-full, run-work, ready-own, ready-new, ready-facing}
-use Rattle.update.proofs.Changes.{whole-cell, run-as, ready-as, ground-after, given-quads, Asks, added-asks, change-ready, idle-flow, hide-same}
+use Rattle.sides.specs.Tests.{testedBy}
+use Rattle.flat.specs.Flat.{State, flatRun}
+use Rattle.flat.specs.Courses.{flatNeeded, going, flowOne}
+use Rattle.mending.specs.States.{stateOf}
+use Rattle.flat.specs.Holding.{Ready}
+use Rattle.flat.proofs.Facings.{shaped}
+use Rattle.flat.proofs.Entering.{entry-ground, flow-on, flow-full, run-work, ready-own, ready-new, ready-facing}
+use Rattle.flat.proofs.Changes.{whole-cell, run-as, ready-as, ground-after, given-quads, Asks, added-asks, change-ready, idle-flow, hide-same}
 use borrow.Author.Needs.{needs}
 use Rattle.update.proofs.added.Statement.{statement}
 use Rattle.update.proofs.added.Tie as tie

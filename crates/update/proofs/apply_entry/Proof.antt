@@ -5,9 +5,9 @@ use Rattle.rules.specs.Calls.{world, span}
 use Rattle.mesh_metadata.specs.declared.VoxelChange.{VoxelChange}
 use Rattle.mesh_metadata.specs.Log.{changeIn, entryIn}
 use Rattle.admit.specs.Scenes.{sceneOf, listsOf}
-use Rattle.update.specs.Facing.{testedBy}
-use Rattle.update.specs.Courses.{Flow, flowOne}
-use Rattle.update.specs.Holding.{stateOf}
+use Rattle.sides.specs.Tests.{testedBy}
+use Rattle.flat.specs.Courses.{Flow, flowOne}
+use Rattle.mending.specs.States.{stateOf}
 use borrow.Author.Needs.{needs}
 use Rattle.update.proofs.apply_entry.Statement.{statement}
 use Rattle.update.proofs.apply_entry.Tie as tie

@@ -8,11 +8,12 @@ use Rattle.rules.specs.Update.{Broken, Entry, Work, source, ops, cuts, puts, qu
 use Rattle.rules.specs.Calls.{Scene, world, span}
 use Rattle.mesh_metadata.specs.Log.{entryIn}
 use Rattle.admit.specs.Scenes.{sceneOf, listsOf}
-use Rattle.update.specs.Flat.{State, flatRun}
-use Rattle.update.specs.Courses.{flatNeeded, going}
-use Rattle.update.specs.Holding.{stateOf, Ready}
-use Rattle.update.proofs.Entering.{entry-ground, flow-on, flow-full, run-work, ready-own, ready-new}
-use Rattle.update.proofs.Changes.{whole-cell, run-as, ready-as, ground-after, Asks, broken-asks, change-ready}
+use Rattle.flat.specs.Flat.{State, flatRun}
+use Rattle.flat.specs.Courses.{flatNeeded, going}
+use Rattle.mending.specs.States.{stateOf}
+use Rattle.flat.specs.Holding.{Ready}
+use Rattle.flat.proofs.Entering.{entry-ground, flow-on, flow-full, run-work, ready-own, ready-new}
+use Rattle.flat.proofs.Changes.{whole-cell, run-as, ready-as, ground-after, Asks, broken-asks, change-ready}
 use borrow.Author.Needs.{needs}
 use Rattle.update.proofs.broken.Statement.{statement}
 use Rattle.update.proofs.broken.Tie as tie

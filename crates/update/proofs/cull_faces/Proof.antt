@@ -8,11 +8,11 @@ use Rattle.rules.specs.Update.{CullFaces, Entry, Work, source, cuts, withGiven,
 use Rattle.rules.specs.Calls.{Scene, world, span}
 use Rattle.mesh_metadata.specs.Log.{entryIn}
 use Rattle.admit.specs.Scenes.{sceneOf, listsOf}
-use Rattle.update.specs.Flat.{State}
-use Rattle.update.specs.Courses.{going}
-use Rattle.update.specs.Holding.{stateOf}
-use Rattle.update.proofs.Entering.{entry-ground, flow-on, run-work, ready-own}
-use Rattle.update.proofs.Changes.{run-as, ready-as, given-sides, change-ready, cull-fits}
+use Rattle.flat.specs.Flat.{State}
+use Rattle.flat.specs.Courses.{going}
+use Rattle.mending.specs.States.{stateOf}
+use Rattle.flat.proofs.Entering.{entry-ground, flow-on, run-work, ready-own}
+use Rattle.flat.proofs.Changes.{run-as, ready-as, given-sides, change-ready, cull-fits}
 use borrow.Author.Needs.{needs}
 use Rattle.update.proofs.cull_faces.Statement.{statement}
 use Rattle.update.proofs.cull_faces.Tie as tie

@@ -9,10 +9,12 @@ use Rattle.rules.specs.Update.{Work, work, entryAt}
 use Rattle.rules.specs.Calls.{Scene, world, span}
 use Rattle.admit.specs.Scenes.{sceneOf, listsOf}
 use Rattle.update.specs.declared.Ran.{Ran}
-use Rattle.update.specs.Facing.{testedBy}
-use Rattle.update.specs.Courses.{ranOf, flowOne}
-use Rattle.update.specs.Holding.{stateOf, Entering}
-use Rattle.update.proofs.Entering.{Going, log-start, log-entering, log-on, log-stops, log-through}
+use Rattle.sides.specs.Tests.{testedBy}
+use Rattle.update.specs.Outcome.{ranOf}
+use Rattle.flat.specs.Courses.{flowOne}
+use Rattle.mending.specs.States.{stateOf}
+use Rattle.flat.specs.Holding.{Entering}
+use Rattle.flat.proofs.Entering.{Going, log-start, log-entering, log-on, log-stops, log-through}
 use borrow.Author.Needs.{needs}
 use Rattle.update.proofs.run_log.Statement.{statement}
 use Rattle.update.proofs.run_log.Tie as tie

@@ -11,8 +11,8 @@ use Rattle.answers.specs.Verdicts.{verdictOf}
 use Rattle.admit.specs.Scenes.{sceneOf, listsOf}
 use Rattle.admit.proofs.Admitting.{sized}
 use Rattle.update.specs.declared.Ran.{Ran}
-use Rattle.update.specs.Courses.{ranOf}
-use Rattle.update.proofs.Whole.{size-fine, lent-ends, lent-logging, lent-outcome}
+use Rattle.update.specs.Outcome.{ranOf}
+use Rattle.flat.proofs.Whole.{size-fine, lent-ends, lent-logging, lent-outcome}
 use borrow.Author.Needs.{needs}
 use Rattle.update.proofs.update_mesh.Statement.{statement}
 use Rattle.update.proofs.update_mesh.Tie as tie

@@ -1,0 +1,11 @@
+pub mod Held
+pub mod Needed
+pub mod Flows
+pub mod Works
+pub mod Whole
+pub mod Doing
+pub mod Placing
+pub mod Facings
+pub mod Asked
+pub mod Entering
+pub mod Changes

@@ -1,0 +1,4 @@
+pub mod Flat
+pub mod Courses
+pub mod Holding
+pub mod Facing
