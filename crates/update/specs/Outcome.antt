@@ -1,17 +1,9 @@
--- What the log and the call answer, as the rule's flow and outcome. Definitions only.
+-- What the call answers, as the rule's outcome. Definitions only.
 use Rattle.rules.specs.Mesh.{Lists}
 use Rattle.rules.specs.Calls.{Outcome, answered, refused}
 use Rattle.answers.specs.Verdicts.{numberOf}
-use Rattle.flat.specs.Courses.{Flow, going, full}
-use Rattle.mending.specs.States.{stateOf}
 use Rattle.update.specs.declared.Updated.{Updated}
 use Rattle.update.specs.declared.Updated.the-variants.{Done, NoRoom, Refused}
-use Rattle.update.specs.declared.Ran.{Ran}
-use Rattle.update.specs.declared.Ran.the-variants.{Through, Full}
-
-abbrev pub ranOf : Ran → Lists → Flow
-ranOf (Through count) B = going (stateOf B count)
-ranOf (Full i count) B = full i (stateOf B count)
 
 -- what the call answers, with the lists at exit
 abbrev pub outcomeOf : Updated → Lists → Outcome

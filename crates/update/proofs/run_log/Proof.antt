@@ -8,9 +8,9 @@ use Rattle.rules.specs.Update as rules
 use Rattle.rules.specs.Update.{Work, work, entryAt}
 use Rattle.rules.specs.Calls.{Scene, world, span}
 use Rattle.admit.specs.Scenes.{sceneOf, listsOf}
-use Rattle.update.specs.declared.Ran.{Ran}
+use Rattle.changes.specs.declared.Ran.{Ran}
 use Rattle.sides.specs.Tests.{testedBy}
-use Rattle.update.specs.Outcome.{ranOf}
+use Rattle.changes.specs.Ran.{ranOf}
 use Rattle.flat.specs.Courses.{flowOne}
 use Rattle.mending.specs.States.{stateOf}
 use Rattle.flat.specs.Holding.{Entering}

@@ -10,8 +10,8 @@ use Rattle.rules.specs.Calls.{Scene, faces, room, updateVerdict, updateBy, cour
 use Rattle.answers.specs.Verdicts.{verdictOf}
 use Rattle.admit.specs.Scenes.{sceneOf, listsOf}
 use Rattle.admit.proofs.Admitting.{sized}
-use Rattle.update.specs.declared.Ran.{Ran}
-use Rattle.update.specs.Outcome.{ranOf}
+use Rattle.changes.specs.declared.Ran.{Ran}
+use Rattle.changes.specs.Ran.{ranOf}
 use Rattle.flat.proofs.Whole.{size-fine, lent-ends, lent-logging, lent-outcome}
 use borrow.Author.Needs.{needs}
 use Rattle.update.proofs.update_mesh.Statement.{statement}

@@ -1,4 +1,4 @@
--- `update::apply_entry` meets its contract. Assumes nothing.
+-- `changes::apply_entry` meets its contract. Assumes nothing.
 use mathlib.Core.Path.{sym, ap, _∙_}
 use Rattle.rules.specs.Update.{workBy}
 use Rattle.rules.specs.Calls.{world, span}
@@ -9,8 +9,8 @@ use Rattle.sides.specs.Tests.{testedBy}
 use Rattle.flat.specs.Courses.{Flow, flowOne}
 use Rattle.mending.specs.States.{stateOf}
 use borrow.Author.Needs.{needs}
-use Rattle.update.proofs.apply_entry.Statement.{statement}
-use Rattle.update.proofs.apply_entry.Tie as tie
+use Rattle.changes.proofs.apply_entry.Statement.{statement}
+use Rattle.changes.proofs.apply_entry.Tie as tie
 
 -- the entry, as one of a change
 abbrev flow : tie.Start → VoxelChange → Flow

@@ -1,4 +1,4 @@
--- `update::add_faces` meets its contract. Assumes nothing.
+-- `changes::add_faces` meets its contract. Assumes nothing.
 use mathlib.Core.Path.{_≡_, refl, sym, ap, _∙_}
 use mathlib.Core.Bool.{true}
 use Prim.Native.Nat.{_+_, _-_, _*_, _≤_, _<_}
@@ -18,8 +18,8 @@ use Rattle.flat.proofs.Facings.{shaped}
 use Rattle.flat.proofs.Entering.{entry-ground, flow-on, flow-full, run-work, ready-new}
 use Rattle.flat.proofs.Changes.{run-as, ready-as, given-quads, given-sides, Asks, faced, faced-asks, change-ready, idle-flow}
 use borrow.Author.Needs.{needs}
-use Rattle.update.proofs.add_faces.Statement.{statement}
-use Rattle.update.proofs.add_faces.Tie as tie
+use Rattle.changes.proofs.add_faces.Statement.{statement}
+use Rattle.changes.proofs.add_faces.Tie as tie
 
 abbrev scene : tie.Start → Scene
 scene t = let a = t .args in sceneOf (a .scene) (a .kinds .now) (a .covers .now) (a .cubes .now)

@@ -1,11 +1,11 @@
--- `update::words_of` meets its contract. Assumes nothing.
+-- `changes::words_of` meets its contract. Assumes nothing.
 use mathlib.Core.Path.{ap}
 use Prim.Native.Nat.{ℕ, _*_}
 use native.Mathlib.Omega.{arith}
 use Rattle.voxel_mesh.proofs.Shapes.{few}
 use borrow.Author.Needs.{needs}
-use Rattle.update.proofs.words_of.Statement.{statement}
-use Rattle.update.proofs.words_of.Tie as tie
+use Rattle.changes.proofs.words_of.Statement.{statement}
+use Rattle.changes.proofs.words_of.Tie as tie
 
 floats-of-requires : tie.Need-floats-of-requires
 floats-of-requires c κs = search needs

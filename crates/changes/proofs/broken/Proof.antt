@@ -1,4 +1,4 @@
--- `update::broken` meets its contract. Assumes nothing.
+-- `changes::broken` meets its contract. Assumes nothing.
 use mathlib.Core.Path.{_≡_, refl, sym, ap, _∙_, subst}
 use Prim.Native.Nat.{_+_, _-_, _*_, _≤_, _<_}
 use native.Mathlib.Omega.{arith}
@@ -15,8 +15,8 @@ use Rattle.flat.specs.Holding.{Ready}
 use Rattle.flat.proofs.Entering.{entry-ground, flow-on, flow-full, run-work, ready-own, ready-new}
 use Rattle.flat.proofs.Changes.{whole-cell, run-as, ready-as, ground-after, Asks, broken-asks, change-ready}
 use borrow.Author.Needs.{needs}
-use Rattle.update.proofs.broken.Statement.{statement}
-use Rattle.update.proofs.broken.Tie as tie
+use Rattle.changes.proofs.broken.Statement.{statement}
+use Rattle.changes.proofs.broken.Tie as tie
 
 abbrev scene : tie.Start → Scene
 scene t = let a = t .args in sceneOf (a .scene) (a .kinds .now) (a .covers .now) (a .cubes .now)

@@ -1,4 +1,4 @@
--- `update::added` meets its contract. Assumes nothing.
+-- `changes::added` meets its contract. Assumes nothing.
 use mathlib.Core.Path.{_≡_, refl, sym, ap, _∙_, subst}
 use mathlib.Core.Bool.{true}
 use mathlib.Core.List.{[]}
@@ -23,8 +23,8 @@ use Rattle.flat.proofs.Facings.{shaped}
 use Rattle.flat.proofs.Entering.{entry-ground, flow-on, flow-full, run-work, ready-own, ready-new, ready-facing}
 use Rattle.flat.proofs.Changes.{whole-cell, run-as, ready-as, ground-after, given-quads, Asks, added-asks, change-ready, idle-flow, hide-same}
 use borrow.Author.Needs.{needs}
-use Rattle.update.proofs.added.Statement.{statement}
-use Rattle.update.proofs.added.Tie as tie
+use Rattle.changes.proofs.added.Statement.{statement}
+use Rattle.changes.proofs.added.Tie as tie
 
 abbrev scene : tie.Start → Scene
 scene t = let a = t .args in sceneOf (a .scene) (a .kinds .now) (a .covers .now) (a .cubes .now)

@@ -1,4 +1,4 @@
--- `update::cull_faces` meets its contract. Assumes nothing.
+-- `changes::cull_faces` meets its contract. Assumes nothing.
 use mathlib.Core.Path.{refl, sym, ap, _∙_}
 use Prim.Native.Nat.{_+_, _-_, _*_, _≤_, _<_}
 use native.Mathlib.Omega.{arith}
@@ -14,8 +14,8 @@ use Rattle.mending.specs.States.{stateOf}
 use Rattle.flat.proofs.Entering.{entry-ground, flow-on, run-work, ready-own}
 use Rattle.flat.proofs.Changes.{run-as, ready-as, given-sides, change-ready, cull-fits}
 use borrow.Author.Needs.{needs}
-use Rattle.update.proofs.cull_faces.Statement.{statement}
-use Rattle.update.proofs.cull_faces.Tie as tie
+use Rattle.changes.proofs.cull_faces.Statement.{statement}
+use Rattle.changes.proofs.cull_faces.Tie as tie
 
 abbrev scene : tie.Start → Scene
 scene t = let a = t .args in sceneOf (a .scene) (a .kinds .now) (a .covers .now) (a .cubes .now)

@@ -1,0 +1,10 @@
+-- How far a log has gone, as the rule's flow. Definitions only.
+use Rattle.rules.specs.Mesh.{Lists}
+use Rattle.flat.specs.Courses.{Flow, going, full}
+use Rattle.mending.specs.States.{stateOf}
+use Rattle.changes.specs.declared.Ran.{Ran}
+use Rattle.changes.specs.declared.Ran.the-variants.{Through, Full}
+
+abbrev pub ranOf : Ran → Lists → Flow
+ranOf (Through count) B = going (stateOf B count)
+ranOf (Full i count) B = full i (stateOf B count)
