@@ -24,7 +24,7 @@ use Rattle.util.specs.Grid.{sizeOf}
 use Rattle.rules.proofs.Neighbours.{inside-of}
 use Rattle.floats.specs.Triples.{tripleOf}
 use Rattle.voxel_mesh.proofs.Shapes.{row-within}
-use Rattle.voxel_mesh.proofs.Rows.{length-lent, getD-each}
+use Rattle.rules.proofs.Rows.{length-lent, getD-each}
 use Rattle.admit.specs.declared.Scene.{Scene}
 use Rattle.admit.proofs.Books.{within}
 use Rattle.drawing.specs.Rooms.{Drawable}

@@ -18,7 +18,7 @@ use Rattle.rules.proofs.ListLaws.{table-is, length-table, length-each}
 use Rattle.face.specs.declared.Face.{Face}
 use Rattle.face.specs.Face.{number}
 use Rattle.face.proofs.Laws.{number-below}
-use Rattle.voxel_mesh.proofs.Rows.{written}
+use Rattle.rules.proofs.Rows.{written}
 use Rattle.vav.specs.Rows.{put}
 use Rattle.vav.proofs.Laws.{length-part, part-at}
 use Rattle.drawing.specs.Quads.{vertexWord, vertexWords}

@@ -11,7 +11,7 @@ use Rattle.rules.specs.Update as rule
 use Rattle.rules.specs.Calls.{Scene, world, span}
 use Rattle.rules.proofs.Neighbours.{inside-of}
 use Rattle.util.specs.Grid.{Within}
-use Rattle.voxel_mesh.proofs.Rows.{length-lent}
+use Rattle.rules.proofs.Rows.{length-lent}
 use Rattle.voxel_mesh.proofs.Shapes.{few}
 use Rattle.drawing.specs.Drawn.{drawnAt}
 use Rattle.drawing.specs.Quads.{quadOf}

@@ -1,5 +1,6 @@
 -- The laws, leaves first.
 pub mod ListLaws
+pub mod Rows
 pub mod Searches
 pub mod Sets
 pub mod Neighbours

@@ -26,6 +26,10 @@ part at n xs = take n (drop at xs)
 abbrev pub row : ℕ → List ℕ → ℕ → List ℕ
 row s xs q = part (s * q) s xs
 
+-- the first n words are v 0, v 1, .., and the rest is as it was
+abbrev pub filled : ℕ → (ℕ → ℕ) → List ℕ → List ℕ
+filled n v xs = table n v ++ drop n xs
+
 -- p holds of each number below n
 unfoldable pub every : ℕ → (ℕ → Bool) → Bool
 every zero p = true

@@ -21,7 +21,8 @@ use Rattle.floats.proofs.Numbers.{Finite, tells, bits-finite, finite-bits}
 use Rattle.voxel_mesh.specs.Tests.{Placed}
 use Rattle.voxel_mesh.specs.Fresh.{sideAt, around, surrounds}
 use Rattle.rules.proofs.Searches.{every-of}
-use Rattle.voxel_mesh.proofs.Rows.{length-table, getD-each, getD-table}
+use Rattle.rules.proofs.ListLaws.{length-table, getD-table}
+use Rattle.rules.proofs.Rows.{getD-each}
 use Rattle.voxel_mesh.proofs.Shapes.{few, finite-along, placed}
 use Rattle.voxel_mesh.proofs.Compared.{same, of-test, eq-self, eq-turned, differ}
 
@@ -192,9 +193,9 @@ module _ (q : Shape) (C : T (finite3 (q .centre))) where
   word-is i axis I A =
       let below : axis < n = omega (arith, few (q .coloured)) in
       rw (
-        getD-each n (λ v. table n (cubeWord q v)) (λ v. length-table n (cubeWord q v)) 24 0 i axis I below,
+        getD-each n (λ v. table n (cubeWord q v)) (λ v. length-table (cubeWord q v) n) 24 0 i axis I below,
         zero-add i,
-        getD-table n (cubeWord q i) axis below,
+        getD-table (cubeWord q i) n axis 0 below,
         lt-ltb axis 3 A,
       )
       (corner-is (isHigh i axis) q axis)

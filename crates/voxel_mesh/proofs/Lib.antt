@@ -1,4 +1,3 @@
-pub mod Rows
 pub mod Shapes
 pub mod Compared
 pub mod FreshCubes

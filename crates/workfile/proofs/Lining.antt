@@ -15,7 +15,7 @@ use Rattle.rules.specs.Calls.{Answer, answered, refused}
 use Rattle.rules.specs.Program.{QUADS, MOVED, REFUSED, AT, decimal, quadLines, meshLines, refusedLine}
 use Rattle.rules.proofs.ListLaws.{All}
 use Rattle.workfile.specs.Written.{Wrote, Room, facesOf, quadLine, quadOf, quadsOf}
-use Rattle.workfile.proofs.Filling.{each-more}
+use Rattle.rules.proofs.Rows.{each-more}
 use Rattle.workfile.proofs.Writing.{Three, wrote-none, wrote-then, wrote-as, room-as, room-first, room-next}
 use Rattle.workfile.proofs.Decimals.{length-digits, length-decimal}
 

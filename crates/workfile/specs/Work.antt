@@ -50,7 +50,3 @@ workIn file = record {
 -- a count in 33 bits: above what any file can hold, no difference is made
 unfoldable pub capped : ℕ → ℕ
 capped n = cond (ltb n 4294967296) n 4294967296
-
--- xs with its first n numbers those of v
-abbrev pub filled : ℕ → (ℕ → ℕ) → List ℕ → List ℕ
-filled n v xs = table n v ++ drop n xs

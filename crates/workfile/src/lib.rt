@@ -4,12 +4,12 @@ use util::Dimensions;
 ghost use mathlib.Core.Path.{_≡_};
 ghost use Prim.Native.Nat.{ℕ, _+_, _*_, _≤_, _<_};
 ghost use lib.ListN.{length};
-ghost use Rattle.rules.specs.Lists.{table};
+ghost use Rattle.rules.specs.Lists.{table, filled};
 ghost use Rattle.rules.specs.Cells.{cells};
 ghost use Rattle.rules.specs.Update.{u32At};
 ghost use Rattle.rules.specs.Program.{word, typeCount, sizeIn, adjoining, badFile, typeByte, shapeIn, gridIn, logIn};
 ghost use Rattle.util.specs.Grid.{sizeOf};
-ghost use Rattle.workfile.specs.Work.{tripleAt, dimsIn, Good, workIn, capped, filled};
+ghost use Rattle.workfile.specs.Work.{tripleAt, dimsIn, Good, workIn, capped};
 
 pub mod lines; // lines.rt: the answer's lines
 

@@ -10,7 +10,7 @@ use Rattle.rules.proofs.ListLaws.{length-table}
 use Rattle.face.specs.Face.{number}
 use Rattle.util.specs.Grid as grid
 use Rattle.floats.specs.Triples.{tripleOf}
-use Rattle.voxel_mesh.proofs.Rows.{written, written-none, written-more, length-written, length-lent}
+use Rattle.rules.proofs.Rows.{written, written-none, written-more, length-written, length-lent}
 use Rattle.drawing.specs.Quads.{vertexWords}
 use Rattle.drawing.proofs.Writing.{corner-below, quad-vertex, quad-whole}
 use Rattle.drawing.proofs.write_quad.Statement.{statement}

@@ -7,7 +7,8 @@ use lib.ListN.{length}
 use Rattle.rules.specs.Lists.{table}
 use Rattle.rules.specs.Cube.{cubeWord, cubeWords}
 use Rattle.voxel_mesh.specs.Outcome.{shapeOf}
-use Rattle.voxel_mesh.proofs.Rows.{written, written-none, written-more, length-written, length-table, length-lent}
+use Rattle.rules.proofs.Rows.{written, written-none, written-more, length-written, length-lent}
+use Rattle.rules.proofs.ListLaws.{length-table}
 use Rattle.voxel_mesh.proofs.Shapes.{few}
 use borrow.Author.Needs.{needs}
 use native.Mathlib.Omega.{arith}
@@ -29,7 +30,7 @@ kept : (c : tie.At-loop Inv-loop μ-loop) → length (c .loop .out) ≡ length (
 kept c =
     let floats = c .before .floats-of .result in
     ap length (c .loop .inv .1)
-    ∙ length-written floats _ (λ v. length-table floats _) (c .loop .vertex) _ (omega (
+    ∙ length-written floats _ (λ v. length-table _ floats) (c .loop .vertex) _ (omega (
       arith,
       room c,
       mul-le-mul-right floats (c .loop .inv .0),
@@ -88,7 +89,7 @@ loop-again c =
     let word : ℕ → ℕ → ℕ = cubeWord (shapeOf (args .shape) (now (args .texture))) in
     let lent = length-lent (l .vertex * floats) floats (l .out) (row (c .before .before .before .before) .0) in (
       omega arith,
-      written-more floats (λ v. table floats (word v)) (λ v. length-table floats (word v)) (l .vertex) (now (args .out))
+      written-more floats (λ v. table floats (word v)) (λ v. length-table (word v) floats) (l .vertex) (now (args .out))
           (l .out) _ (l .inv .1)
           (c .before .before .write-vertex .ensures ∙ ap (λ (n : ℕ). table n (word (l .vertex))) lent),
     )

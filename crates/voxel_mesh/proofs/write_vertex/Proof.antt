@@ -1,25 +1,26 @@
 -- `voxel_mesh::write_vertex` meets its contract: after k turns the first k words are the vertex's. Assumes nothing.
-use mathlib.Core.Path.{_≡_, ap, _∙_}
+use mathlib.Core.Path.{_≡_, refl, ap, _∙_}
 use mathlib.Core.List.{List}
 use Prim.Native.Nat.{ℕ, _≤_, _-_}
 use denote.Ref.{now}
 use lib.ListN.{length, set}
 use Rattle.rules.specs.Cube.{cubeWord}
 use Rattle.voxel_mesh.specs.Outcome.{shapeOf}
-use Rattle.voxel_mesh.proofs.Rows.{filled, filled-none, filled-more, length-filled, filled-whole}
+use Rattle.rules.specs.Lists.{filled}
+use Rattle.rules.proofs.Rows.{filled-none, filled-more, length-filled, filled-whole}
 use borrow.Author.Needs.{needs}
 use native.Mathlib.Omega.{arith}
 use Rattle.voxel_mesh.proofs.write_vertex.Statement.{statement}
 use Rattle.voxel_mesh.proofs.write_vertex.Tie as tie
 
 abbrev Inv-loop : tie.InvT-loop
-Inv-loop shape texture vertex out₀ k₀ out k = (k ≤ length out₀) × (out ≡ filled (cubeWord (shapeOf shape texture) vertex) k out₀)
+Inv-loop shape texture vertex out₀ k₀ out k = (k ≤ length out₀) × (out ≡ filled k (cubeWord (shapeOf shape texture) vertex) out₀)
 
 abbrev μ-loop : tie.MeasureT-loop
 μ-loop shape texture vertex out₀ k₀ out k = length out₀ - k
 
 kept : (c : tie.At-loop Inv-loop μ-loop) → length (c .loop .out) ≡ length (now (c .before .before .before .args .out))
-kept c = ap length (c .loop .inv .1) ∙ length-filled _ (c .loop .k) _ (c .loop .inv .0)
+kept c = length-filled _ (c .loop .k) _ _ (c .loop .inv .0) (c .loop .inv .1)
 
 loop-holds : tie.Need-loop-holds Inv-loop μ-loop
 loop-holds c = (omega arith, filled-none _ _)
@@ -45,9 +46,8 @@ loop-again c =
     let a = c .before .before .before .before .before .args in
     let w : ℕ → ℕ = cubeWord (shapeOf (a .shape) (now (a .texture))) (a .vertex) in (
       omega (arith, kept (c .before .before)),
-      ap (λ (o : List ℕ). set o (l .k) (c .cube-word .result)) (l .inv .1)
-          ∙ ap (λ (x : ℕ). set (filled w (l .k) (now (a .out))) (l .k) x) (c .cube-word .ensures)
-          ∙ filled-more w (l .k) (now (a .out)) (omega (arith, kept (c .before .before))),
+      ap (set (l .out) (l .k)) (c .cube-word .ensures)
+          ∙ filled-more w (l .k) (now (a .out)) (l .out) (omega (arith, kept (c .before .before))) (l .inv .1),
     )
 
 same-length : tie.Need-same-length Inv-loop μ-loop
@@ -57,7 +57,7 @@ returns : tie.Need-returns Inv-loop μ-loop
 returns c =
     let out = now (c .before .before .before .before .args .out) in
     let e : c .before .loop .k ≡ length out = omega (arith, kept (c .before)) in
-    (rw e at (c .before .loop .inv .1)) ∙ filled-whole _ out
+    (rw e at (c .before .loop .inv .1)) ∙ filled-whole _ (length out) out refl
 
 pub write-vertex-spec : {M : Type 1} → statement M
 write-vertex-spec =

@@ -5,9 +5,9 @@ use denote.Ref.{now}
 use native.Mathlib.Omega.{arith}
 use lib.ListN.{length, set}
 use Rattle.rules.specs.Update.{u32At}
-use Rattle.workfile.specs.Work.{filled}
+use Rattle.rules.specs.Lists.{filled}
 use Rattle.workfile.proofs.Files.{type-inside}
-use Rattle.workfile.proofs.Filling.{filled-none, filled-more, length-filled, filled-whole}
+use Rattle.rules.proofs.Rows.{filled-none, filled-more, length-filled, filled-whole}
 use Rattle.workfile.proofs.texture_of.Statement.{statement}
 use Rattle.workfile.proofs.texture_of.Tie as tie
 

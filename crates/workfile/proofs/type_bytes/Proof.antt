@@ -7,9 +7,9 @@ use lib.ListN.{length}
 use borrow.Author.Needs.{needs}
 use native.Mathlib.Nat.{le-trans, lt-of-lt-of-le}
 use Rattle.rules.specs.Program.{typeCount, typeByte}
-use Rattle.workfile.specs.Work.{filled}
+use Rattle.rules.specs.Lists.{filled}
 use Rattle.workfile.proofs.Files.{types-are, type-inside}
-use Rattle.workfile.proofs.Filling.{filled-none, filled-more, length-filled}
+use Rattle.rules.proofs.Rows.{filled-none, filled-more, length-filled}
 use Rattle.workfile.proofs.type_bytes.Statement.{statement}
 use Rattle.workfile.proofs.type_bytes.Tie as tie
 

@@ -5,7 +5,7 @@ use Prim.Native.Nat.{_+_, _-_, _*_}
 use denote.Ref.{now}
 use Rattle.rules.specs.Lists.{row, same}
 use Rattle.rules.specs.Mesh.{pattern}
-use Rattle.voxel_mesh.proofs.Rows.{length-lent}
+use Rattle.rules.proofs.Rows.{length-lent}
 use Rattle.rules.proofs.Searches.{Searched, searched, found, passed, ended}
 use borrow.Author.Needs.{needs}
 use native.Mathlib.Omega.{arith}

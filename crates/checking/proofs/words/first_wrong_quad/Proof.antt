@@ -15,7 +15,7 @@ use Rattle.face.specs.Face.{number}
 use Rattle.util.specs.Grid.{sizeOf, tripleOf}
 use Rattle.floats.specs.Triples as floats
 use Rattle.voxel_mesh.proofs.Shapes.{few, row-within}
-use Rattle.voxel_mesh.proofs.Rows.{length-lent}
+use Rattle.rules.proofs.Rows.{length-lent}
 use Rattle.admit.proofs.Books.{within}
 use Rattle.checking.specs.Quads.{quadAt, otherQuad, cubeAt, Comparable}
 use Rattle.rules.proofs.Searches.{Searched, searched, found, passed, ended}

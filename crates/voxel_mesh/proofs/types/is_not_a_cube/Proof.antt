@@ -8,7 +8,7 @@ use borrow.Author.Tests.{eq-eqb, ne-eqb}
 use Rattle.rules.specs.Types.{isCube}
 use Rattle.rules.specs.Answers.{notACube}
 use Rattle.floats.specs.Triples.{tripleOf}
-use Rattle.voxel_mesh.proofs.Rows.{length-lent}
+use Rattle.rules.proofs.Rows.{length-lent}
 use Rattle.voxel_mesh.proofs.Shapes.{few, row-within}
 use borrow.Author.Needs.{needs}
 use native.Mathlib.Omega.{arith}

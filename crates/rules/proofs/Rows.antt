@@ -2,12 +2,14 @@
 use mathlib.Core.Path.{_≡_, refl, sym, ap, _∙_}
 use mathlib.Core.List.{List, [], _∷_, _++_, append-nil, append-assoc}
 use Prim.Native.Nat.{ℕ, zero, suc, _+_, _-_, _*_, _≤_, _<_}
-use native.Mathlib.Nat.{add-zero, zero-add, suc-mul, zero-mul, mul-suc, mul-one}
+use native.Mathlib.Nat.{add-zero, zero-add, suc-mul, zero-mul, mul-suc}
 use native.Mathlib.Numerals.{add-one}
 use native.Mathlib.Omega.{arith}
 use lib.ListN.{length, getD, set, take, drop, length-append, length-drop, List·getD-append}
 use lib.Seq.{length-take-le, drop-cons, drop-drop, set-at, take-at, drop-append-add, getD-append-add, drop-length}
-use Rattle.rules.specs.Lists.{each, table}
+use Rattle.rules.specs.Lists.{each, table, filled}
+use Rattle.rules.proofs.ListLaws.{length-table}
+use Rattle.rules.proofs.ListLaws as list
 
 -- a part from a to a + n
 pub length-lent : (a n : ℕ) (xs : List ℕ) → a + n ≤ length xs → length (take (a + n - a) (drop a xs)) ≡ n
@@ -31,14 +33,6 @@ abbrev pub written : ℕ → (ℕ → List ℕ) → ℕ → List ℕ → List �
 written w p n xs = each n 0 p ++ drop (n * w) xs
 
 module _ (w : ℕ) (p : ℕ → List ℕ) (wide : (k : ℕ) → length (p k) ≡ w) where
-  pub length-each : (n i : ℕ) → length (each n i p) ≡ n * w
-  unfolding each
-  length-each zero i = sym (zero-mul w)
-  length-each (suc n) i = length-append (p i) (each n (suc i) p) ∙ rw (wide i, length-each n (suc i), suc-mul n w) (swap w (n * w))
-    where
-      swap : (a b : ℕ) → a + b ≡ b + a
-      swap a b = omega arith
-
   pub getD-each : (n i j k : ℕ) → j < n → k < w → getD (each n i p) (w * j + k) 0 ≡ getD (p (i + j)) k 0
   unfolding each
   getD-each zero i j k J K = absurd (none j J)
@@ -59,14 +53,14 @@ module _ (w : ℕ) (p : ℕ → List ℕ) (wide : (k : ℕ) → length (p k) ≡
   written-none xs = rw zero-mul
 
   pub length-written : (n : ℕ) (xs : List ℕ) → n * w ≤ length xs → length (written w p n xs) ≡ length xs
-  length-written n xs h = simp (length-append, length-each, length-drop) (omega arith)
+  length-written n xs h = simp (length-append, list.length-each w n 0 p wide, length-drop) (omega arith)
 
   -- row n was lent, and came back as it should be
   pub written-more : (n : ℕ) (xs out ys : List ℕ) → out ≡ written w p n xs → ys ≡ p n
       → take (n * w) out ++ (ys ++ drop (n * w + w - n * w) (drop (n * w) out)) ≡ written w p (n + 1) xs
   written-more n xs out ys o e =
       let a : n * w + w - n * w ≡ w = omega arith in
-      let l = length-each n 0 in
+      let l = list.length-each w n 0 p wide in
       rw (
         o,
         e,
@@ -81,28 +75,17 @@ module _ (w : ℕ) (p : ℕ → List ℕ) (wide : (k : ℕ) → length (p k) ≡
 
 -- ---- word by word
 
-pub length-table : (n : ℕ) (v : ℕ → ℕ) → length (table n v) ≡ n
-length-table n v = length-each 1 (λ k. v k ∷ []) (λ k. refl) n 0 ∙ mul-one n
-
-pub getD-table : (n : ℕ) (v : ℕ → ℕ) (k : ℕ) → k < n → getD (table n v) k 0 ≡ v k
-getD-table n v k h =
-    let e : 1 * k + 0 ≡ k = omega arith in rw (e, zero-add k) at (getD-each 1 (λ j. v j ∷ []) (λ j. refl) n 0 k 0 h (omega arith))
-
-abbrev pub filled : (ℕ → ℕ) → ℕ → List ℕ → List ℕ
-filled v n xs = table n v ++ drop n xs
-
-pub filled-none : (v : ℕ → ℕ) (xs : List ℕ) → xs ≡ filled v 0 xs
+pub filled-none : (v : ℕ → ℕ) (xs : List ℕ) → xs ≡ filled 0 v xs
 unfolding each
 filled-none v xs = refl
 
-pub filled-more : (v : ℕ → ℕ) (n : ℕ) (xs : List ℕ) → n < length xs → set (filled v n xs) n (v n) ≡ filled v (n + 1) xs
-filled-more v n xs h =
-    rw (add-one, drop-cons xs n 0, each-more n 0 (λ k. v k ∷ []), zero-add n)
-    (set-at (table n v) (getD xs n 0) (drop (suc n) xs) (v n) n (length-table n v)
-    ∙ sym (append-assoc (table n v) (v n ∷ []) (drop (suc n) xs)))
+pub filled-more : (v : ℕ → ℕ) (n : ℕ) (xs out : List ℕ) → n < length xs → out ≡ filled n v xs → set out n (v n) ≡ filled (n + 1) v xs
+filled-more v n xs out h e =
+    rw (e, add-one, drop-cons xs n 0, each-more n 0 (λ k. v k ∷ []), zero-add n)
+    (set-at (table n v) (getD xs n 0) (drop (suc n) xs) (v n) n (length-table v n) ∙ sym (append-assoc (table n v) (v n ∷ []) (drop (suc n) xs)))
 
-pub length-filled : (v : ℕ → ℕ) (n : ℕ) (xs : List ℕ) → n ≤ length xs → length (filled v n xs) ≡ length xs
-length-filled v n xs h = simp (length-append, length-table, length-drop) (omega arith)
+pub length-filled : (v : ℕ → ℕ) (n : ℕ) (xs out : List ℕ) → n ≤ length xs → out ≡ filled n v xs → length out ≡ length xs
+length-filled v n xs out h e = ap length e ∙ simp (length-append, length-table, length-drop) (omega arith)
 
-pub filled-whole : (v : ℕ → ℕ) (xs : List ℕ) → filled v (length xs) xs ≡ table (length xs) v
-filled-whole v xs = rw (drop-length, append-nil)
+pub filled-whole : (v : ℕ → ℕ) (n : ℕ) (xs : List ℕ) → length xs ≡ n → filled n v xs ≡ table n v
+filled-whole v n xs e = rw (← e, drop-length, append-nil)
