@@ -20,8 +20,10 @@ use Rattle.rules.proofs.Checking.{then-fine, if-fine, lowest-fine}
 use Rattle.rules.proofs.Demands.{Room, room-for}
 use Rattle.util.specs.Grid.{Within}
 use Rattle.util.proofs.Limits.{within}
-use Rattle.voxel_mesh.proofs.Shapes.{few, counted}
-use Rattle.admit.specs.Scenes.{Lent, Typed, Admitted, inputVerdict}
+use Rattle.voxel_mesh.proofs.Shapes.{few}
+use Rattle.types.proofs.Known.{counted}
+use Rattle.books.specs.Lent.{Lent}
+use Rattle.admit.specs.Scenes.{Typed, Admitted, inputVerdict}
 
 pub sized : (S : Scene) → BAD-SIZE (S .size) ≡ fine → Within (S .size)
 sized S e = within (S .size) (if-fine _ 2 0 e)

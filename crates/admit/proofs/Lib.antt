@@ -1,4 +1,1 @@
-pub mod Chains
-pub mod Books
 pub mod Admitting
-pub mod Sides

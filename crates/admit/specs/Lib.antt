@@ -1,2 +1,1 @@
 pub mod Scenes
-pub mod Culling

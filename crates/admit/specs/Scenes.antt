@@ -1,20 +1,20 @@
 -- What is lent to a call, as the rules see it, and what an accepted one is known to be. Definitions only.
-use Prim.Native.Nat.{ℕ, _*_, _^_, _≤_, _<_}
+use Prim.Native.Nat.{ℕ, _*_, _≤_, _<_}
 use mathlib.Core.Path.{_≡_}
-use mathlib.Core.Bool.{Bool, true, false}
-use mathlib.Core.List.{List, []}
+use mathlib.Core.Bool.{true}
+use mathlib.Core.List.{List}
 use lib.ListN.{length, getD}
 use lib.Dec.{T}
 use Rattle.rules.specs.Cells.{cells}
 use Rattle.rules.specs.Floats.{finite3}
 use Rattle.rules.specs.Types.{floats, cubeOf, isCube}
 use Rattle.rules.specs.Mesh.{Lists}
-use Rattle.rules.specs.Answers.{Verdict, fine, refuse, _then_, BAD-SIZE, BAD-GRID, BAD-OUTER, BAD-CELL, SHORT-SLOTS}
+use Rattle.rules.specs.Answers.{Verdict, _then_, BAD-SIZE, BAD-GRID, BAD-OUTER, BAD-CELL, SHORT-SLOTS}
 use Rattle.rules.specs.Calls as rules
 use Rattle.rules.specs.Calls.{typesVerdict}
 use Rattle.util.specs.Grid.{sizeOf, Within}
 use Rattle.floats.specs.Triples.{tripleOf}
-use Rattle.voxel_mesh.specs.Tests.{typesOf, Counted}
+use Rattle.types.specs.Tests.{typesOf, Counted}
 use Rattle.admit.specs.declared.Scene.{Scene}
 
 abbrev pub sceneOf : Scene → List ℕ → List ℕ → List ℕ → rules.Scene
@@ -25,35 +25,17 @@ sceneOf s kinds covers cubes = record {
   centre = tripleOf (s .centre);
 }
 
-abbrev pub listsOf : List ℕ → List ℕ → List ℕ → List ℕ → Lists
-listsOf vertices triangles links slots = record { vertices = vertices; triangles = triangles; links = links; slots = slots }
-
-abbrev pub refuses : Verdict → Bool
-refuses fine = false
-refuses (refuse n p) = true
-
 -- the lists of which the room is made have these lengths
 pub record Long (B : Lists) (v t l : ℕ) : Type 0 where
   pub vertices : length (B .vertices) ≡ v
   pub triangles : length (B .triangles) ≡ t
   pub links : length (B .links) ≡ l
 
--- links and slots alone
-abbrev pub bookOf : List ℕ → List ℕ → Lists
-bookOf links slots = listsOf [] [] links slots
-
 -- 2, 3, 4, 6 to 9: what mesh and check ask before the mesh is looked at
 abbrev pub inputVerdict : rules.Scene → List ℕ → List ℕ → Lists → Verdict
 inputVerdict S outer g B =
     BAD-SIZE (S .size) then BAD-GRID (S .size) g then typesVerdict S then BAD-OUTER outer then BAD-CELL (S .types) g
     then SHORT-SLOTS (S .size) B
-
--- a lent mesh with its six slots a cell and room for its quads
-pub record Lent (cells : ℕ) (links slots : List ℕ) (count : ℕ) : Type 0 where
-  pub few : cells ≤ 1048576
-  pub slotted : 6 * cells ≤ length slots
-  pub linked : count ≤ length links
-  pub fits : 4 * count < 2 ^ 64
 
 -- what accepted types, d and centre are known to be
 pub record Typed (S : rules.Scene) : Type 0 where

@@ -1,11 +1,14 @@
 // The tests of lent input that mesh, update and check share, each with its refusal.
 use answers::Refusal;
 use answers::Verdict;
-use book::book_verdict;
+use answers::is_refusal;
+use answers::refuse_if;
+use books::book_verdict;
 use floats::Triple;
+use types::types_verdict;
 use util::Dimensions;
+use util::wide;
 use voxel_mesh::floats_of;
-use voxel_mesh::types::types_verdict;
 ghost use mathlib.Core.Path.{_≡_};
 ghost use mathlib.Core.List.{List};
 ghost use Prim.Native.Nat.{ℕ, _*_, _<_, min};
@@ -14,15 +17,12 @@ ghost use lib.Dec.{leb, ltb};
 ghost use Rattle.rules.specs.Lists.{lowest};
 ghost use Rattle.rules.specs.Cube.{floatsOf};
 ghost use Rattle.rules.specs.Types.{Types};
-ghost use Rattle.rules.specs.Mesh.{Lists};
+ghost use Rattle.rules.specs.Mesh.{Lists, listsOf};
 ghost use Rattle.rules.specs.Answers.{refuseIf, BAD-SIZE, BAD-GRID, BAD-OUTER, BAD-CELL, SHORT-SLOTS, roomOf, BAD-COUNT};
 ghost use Rattle.rules.specs.Calls.{lentVerdict, openVerdict};
-ghost use Rattle.answers.specs.Verdicts.{numberOf, verdictOf};
+ghost use Rattle.answers.specs.Verdicts.{numberOf, verdictOf, refuses};
 ghost use Rattle.util.specs.Grid.{sizeOf, Within};
-ghost use Rattle.admit.specs.Scenes.{sceneOf, listsOf, refuses, Long, inputVerdict};
-
-pub mod book; // book.rt: the tests of links, slots and triangles
-pub mod culling; // culling.rt: the sides that culling draws
+ghost use Rattle.admit.specs.Scenes.{sceneOf, Long, inputVerdict};
 
 // What mesh, update and check are told of the grid and the types.
 pub struct Scene {
@@ -30,25 +30,6 @@ pub struct Scene {
     pub coloured: bool,
     pub d: Triple,
     pub centre: Triple,
-}
-
-// A refusal with its place, if it applies.
-pub fn refuse_if(applies: bool, why: Refusal, place: usize) -> Verdict
-    ensures { λ r. ⌜ verdictOf r ≡ refuseIf applies (numberOf why) place ⌝ }
-{
-    if applies {
-        return Verdict::Refuse(why, place);
-    }
-    Verdict::Fine
-}
-
-pub fn is_refusal(verdict: Verdict) -> bool
-    ensures { λ r. ⌜ r ≡ refuses (verdictOf verdict) ⌝ }
-{
-    match verdict {
-        Verdict::Fine => false,
-        Verdict::Refuse(_, _) => true,
-    }
 }
 
 pub fn size_verdict(dims: Dimensions) -> Verdict
@@ -101,12 +82,6 @@ fn lowest_bad_cell(types: usize, grid: &[u8]) -> usize
         cell += 1;
     }
     cell
-}
-
-pub fn wide(code: u8) -> usize
-    ensures { λ r. ⌜ r ≡ code ⌝ }
-{
-    code as usize
 }
 
 pub fn cell_verdict(types: usize, grid: &[u8]) -> Verdict

@@ -1,5 +1,6 @@
 -- 01's number for each refusal, and the rules' verdict for each verdict. Definitions only.
 use Prim.Native.Nat.{ℕ}
+use mathlib.Core.Bool.{Bool, true, false}
 use Rattle.rules.specs.Answers as rules
 use Rattle.answers.specs.declared.Refusal.{Refusal}
 use Rattle.answers.specs.declared.Refusal.the-variants.{BadFile, BadSize, BadTypes, BadNumber, BadAtlas, NotACube, BadFace, BadCell, ShortRoom, BadCount, BadLinks, BadTriangles, BadEntry, NoRoom, WrongSet, WrongVertex}
@@ -27,3 +28,7 @@ numberOf WrongVertex = 16
 abbrev pub verdictOf : Verdict → rules.Verdict
 verdictOf Fine = rules.fine
 verdictOf (Refuse why place) = rules.refuse (numberOf why) place
+
+abbrev pub refuses : rules.Verdict → Bool
+refuses rules.fine = false
+refuses (rules.refuse n p) = true

@@ -1,6 +1,7 @@
 // The refusals by their names, and a verdict: nothing to refuse, or one refusal with its place.
 ghost use mathlib.Core.Path.{_≡_};
-ghost use Rattle.answers.specs.Verdicts.{numberOf};
+ghost use Rattle.rules.specs.Answers.{refuseIf};
+ghost use Rattle.answers.specs.Verdicts.{numberOf, verdictOf, refuses};
 
 pub enum Refusal {
     BadFile,
@@ -48,5 +49,24 @@ impl Refusal {
             Refusal::WrongSet => 15,
             Refusal::WrongVertex => 16,
         }
+    }
+}
+
+// A refusal with its place, if it applies.
+pub fn refuse_if(applies: bool, why: Refusal, place: usize) -> Verdict
+    ensures { λ r. ⌜ verdictOf r ≡ refuseIf applies (numberOf why) place ⌝ }
+{
+    if applies {
+        return Verdict::Refuse(why, place);
+    }
+    Verdict::Fine
+}
+
+pub fn is_refusal(verdict: Verdict) -> bool
+    ensures { λ r. ⌜ r ≡ refuses (verdictOf verdict) ⌝ }
+{
+    match verdict {
+        Verdict::Fine => false,
+        Verdict::Refuse(_, _) => true,
     }
 }

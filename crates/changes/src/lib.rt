@@ -1,13 +1,13 @@
 // The four changes, each on the mesh in its four lists, and none where the room is too short.
 use admit::Scene;
+use entries::Entry;
+use entries::VoxelChange;
 use face::quads_of;
 use mending::Count;
 use mending::add_quads_facing;
 use mending::add_voxel_after_gen;
 use mending::remove_quads_facing;
 use mending::remove_voxel;
-use mesh_metadata::Entry;
-use mesh_metadata::VoxelChange;
 use sides::Tested;
 use sides::bare_sides;
 use sides::given_sides;
@@ -22,8 +22,9 @@ ghost use Rattle.rules.specs.Cells.{quadsOf};
 ghost use Rattle.rules.specs.Update.{source, Broken, Added, CullFaces, AddFaces, workBy, work};
 ghost use Rattle.rules.specs.Cube.{floatsOf};
 ghost use Rattle.rules.specs.Calls.{world, span};
-ghost use Rattle.mesh_metadata.specs.Log.{entryIn};
-ghost use Rattle.admit.specs.Scenes.{sceneOf, listsOf};
+ghost use Rattle.entries.specs.Log.{entryIn};
+ghost use Rattle.admit.specs.Scenes.{sceneOf};
+ghost use Rattle.rules.specs.Mesh.{listsOf};
 ghost use Rattle.flat.specs.Courses.{flowOne};
 ghost use Rattle.changes.specs.Ran.{ranOf};
 ghost use Rattle.mending.specs.States.{stateOf};

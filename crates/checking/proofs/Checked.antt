@@ -19,13 +19,15 @@ use Rattle.rules.specs.Calls.{world, span, room, openVerdict, bookVerdict}
 use Rattle.rules.proofs.ListLaws.{and-true}
 use Rattle.rules.proofs.Checking.{then-fine, fine-if, lowest-fine, Book, book-of-fine, there-of}
 use Rattle.rules.proofs.Demands.{Room}
-use Rattle.voxel_mesh.specs.Tests.{Placed}
-use Rattle.voxel_mesh.proofs.Shapes.{row-within, placed}
+use Rattle.types.specs.Tests.{Placed}
+use Rattle.voxel_mesh.proofs.Shapes.{row-within}
+use Rattle.types.proofs.Known.{placed}
 use Rattle.admit.specs.declared.Scene.{Scene}
-use Rattle.admit.specs.Scenes.{sceneOf, Lent, Admitted, inputVerdict}
-use Rattle.admit.specs.Culling.{worldOf}
-use Rattle.admit.proofs.Chains.{then-assoc}
-use Rattle.admit.proofs.Books.{within}
+use Rattle.admit.specs.Scenes.{sceneOf, Admitted, inputVerdict}
+use Rattle.books.specs.Lent.{Lent}
+use Rattle.culling.specs.Culling.{worldOf}
+use Rattle.answers.proofs.Chains.{then-assoc}
+use Rattle.books.proofs.Books.{within}
 use Rattle.admit.proofs.Admitting.{admitted, lent}
 use Rattle.checking.specs.Faces.{wrongSlot, Gridded}
 use Rattle.checking.specs.Quads.{otherQuad, Comparable}

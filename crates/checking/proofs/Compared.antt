@@ -1,16 +1,16 @@
 -- WRONG_VERTEX, word by word. Assumes nothing.
 use mathlib.Core.Path.{_≡_, sym, ap, _∙_}
-use mathlib.Core.Bool.{Bool, true, false, cond}
+use mathlib.Core.Bool.{true, false}
 use mathlib.Core.List.{List}
-use Prim.Native.Nat.{ℕ, zero, suc, _+_, _-_, _*_, _≤_, _<_}
+use Prim.Native.Nat.{ℕ, _+_, _-_, _*_, _≤_, _<_}
 use native.Mathlib.Nat.{zero-add, mul-suc}
 use native.Mathlib.Numerals.{add-one}
 use native.Mathlib.Omega.{arith}
-use lib.Dec.{T, eqb}
+use lib.Dec.{T}
 use lib.ListN.{length, getD, take, drop}
 use lib.Seq.{ext-getD}
 use Rattle.rules.specs.Lists.{table, part, row, same}
-use Rattle.rules.specs.Cells.{Triple, along, coordinates, code, codeIn, cellIn}
+use Rattle.rules.specs.Cells.{Triple, coordinates, code, codeIn, cellIn}
 use Rattle.rules.specs.Floats.{finite3}
 use Rattle.rules.specs.Types.{quadWord, quadWords}
 use Rattle.rules.specs.Mesh.{typeAt}
@@ -26,8 +26,8 @@ use Rattle.floats.specs.Triples.{tripleOf}
 use Rattle.voxel_mesh.proofs.Shapes.{row-within}
 use Rattle.rules.proofs.Rows.{length-lent, getD-each}
 use Rattle.admit.specs.declared.Scene.{Scene}
-use Rattle.admit.proofs.Books.{within}
-use Rattle.drawing.specs.Rooms.{Drawable}
+use Rattle.books.proofs.Books.{within}
+use Rattle.quads.specs.Quads.{Drawable}
 use Rattle.checking.specs.Quads.{Comparable, cubeAt, quadAt}
 
 -- ---- faces, corners and coordinates

@@ -15,10 +15,10 @@ use Rattle.rules.specs.Answers.{slotAt, wrongFace}
 use Rattle.rules.proofs.ListLaws.{both-ways, lowest-good, lowest-bad}
 use Rattle.rules.proofs.Searches.{Searched, passed, found}
 use Rattle.rules.proofs.Checking.{Book, filled-named, there-of, place-of}
-use Rattle.admit.specs.Culling.{worldOf}
-use Rattle.admit.proofs.Books.{within}
+use Rattle.culling.specs.Culling.{worldOf}
+use Rattle.books.proofs.Books.{within}
 use Rattle.rules.proofs.Sets.{has-setOf}
-use Rattle.admit.proofs.Sides.{setOf-cong, drawn-by}
+use Rattle.culling.proofs.Sides.{setOf-cong, drawn-by}
 use Rattle.checking.specs.Faces.{isFilled, unlike, wrongSlot}
 
 -- ---- searches

@@ -10,7 +10,7 @@ use Rattle.rules.specs.Types.{quadWords}
 use Rattle.rules.specs.Mesh.{typeAt}
 use Rattle.util.specs.Grid.{sizeOf, Within}
 use Rattle.floats.specs.Triples.{tripleOf}
-use Rattle.voxel_mesh.specs.Tests.{Placed}
+use Rattle.types.specs.Tests.{Placed}
 use Rattle.admit.specs.declared.Scene.{Scene}
 
 -- the stretch of the type that stands in a cell, n words a vertex

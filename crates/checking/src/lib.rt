@@ -1,15 +1,15 @@
 // The check of a mesh: whether it shows what culling shows, every word right, index and quads naming each other.
 use admit::Scene;
-use admit::book::NONE;
-use admit::book::book_verdict;
-use admit::culling::drawn_set;
-use admit::culling::outer_set;
-use admit::is_refusal;
 use admit::open_verdict;
-use admit::refuse_if;
 use answers::Refusal;
 use answers::Verdict;
+use answers::is_refusal;
+use answers::refuse_if;
+use books::book_verdict;
+use culling::drawn_set;
+use culling::outer_set;
 use face::Cell;
+use face::NONE;
 use util::Dimensions;
 use words::first_wrong_quad;
 ghost use mathlib.Core.Path.{_≡_};
@@ -22,8 +22,9 @@ ghost use Rattle.rules.specs.Cells.{cells, has};
 ghost use Rattle.rules.specs.Calls.{checkVerdict};
 ghost use Rattle.answers.specs.Verdicts.{verdictOf};
 ghost use Rattle.util.specs.Grid.{sizeOf};
-ghost use Rattle.admit.specs.Scenes.{sceneOf, listsOf};
-ghost use Rattle.admit.specs.Culling.{worldOf, outerSet};
+ghost use Rattle.admit.specs.Scenes.{sceneOf};
+ghost use Rattle.rules.specs.Mesh.{listsOf};
+ghost use Rattle.culling.specs.Culling.{worldOf, outerSet};
 ghost use Rattle.checking.specs.Faces.{filledSet, unlike, wrongSlot, Gridded};
 
 pub mod words; // words.rt: the words of the quads, compared

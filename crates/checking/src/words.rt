@@ -1,14 +1,14 @@
 // The words of the quads, compared as bits with those of the registry.
 use admit::Scene;
-use admit::wide;
-use drawing::quad_word;
 use face::Face;
 use face::FoundFace;
 use face::cell_of;
 use face::face_of;
 use floats::Triple;
+use quads::quad_word;
 use util::Coordinates;
 use util::three_d_cords;
+use util::wide;
 use voxel_mesh::floats_of;
 ghost use mathlib.Core.Path.{_≡_};
 ghost use mathlib.Core.Bool.{not};
@@ -24,7 +24,7 @@ ghost use Rattle.face.specs.Face.{number};
 ghost use Rattle.util.specs.Grid as grid;
 ghost use Rattle.util.specs.Grid.{sizeOf};
 ghost use Rattle.floats.specs.Triples.{tripleOf};
-ghost use Rattle.drawing.specs.Rooms.{Drawable};
+ghost use Rattle.quads.specs.Quads.{Drawable};
 ghost use Rattle.checking.specs.Quads.{otherQuad, Comparable};
 
 // Whether word k of the i-th vertex of a quad differs from the registry's.

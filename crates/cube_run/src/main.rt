@@ -1,6 +1,7 @@
 // Runs the vectors that tools/cube_vectors.py wrote: cubes, the types' tests and moved positions, each held to its expected words.
 use answers::Verdict;
 use floats::Triple;
+use types::types_verdict;
 use vectors::Count;
 use vectors::empty;
 use vectors::holds;
@@ -10,7 +11,6 @@ use vectors::say;
 use vectors::size;
 use voxel_mesh::Cubed;
 use voxel_mesh::Shape;
-use voxel_mesh::types::types_verdict;
 ghost use mathlib.Core.Path.{_≡_};
 ghost use Prim.Native.Nat.{_+_, _*_, _≤_};
 ghost use lib.ListN.{length};

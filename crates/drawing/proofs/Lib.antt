@@ -1,3 +1,2 @@
-pub mod Writing
 pub mod Turns
 pub mod Laid

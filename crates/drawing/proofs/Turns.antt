@@ -9,15 +9,11 @@ use native.Mathlib.Omega.{arith}
 use lib.ListN.{length, length-set}
 use Rattle.rules.specs.Lists.{count}
 use Rattle.rules.specs.Cells.{Triple, has, rank, quadsOf, keyOf, linkOf, firstVertex}
-use Rattle.rules.specs.Mesh.{Quad, Lists, NONE, pattern}
+use Rattle.rules.specs.Mesh.{Quad, Lists, NONE, pattern, listsOf}
 use Rattle.rules.proofs.ListLaws.{split}
-use Rattle.face.specs.declared.Face.{Face}
-use Rattle.face.specs.declared.FoundFace.the-variants as Found
-use Rattle.face.specs.Face.{number, faceAt}
-use Rattle.face.proofs.Laws.{faceAt-below}
 use Rattle.vav.proofs.Laws.{length-put}
 use Rattle.drawing.specs.Drawn.{drawnAt, bareAt, faceDrawn, facesDrawn}
-use Rattle.drawing.specs.Rooms.{listsOf, Room, Slotted, Ready}
+use Rattle.drawing.specs.Rooms.{Room, Slotted, Ready}
 
 pub same-lists : {a b c d e f g h : List ℕ} → a ≡ e → b ≡ f → c ≡ g → d ≡ h → listsOf a b c d ≡ listsOf e f g h
 same-lists p q r s = λ i. listsOf (p i) (q i) (r i) (s i)
@@ -41,19 +37,6 @@ count-more p k (suc n) = rw add-suc (omega (arith, count-more p k n))
 count-next : (p : ℕ → Bool) (k : ℕ) → p k ≡ true → count (suc k) p ≡ count k p + 1
 unfolding count
 count-next p k e = ap (λ (b : Bool). count k p + cond b 1 0) e
-
--- the face of a number
-pub face-number : (n : ℕ) (face : Face) → n < 6 → faceAt n ≡ Found.Face face → number face ≡ n
-face-number n face h e =
-    let t = faceAt-below n h in
-    let same : t .0 ≡ face = (let d : Found.Face (t .0) ≡ Found.Face face = sym (t .1) ∙ e in cc) in
-    ap number (sym same) ∙ t .2
-
-pub face-nothing : (n : ℕ) → n < 6 → faceAt n ≡ Found.Nothing → ⊥
-face-nothing n h e =
-    let t = faceAt-below n h in
-    let d : Found.Face (t .0) ≡ Found.Nothing = sym (t .1) ∙ e in
-    let z : _≡_ {A = ℕ} 0 1 = cc in omega arith
 
 -- a face of the set is one of its quads
 pub rank-below : (set f : ℕ) → has set f ≡ true → f < 6 → rank set f + 1 ≤ quadsOf set

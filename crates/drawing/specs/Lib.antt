@@ -1,3 +1,2 @@
 pub mod Drawn
-pub mod Quads
 pub mod Rooms

@@ -1,24 +1,10 @@
--- What drawing asks for: a cube with its place, and room in the four lists. Definitions only.
+-- What drawing asks for: room in the four lists, and what a cell's six faces ask. Definitions only.
 use Prim.Native.Nat.{ℕ, _+_, _*_, _≤_, _<_}
 use mathlib.Core.List.{List}
 use lib.ListN.{length}
-use lib.Dec.{T}
 use Rattle.rules.specs.Cells.{Triple, UNIT, quadsOf}
-use Rattle.rules.specs.Floats.{finite3}
 use Rattle.rules.specs.Mesh.{Lists, NONE}
-use Rattle.voxel_mesh.specs.Tests.{Words, Placed}
-
-abbrev pub listsOf : List ℕ → List ℕ → List ℕ → List ℕ → Lists
-listsOf vertices triangles links slots = record { vertices = vertices; triangles = triangles; links = links; slots = slots }
-
--- a cube of finite positions, which d and the coordinates `a` move
-pub record Drawable (cube : List ℕ) (floats : ℕ) (a d : Triple) : Type 0 where
-  pub words : Words cube floats
-  pub placed : Placed cube floats
-  pub finite : T (finite3 d)
-  pub x : a .x ≤ 1024
-  pub y : a .y ≤ 1024
-  pub z : a .z ≤ 1024
+use Rattle.quads.specs.Quads.{Drawable}
 
 -- room for n quads of s words, whose vertices' numbers stay below NONE
 pub record Room (s n : ℕ) (B : Lists) : Type 0 where

@@ -21,8 +21,8 @@ ghost use Rattle.answers.specs.Verdicts as answers;
 ghost use Rattle.voxel_mesh.specs.Outcome as cube;
 ghost use Rattle.meshem.specs.Outcome.{answerOf, isCulling};
 ghost use Rattle.update.specs.Outcome as update;
-ghost use Rattle.admit.specs.Scenes.{sceneOf, listsOf};
-ghost use Rattle.rules.specs.Mesh.{Lists};
+ghost use Rattle.admit.specs.Scenes.{sceneOf};
+ghost use Rattle.rules.specs.Mesh.{listsOf, Lists};
 ghost use Rattle.exports.specs.Answers.{isYes, answer, toldOf, mendedOf, shapeFrom, sceneFrom, cubeOut, outcome};
 
 // An answer's number, place and count.

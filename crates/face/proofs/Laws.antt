@@ -1,5 +1,5 @@
 -- Laws of faces and link words. Assumes nothing.
-use mathlib.Core.Path.{_≡_, refl, ap, _∙_}
+use mathlib.Core.Path.{_≡_, refl, ap, _∙_, sym}
 use mathlib.Core.Bool.{Bool, true, false, cond}
 use Prim.Native.Nat.{ℕ, zero, suc, _-_, _*_, _/_, _%_, _^_, _≤_, _<_}
 use native.Mathlib.Omega.{arith}
@@ -104,3 +104,16 @@ pub opposite-opposite : (f : ℕ) → opposite (opposite f) ≡ f
 opposite-opposite zero = refl
 opposite-opposite (suc zero) = refl
 opposite-opposite (suc (suc f)) = ap (λ (n : ℕ). suc (suc n)) (opposite-opposite f)
+
+-- the face of a number
+pub face-number : (n : ℕ) (face : Face) → n < 6 → faceAt n ≡ Found.Face face → number face ≡ n
+face-number n face h e =
+    let t = faceAt-below n h in
+    let same : t .0 ≡ face = (let d : Found.Face (t .0) ≡ Found.Face face = sym (t .1) ∙ e in cc) in
+    ap number (sym same) ∙ t .2
+
+pub face-nothing : (n : ℕ) → n < 6 → faceAt n ≡ Found.Nothing → ⊥
+face-nothing n h e =
+    let t = faceAt-below n h in
+    let d : Found.Face (t .0) ≡ Found.Nothing = sym (t .1) ∙ e in
+    let z : _≡_ {A = ℕ} 0 1 = cc in omega arith

@@ -1,9 +1,11 @@
 // Cells, quads and vertices, the six faces, the link word of a cell and a face, and side sets.
 ghost use mathlib.Core.Path.{_≡_};
 ghost use Prim.Native.Nat.{_*_, _/_, _^_, _≤_, _<_};
-ghost use Rattle.rules.specs.Cells.{UNIT, opposite, code, linkWord, cellIn, codeIn, keyOf, keyIn};
-ghost use Rattle.rules.specs.Cells.{firstVertex, has, quadsOf, rank};
+ghost use Rattle.rules.specs.Cells.{UNIT, opposite, code, linkWord, cellIn, codeIn, keyOf, keyIn, firstVertex, has, quadsOf, rank};
 ghost use Rattle.face.specs.Face.{number, faceAt, faceOfCode, faceOfWord};
+
+// The slot of a face with no quad; zero is vertex 0.
+pub const NONE: u32 = 4_294_967_295;
 
 pub struct Cell(pub u32);
 
@@ -124,6 +126,16 @@ impl Face {
             Face::Back => Face::Forward,
             Face::Forward => Face::Back,
         }
+    }
+}
+
+pub fn face_at(n: u32) -> Face
+    requires { ⌜ n < 6 ⌝ }
+    ensures { λ r. ⌜ number r ≡ n ⌝ }
+{
+    match Face::from_number(n) {
+        FoundFace::Face(face) => face,
+        FoundFace::Nothing => Face::Forward,
     }
 }
 

@@ -9,7 +9,7 @@ use borrow.Author.Tests.{le-leb}
 use Rattle.rules.specs.Lists.{each, count}
 use Rattle.rules.specs.Cells.{Size, has, setOf, quadsOf, keyOf, neighbour}
 use Rattle.rules.specs.Mesh.{World, isNormalCube}
-use Rattle.rules.specs.Update.{Change, Broken, Added, CullFaces, AddFaces, Entry, Work, Tested, source, ops, Op, sides, quads, all, givenAt, withGiven, isOpen, hide, nothing, added, workBy, work}
+use Rattle.rules.specs.Update.{Change, Broken, Added, CullFaces, AddFaces, Entry, Work, Tested, source, ops, Op, sides, quads, all, givenAt, withGiven, isOpen, hide, nothing, added, workBy}
 use Rattle.rules.specs.Calls.{Scene, world, span, faces}
 use Rattle.rules.proofs.Sets.{setOf-lt, has-setOf}
 use Rattle.drawing.proofs.Laid.{each-same}

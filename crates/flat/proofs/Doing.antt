@@ -15,7 +15,7 @@ use Rattle.rules.specs.Answers.{slotAt}
 use Rattle.rules.proofs.ListLaws.{All}
 use Rattle.rules.proofs.Quads.{moved-le}
 use Rattle.rules.proofs.Laying.{length-vertices, length-triangles, length-links, length-slots}
-use Rattle.admit.proofs.Books.{within}
+use Rattle.books.proofs.Books.{within}
 use Rattle.mesh_metadata.specs.Index.{Linked}
 use Rattle.mesh_metadata.proofs.Layouts as layouts
 use Rattle.drawing.specs.Rooms.{Room}

@@ -8,7 +8,7 @@ use lib.Dec.{leb}
 use lib.ListN.{length}
 use borrow.Author.Tests.{le-leb, lt-leb, leb-true}
 use Rattle.rules.specs.Mesh.{Quad}
-use Rattle.rules.specs.Update.{Op, put, cut, cuts, puts, Work, Tested, Entry, ops, work, entryAt, needed, highest, run, moves, nothing}
+use Rattle.rules.specs.Update.{Op, put, cut, cuts, puts, Work, Tested, Entry, ops, work, entryAt, needed, highest, run, moves}
 use Rattle.rules.specs.Calls.{Scene, world, span, faces}
 use Rattle.rules.proofs.ListLaws.{split}
 use Rattle.rules.proofs.Courses.{sane-step, highest-needed, few-own, few-facing, entry-moves}

@@ -23,9 +23,10 @@ use Rattle.rules.proofs.ListLaws.{split, and-true}
 use Rattle.mesh_metadata.proofs.Slots.{order}
 use Rattle.rules.proofs.Neighbours.{beside}
 use Rattle.util.specs.Grid.{Within}
-use Rattle.voxel_mesh.proofs.Shapes.{placed, row-within}
-use Rattle.mesh_metadata.specs.Log.{neighbourOf}
-use Rattle.mesh_metadata.specs.declared.Neighbour.the-variants.{Outside, Voxel}
+use Rattle.types.proofs.Known.{placed}
+use Rattle.voxel_mesh.proofs.Shapes.{row-within}
+use Rattle.entries.specs.Log.{neighbourOf}
+use Rattle.entries.specs.declared.Neighbour.the-variants.{Outside, Voxel}
 use Rattle.admit.specs.declared.Scene as admit
 use Rattle.admit.specs.Scenes.{sceneOf, Typed}
 use Rattle.flat.specs.Facing.{Facing, facingBy, openBy}

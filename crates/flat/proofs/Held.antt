@@ -10,7 +10,7 @@ use borrow.Author.Tests.{ne-eqb}
 use Rattle.rules.specs.Lists.{table}
 use Rattle.rules.specs.Cells.{linkOf, firstVertex}
 use Rattle.rules.specs.Mesh.{Quad, Lists, NONE, there, placeOf, pattern, slotOf, slotted, layout}
-use Rattle.rules.specs.Update.{draw, removeAt, remove, movedBy, moved, Op, put, cut, step, run, movedIn, moves, highest, cuts, ops}
+use Rattle.rules.specs.Update.{draw, removeAt, remove, movedBy, moved, Op, put, cut, step, run, movedIn, moves, highest, ops}
 use Rattle.rules.specs.Answers.{slotAt}
 use Rattle.rules.proofs.ListLaws.{All, all-append, split}
 use Rattle.rules.proofs.Quads.{placed, length-removeAt, run-once}

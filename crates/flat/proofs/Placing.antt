@@ -14,8 +14,7 @@ use Rattle.util.specs.Grid.{Within}
 use Rattle.rules.proofs.Rows.{length-lent}
 use Rattle.voxel_mesh.proofs.Shapes.{few}
 use Rattle.drawing.specs.Drawn.{drawnAt}
-use Rattle.drawing.specs.Quads.{quadOf}
-use Rattle.drawing.specs.Rooms.{Drawable}
+use Rattle.quads.specs.Quads.{quadOf, Drawable}
 use Rattle.flat.specs.Holding.{Ground, Shaped}
 
 -- coordinates stay below the sizes

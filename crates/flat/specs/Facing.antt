@@ -7,7 +7,7 @@ use lib.ListN.{getD}
 use lib.Dec.{eqb}
 use Rattle.rules.specs.Cells.{has, opposite, keyOf}
 use Rattle.rules.specs.Update.{Entry, givenAt, outside}
-use Rattle.admit.specs.Scenes.{bookOf}
+use Rattle.rules.specs.Mesh.{bookOf}
 use Rattle.flat.specs.Courses.{isFilled}
 
 -- a neighbour whose facing side is drawn

@@ -16,7 +16,7 @@ use Rattle.rules.proofs.Courses.{Sane}
 use Rattle.mesh_metadata.specs.Index.{Linked}
 use Rattle.drawing.proofs.Laid.{Rooms}
 use Rattle.util.specs.Grid.{Within}
-use Rattle.voxel_mesh.specs.Tests.{Placed}
+use Rattle.types.specs.Tests.{Placed}
 use Rattle.admit.specs.Scenes.{Typed}
 use Rattle.flat.specs.Flat.{State}
 

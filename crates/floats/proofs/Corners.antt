@@ -12,8 +12,7 @@ use Rattle.rules.specs.Floats as rules
 use Rattle.rules.specs.Floats.{f32, one, two}
 use Rattle.rules.specs.Cube.{highOf, lowOf, unitOf, padOf, startOf, endOf}
 use Rattle.floats.proofs.Numbers.{Number, number, bits-finite, number-add, number-sub, sub-number, mul-number}
-use Rattle.floats.proofs.Sizes.{Within, is-within, finite, largest, bits-within, over, div-within, mul-within, add-within}
-use Rattle.floats.proofs.Sizes.{whole-within}
+use Rattle.floats.proofs.Sizes.{Within, is-within, finite, largest, bits-within, over, div-within, mul-within, add-within, whole-within}
 
 -- ---- numerals
 

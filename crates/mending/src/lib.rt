@@ -1,13 +1,13 @@
 // The quads of a mesh in its four lists: drawn and removed face by face, and by sets of sides.
 use admit::Scene;
 use drawing::draw_quad;
-use drawing::face_at;
+use entries::Entry;
 use face::Cell;
 use face::Face;
+use face::NONE;
+use face::face_at;
 use face::has;
 use face::key;
-use mesh_metadata::Entry;
-use mesh_metadata::NONE;
 use mesh_metadata::renumber;
 use sides::Tested;
 use sides::Uncovered;
@@ -30,9 +30,10 @@ ghost use Rattle.rules.specs.Update.{put, puts, cut, cuts, sides, quads, quadOf
 ghost use Rattle.rules.specs.Calls.{world, span};
 ghost use Rattle.face.specs.Face.{number};
 ghost use Rattle.util.specs.Grid.{sizeOf, Within};
-ghost use Rattle.mesh_metadata.specs.Log.{entryIn};
+ghost use Rattle.entries.specs.Log.{entryIn};
 ghost use Rattle.drawing.specs.Rooms.{Room};
-ghost use Rattle.admit.specs.Scenes.{sceneOf, listsOf, Typed};
+ghost use Rattle.admit.specs.Scenes.{sceneOf, Typed};
+ghost use Rattle.rules.specs.Mesh.{listsOf};
 ghost use Rattle.flat.specs.Flat.{putAt, cutAt, flatPut, flatCut, flatRun};
 ghost use Rattle.mending.specs.States.{stateOf};
 ghost use Rattle.flat.specs.Holding.{Ready, Removable, Ground, Shaped};

@@ -1,4 +1,3 @@
 pub mod Slots
-pub mod Entries
 pub mod Meshes
 pub mod Layouts

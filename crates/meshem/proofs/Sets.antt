@@ -4,7 +4,7 @@ use mathlib.Core.Logic.{_≢_}
 use mathlib.Core.Bool.{Bool, true, false, cond}
 use mathlib.Core.List.{List}
 use mathlib.Core.Option.{Option, none, some}
-use Prim.Native.Nat.{ℕ, zero, suc, _+_, _-_, _*_, _≤_, _<_}
+use Prim.Native.Nat.{ℕ, zero, suc, _+_, _-_, _≤_, _<_}
 use native.Mathlib.Omega.{arith}
 use lib.ListN.{length}
 use borrow.Author.Tests.{eq-eqb, ne-eqb}
@@ -17,8 +17,8 @@ use Rattle.rules.proofs.Sets.{has-setOf, set-is, setOf-lt}
 use Rattle.rules.proofs.Demands.{words-sized}
 use Rattle.drawing.specs.Drawn.{facesDrawn, cellsDrawn, asked}
 use Rattle.drawing.proofs.Laid.{Rooms, each-same, cellQuads, asked-is, drawn-is-layout}
-use Rattle.admit.specs.Culling.{outerSet}
-use Rattle.admit.proofs.Sides.{setOf-cong}
+use Rattle.culling.specs.Culling.{outerSet}
+use Rattle.culling.proofs.Sides.{setOf-cong}
 use Rattle.meshem.specs.Fresh.{sideDrawn, setAt, facesOf}
 
 -- ---- the outer list by its set

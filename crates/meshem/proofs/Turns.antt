@@ -1,38 +1,33 @@
 -- A cell's quads have their cube and their room, and the cells are drawn one after the other. Assumes nothing.
-use mathlib.Core.Path.{_≡_, refl, sym, ap, _∙_, subst}
-use mathlib.Core.Bool.{Bool, true, false, cond, not, _&&_}
+use mathlib.Core.Path.{_≡_, refl, sym, ap, subst}
+use mathlib.Core.Bool.{Bool, true, false}
 use mathlib.Core.List.{List}
-use Prim.Native.Nat.{ℕ, zero, suc, _+_, _-_, _*_, _≤_, _<_}
-use native.Mathlib.Nat.{mul-le-mul, mul-le-mul-left}
+use Prim.Native.Nat.{ℕ, suc, _+_, _-_, _*_, _≤_, _<_}
 use native.Mathlib.Omega.{arith}
-use lib.Dec.{T, eqb, ltb}
 use lib.ListN.{length, getD}
-use borrow.Author.Tests.{eqb-true, eq-eqb, ltb-true}
-use Rattle.rules.specs.Lists.{each, part, count}
-use Rattle.rules.specs.Cells.{Size, Triple, cells, coordinates, has, setOf, quadsOf}
-use Rattle.rules.specs.Floats.{finite3}
-use Rattle.rules.specs.Types.{floats, cubeOf, isCube}
-use Rattle.rules.specs.Cube.{floatsOf}
-use Rattle.rules.specs.Mesh.{Quad, World, Lists, NONE, typeAt, isNormalCube, drawn, shown, quadAt}
-use Rattle.rules.specs.Calls.{Scene, world, span, faces, room}
+use borrow.Author.Tests.{eqb-true, eq-eqb}
+use Rattle.rules.specs.Lists.{count}
+use Rattle.rules.specs.Cells.{Triple, cells, coordinates, quadsOf}
+use Rattle.rules.specs.Types.{floats, cubeOf}
+use Rattle.rules.specs.Mesh.{World, Lists, typeAt, isNormalCube, drawn, quadAt}
+use Rattle.rules.specs.Calls.{Scene, world, span, room}
 use Rattle.rules.specs.Answers.{notACube, roomOf}
 use Rattle.rules.proofs.ListLaws.{split}
 use Rattle.rules.proofs.Neighbours.{inside-of}
 use Rattle.rules.proofs.Demands.{room-for, words-sized}
-use Rattle.util.specs.Grid.{Within}
-use Rattle.voxel_mesh.specs.Tests.{Words, Placed}
-use Rattle.voxel_mesh.proofs.Shapes.{few, row-within, cube-placed}
+use Rattle.voxel_mesh.proofs.Shapes.{few, row-within}
+use Rattle.types.proofs.Known.{cube-placed}
 use Rattle.admit.specs.Scenes.{Typed}
-use Rattle.admit.specs.Culling.{worldOf}
-use Rattle.admit.proofs.Books.{within}
-use Rattle.admit.proofs.Sides.{setOf-cong, drawn-by}
+use Rattle.culling.specs.Culling.{worldOf}
+use Rattle.books.proofs.Books.{within}
+use Rattle.culling.proofs.Sides.{setOf-cong, drawn-by}
 use Rattle.vav.proofs.Laws.{length-part}
 use Rattle.drawing.specs.Drawn.{facesDrawn, cellsDrawn, asked}
-use Rattle.drawing.specs.Quads.{quadOf}
-use Rattle.drawing.specs.Rooms.{Drawable, Room, Slotted, Ready}
+use Rattle.quads.specs.Quads.{quadOf, Drawable}
+use Rattle.drawing.specs.Rooms.{Ready}
 use Rattle.drawing.proofs.Turns.{Kept, kept-none, kept-then, kept-faces}
-use Rattle.meshem.specs.Fresh.{sideDrawn, setAt, facesOf, Whole, Roomy, Meshable}
-use Rattle.meshem.proofs.Sets.{set-below, quads-le, asked-more, asked-none}
+use Rattle.meshem.specs.Fresh.{setAt, facesOf, Whole, Roomy, Meshable}
+use Rattle.meshem.proofs.Sets.{set-below, quads-le, asked-more}
 
 -- the sets ask nothing of the words of quads
 pub set-world : (S : Scene) (culling : Bool) (outer g : List ℕ) (c : ℕ)

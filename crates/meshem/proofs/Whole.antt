@@ -1,20 +1,20 @@
 -- The whole outcome of a call, case by case. Assumes nothing.
-use mathlib.Core.Path.{_≡_, refl, sym, ap, _∙_}
-use mathlib.Core.Bool.{Bool, true, false}
+use mathlib.Core.Path.{_≡_, _∙_}
+use mathlib.Core.Bool.{Bool}
 use mathlib.Core.List.{List}
-use Prim.Native.Nat.{ℕ, _*_, _≤_, _<_}
+use Prim.Native.Nat.{ℕ, _≤_, _<_}
 use native.Mathlib.Omega.{arith}
 use lib.ListN.{length}
 use borrow.Author.Tests.{lt-ltb, le-ltb}
 use Rattle.rules.specs.Types.{floats}
 use Rattle.rules.specs.Cells.{cells}
 use Rattle.rules.specs.Mesh.{Lists, layout, quadAt}
-use Rattle.rules.specs.Answers.{Verdict, fine, refuse, _then_, refuseIf, NO-ROOM}
-use Rattle.rules.specs.Calls.{Answer, answered, refused, Scene, world, span, faces, room, Outcome, freshMesh, meshVerdict, meshGrid}
+use Rattle.rules.specs.Answers.{fine, refuse, _then_, refuseIf, NO-ROOM}
+use Rattle.rules.specs.Calls.{answered, refused, Scene, world, span, faces, room, freshMesh, meshVerdict, meshGrid}
 use Rattle.rules.proofs.Demands.{room-for}
 use Rattle.admit.specs.Scenes.{inputVerdict, Admitted}
-use Rattle.admit.specs.Culling.{outerSet}
-use Rattle.admit.proofs.Chains.{then-assoc}
+use Rattle.culling.specs.Culling.{outerSet}
+use Rattle.answers.proofs.Chains.{then-assoc}
 use Rattle.drawing.specs.Drawn.{cellsDrawn, asked}
 use Rattle.drawing.proofs.Laid.{Rooms}
 use Rattle.meshem.specs.Fresh.{setAt, facesOf}

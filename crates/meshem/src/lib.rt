@@ -1,11 +1,11 @@
 // Fresh meshing: each cell's sides to draw as a side set, first counted, then drawn.
 use admit::Scene;
-use admit::culling::drawn_set;
-use admit::culling::outer_set;
 use admit::input_verdict;
 use admit::room_of;
 use answers::Refusal;
 use answers::Verdict;
+use culling::drawn_set;
+use culling::outer_set;
 use drawing::draw_cell;
 use face::Cell;
 use face::quads_of;
@@ -16,11 +16,11 @@ ghost use mathlib.Core.Path.{_≡_};
 ghost use Prim.Native.Nat.{_+_, _<_};
 ghost use lib.ListN.{length};
 ghost use Rattle.rules.specs.Cells.{cells, quadsOf};
-ghost use Rattle.rules.specs.Mesh.{quadAt};
+ghost use Rattle.rules.specs.Mesh.{quadAt, listsOf};
 ghost use Rattle.rules.specs.Calls.{world, span, meshGrid};
 ghost use Rattle.util.specs.Grid.{sizeOf};
-ghost use Rattle.admit.specs.Scenes.{sceneOf, listsOf};
-ghost use Rattle.admit.specs.Culling.{worldOf, Laid};
+ghost use Rattle.admit.specs.Scenes.{sceneOf};
+ghost use Rattle.culling.specs.Culling.{worldOf, Laid};
 ghost use Rattle.drawing.specs.Drawn.{facesDrawn, cellsDrawn, asked};
 ghost use Rattle.meshem.specs.Fresh.{setAt, facesOf, Whole, Roomy, Meshable};
 ghost use Rattle.meshem.specs.Outcome.{isCulling, outcome};

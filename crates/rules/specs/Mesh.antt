@@ -1,7 +1,6 @@
 -- 01, "A mesh": the quads, how they lie in the four lists, and fresh meshing. Definitions only.
-use Prim.Native.Nat.{ℕ, zero, suc, _+_, _-_, _*_, _/_, _%_, _<_}
-use mathlib.Core.Path.{_≡_}
-use mathlib.Core.Bool.{Bool, true, false, cond, not, _&&_}
+use Prim.Native.Nat.{ℕ, suc, _+_, _-_, _*_}
+use mathlib.Core.Bool.{Bool, cond, not, _&&_}
 use mathlib.Core.List.{List, [], _∷_, _++_}
 use mathlib.Core.Option.{Option, none, some}
 use lib.ListN.{length, getD, drop, replicate}
@@ -80,6 +79,13 @@ pub record Lists : Type 0 where
   pub triangles : List ℕ
   pub links : List ℕ
   pub slots : List ℕ
+
+abbrev pub listsOf : List ℕ → List ℕ → List ℕ → List ℕ → Lists
+listsOf vertices triangles links slots = record { vertices = vertices; triangles = triangles; links = links; slots = slots }
+
+-- links and slots alone
+abbrev pub bookOf : List ℕ → List ℕ → Lists
+bookOf links slots = listsOf [] [] links slots
 
 abbrev pub NONE : ℕ
 NONE = 4294967295

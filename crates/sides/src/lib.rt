@@ -1,12 +1,12 @@
 // Which sides of a changed cell and of its neighbours an entry of a log means: tests of one side, and sets of sides.
 use admit::Scene;
+use entries::Entry;
+use entries::Neighbour;
 use face::Cell;
 use face::Face;
+use face::NONE;
 use face::has;
 use face::key;
-use mesh_metadata::Entry;
-use mesh_metadata::NONE;
-use mesh_metadata::Neighbour;
 use util::Neighbor;
 use util::get_neighbor;
 ghost use mathlib.Core.Path.{_≡_};
@@ -20,8 +20,8 @@ ghost use Rattle.rules.specs.Cells.{UNIT, keyOf, cells, neighbour, setOf};
 ghost use Rattle.rules.specs.Update.{givenAt, withGiven};
 ghost use Rattle.face.specs.Face.{number};
 ghost use Rattle.util.specs.Grid.{sizeOf, Within};
-ghost use Rattle.mesh_metadata.specs.Log.{entryIn};
-ghost use Rattle.admit.specs.Scenes.{bookOf};
+ghost use Rattle.entries.specs.Log.{entryIn};
+ghost use Rattle.rules.specs.Mesh.{bookOf};
 ghost use Rattle.flat.specs.Courses.{isFilled};
 ghost use Rattle.flat.specs.Holding.{Ground};
 ghost use Rattle.sides.specs.Tests.{testedBy, facingIn};

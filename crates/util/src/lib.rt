@@ -126,3 +126,9 @@ pub fn get_neighbor(cell: Cell, face: Face, dims: Dimensions) -> Neighbor
         Face::Forward => behind(cell.0, row, cords.z),
     }
 }
+
+pub fn wide(code: u8) -> usize
+    ensures { λ r. ⌜ r ≡ code ⌝ }
+{
+    code as usize
+}

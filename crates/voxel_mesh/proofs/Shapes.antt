@@ -1,23 +1,19 @@
--- What an accepted shape, and a cube with finite positions, say of each word. Assumes nothing.
-use mathlib.Core.Path.{_≡_, refl, sym, subst}
+-- What an accepted shape says of each word. Assumes nothing.
+use mathlib.Core.Path.{_≡_, sym, subst}
 use mathlib.Core.Bool.{Bool, true, false, not, _&&_, _||_, cond}
-use mathlib.Core.List.{List}
-use Prim.Native.Nat.{ℕ, zero, suc, _+_, _*_, _/_, _%_, _≤_, _<_}
+use Prim.Native.Nat.{ℕ, zero, suc, _+_, _*_, _≤_, _<_}
 use native.Mathlib.Nat.{mul-le-mul-left, mul-suc}
 use native.Mathlib.Omega.{arith}
 use lib.Dec.{T, eqb, ltb, lit≤}
 use lib.ListN.{length, getD}
 use lib.Ieee.Bits.{is-false}
 use lib.Ieee.Fits.{and-l, and-r}
-use borrow.Author.Tests.{ltb-false, eqb-true, eq-eqb, not-false}
+use borrow.Author.Tests.{ltb-false, eqb-true, not-false}
 use Rattle.rules.specs.Lists.{every}
 use Rattle.rules.specs.Floats.{finite, finite3}
 use Rattle.rules.specs.Cells.{Triple, along}
 use Rattle.rules.specs.Cube.{Shape, floatsOf, atlasAlong}
-use Rattle.rules.specs.Types.{Types, floats, cubeOf, positionOf, classed, isCube}
-use Rattle.rules.specs.Answers.{Verdict, fine, refuse, _then_, refuseIf, refuseLowest, outOf, entries, badTile, badAtlas, badCounts}
-use Rattle.rules.specs.Answers.{notACube, BAD-NUMBER, BAD-TEXTURE}
-use Rattle.voxel_mesh.specs.Tests.{Placed, Counted}
+use Rattle.rules.specs.Answers.{fine, _then_, refuseIf, refuseLowest, outOf, entries, badTile, badAtlas, BAD-NUMBER, BAD-TEXTURE}
 use Rattle.voxel_mesh.specs.Outcome.{Accepted, verdictIn}
 use Rattle.rules.proofs.ListLaws.{or-false}
 use Rattle.rules.proofs.Checking.{then-fine, if-fine}
@@ -48,13 +44,6 @@ finite-along v t axis = go (eqb axis 0) (eqb axis 1)
     go true c = and-l x y (and-l (x && y) z t)
     go false true = and-r x y (and-l (x && y) z t)
     go false false = and-r (x && y) z t
-
--- the test of all positions, told of each
-pub placed : (cube : List ℕ) (floats : ℕ) → T (every 72 (λ k. finite (positionOf cube floats (k / 3) (k % 3)))) → Placed cube floats
-placed cube floats t i axis I A =
-    let q : (3 * i + axis) / 3 ≡ i = omega arith in
-    let r : (3 * i + axis) % 3 ≡ axis = omega arith in
-    rw (q, r) at (every-at 72 (λ k. finite (positionOf cube floats (k / 3) (k % 3))) t (3 * i + axis) (omega arith))
 
 -- ---- an atlas that is not bad
 
@@ -104,23 +93,6 @@ module _ (q : Shape) (e : badAtlas q ≡ false) where
       ))
       go (suc (suc k)) h = absurd (past k h)
 
--- ---- counts that are not bad
-
-pub counted : (T : Types) → badCounts T ≡ false → (length (T .covers) ≡ length (T .kinds)) × Counted (T .coloured) (T .kinds) (T .cubes)
-unfolding badCounts
-counted T e =
-    let n = length (T .kinds) in
-    let covers = eqb (length (T .covers)) n in
-    let cubes = eqb (length (T .cubes)) (24 * floatsOf (T .coloured) * n) in
-    let both = or-false (outOf n 1 255 || not covers) (not cubes) e in
-    let first = or-false (outOf n 1 255) (not covers) (both .0) in (
-      eqb-true _ n (not-false covers (first .1)),
-      record {
-        few = ltb-false 255 n (or-false (ltb n 1) (ltb 255 n) (first .0) .1);
-        whole = eqb-true _ _ (not-false cubes (both .1));
-      },
-    )
-
 -- ---- a verdict that refuses nothing
 
 pub accepted : (q : Shape) (room : ℕ) → fine ≡ verdictIn q room → Accepted q × (24 * floatsOf (q .coloured) ≤ room)
@@ -145,15 +117,3 @@ accepted q room r =
       },
       ltb-false _ _ (if-fine _ 9 0 (c .1)),
     )
-
--- the positions of each NormalCube that is a cube are finite
-pub cube-placed : (types : Types) (centre : Triple) (t : ℕ) → notACube types centre t ≡ false → getD (types .kinds) t 0 ≡ 1
-    → Placed (cubeOf types t) (floats types)
-unfolding notACube isCube
-cube-placed types centre t e k =
-    let cube = cubeOf types t in
-    let n = floats types in
-    let finite-all = every 72 (λ j. finite (positionOf cube n (j / 3) (j % 3))) in
-    let classed-all = every 6 (classed cube n centre) in
-    let whole : T (finite-all && classed-all) = subst T (sym (not-false (finite-all && classed-all) (rw (eq-eqb _ _ k) at e))) tt in
-    placed cube n (and-l finite-all classed-all whole)

@@ -17,8 +17,6 @@ ghost use Rattle.rules.specs.Calls.{generateVoxelMesh};
 ghost use Rattle.floats.specs.Triples.{tripleOf};
 ghost use Rattle.voxel_mesh.specs.Outcome.{shapeOf, verdictOf, verdictIn, outcome, Accepted};
 
-pub mod types; // types.rt: the tests of the types
-
 // What a cube is made from; each float is its bits.
 pub struct Shape {
     pub d: Triple,

@@ -1,4 +1,1 @@
 pub mod Files
-pub mod Writing
-pub mod Decimals
-pub mod Lining

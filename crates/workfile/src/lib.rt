@@ -11,8 +11,6 @@ ghost use Rattle.rules.specs.Program.{word, typeCount, sizeIn, adjoining, badFi
 ghost use Rattle.util.specs.Grid.{sizeOf};
 ghost use Rattle.workfile.specs.Work.{tripleAt, dimsIn, Good, workIn, capped};
 
-pub mod lines; // lines.rt: the answer's lines
-
 pub const TRAILER_BYTES: usize = 92;
 
 pub const TYPE_BYTES: usize = 74;

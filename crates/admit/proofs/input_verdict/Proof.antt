@@ -6,7 +6,7 @@ use Rattle.rules.specs.Calls as rules
 use Rattle.rules.specs.Calls.{typesVerdict}
 use Rattle.util.specs.Grid.{sizeOf, Within}
 use Rattle.admit.specs.Scenes.{sceneOf}
-use Rattle.admit.proofs.Chains.{stops, passes, goes}
+use Rattle.answers.proofs.Chains.{stops, passes, goes}
 use Rattle.admit.proofs.Admitting.{sized}
 use borrow.Author.Needs.{needs}
 use Rattle.admit.proofs.input_verdict.Statement.{statement}

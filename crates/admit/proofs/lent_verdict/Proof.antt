@@ -4,10 +4,10 @@ use mathlib.Core.Bool.{false}
 use mathlib.Core.List.{[]}
 use lib.ListN.{length}
 use denote.Ref.{now}
-use Rattle.rules.specs.Mesh.{Lists}
-use Rattle.answers.specs.Verdicts.{verdictOf}
-use Rattle.admit.specs.Scenes.{sceneOf, listsOf, refuses, Long}
-use Rattle.admit.proofs.Chains.{stops, passes, goes}
+use Rattle.rules.specs.Mesh.{Lists, listsOf}
+use Rattle.answers.specs.Verdicts.{verdictOf, refuses}
+use Rattle.admit.specs.Scenes.{sceneOf, Long}
+use Rattle.answers.proofs.Chains.{stops, passes, goes}
 use Rattle.admit.proofs.Admitting.{lent}
 use borrow.Author.Needs.{needs}
 use native.Mathlib.Omega.{arith}

@@ -2,12 +2,12 @@
 use mathlib.Core.Path.{_≡_, refl, sym, _∙_}
 use lib.ListN.{length}
 use denote.Ref.{now}
-use Rattle.rules.specs.Mesh.{Lists}
+use Rattle.rules.specs.Mesh.{Lists, listsOf}
 use Rattle.rules.specs.Answers.{_then_, BAD-COUNT}
 use Rattle.rules.specs.Calls.{openVerdict}
 use Rattle.rules.specs.Cube.{floatsOf}
-use Rattle.admit.specs.Scenes.{sceneOf, listsOf, Long, inputVerdict}
-use Rattle.admit.proofs.Chains.{stops, goes, then-assoc}
+use Rattle.admit.specs.Scenes.{sceneOf, Long, inputVerdict}
+use Rattle.answers.proofs.Chains.{stops, goes, then-assoc}
 use borrow.Author.Needs.{needs}
 use Rattle.admit.proofs.open_verdict.Statement.{statement}
 use Rattle.admit.proofs.open_verdict.Tie as tie

@@ -5,12 +5,12 @@ use Prim.Native.Nat.{_+_, _-_, _*_, _≤_, _<_}
 use native.Mathlib.Omega.{arith}
 use lib.ListN.{length}
 use Rattle.rules.specs.Cells.{UNIT}
-use Rattle.rules.specs.Mesh.{isNormalCube}
-use Rattle.rules.specs.Update.{AddFaces, Entry, Work, source, puts, withGiven, nothing, workBy}
+use Rattle.rules.specs.Mesh.{isNormalCube, listsOf}
+use Rattle.rules.specs.Update.{AddFaces, Entry, Work, source, puts, withGiven, workBy}
 use Rattle.rules.specs.Calls.{Scene, world, span}
 use Rattle.rules.proofs.ListLaws.{not-true, not-false}
-use Rattle.mesh_metadata.specs.Log.{entryIn}
-use Rattle.admit.specs.Scenes.{sceneOf, listsOf}
+use Rattle.entries.specs.Log.{entryIn}
+use Rattle.admit.specs.Scenes.{sceneOf}
 use Rattle.flat.specs.Flat.{State}
 use Rattle.flat.specs.Courses.{flatNeeded, going, flowOne}
 use Rattle.mending.specs.States.{stateOf}

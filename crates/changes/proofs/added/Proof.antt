@@ -7,13 +7,13 @@ use native.Mathlib.Omega.{arith}
 use lib.ListN.{length}
 use Rattle.rules.specs.Lists.{each}
 use Rattle.rules.specs.Cells.{UNIT, has, neighbour}
-use Rattle.rules.specs.Mesh.{isNormalCube}
-use Rattle.rules.specs.Update.{Added, Entry, Work, ops, cuts, puts, sides, quads, isOpen, hide, nothing, added, workBy}
+use Rattle.rules.specs.Mesh.{isNormalCube, listsOf}
+use Rattle.rules.specs.Update.{Added, Entry, Work, ops, cuts, puts, quads, isOpen, hide, added, workBy}
 use Rattle.rules.specs.Calls.{Scene, world, span}
 use Rattle.rules.proofs.ListLaws.{not-true, not-false}
-use Rattle.mesh_metadata.specs.Log.{entryIn}
+use Rattle.entries.specs.Log.{entryIn}
 use Rattle.util.specs.Grid.{sizeOf}
-use Rattle.admit.specs.Scenes.{sceneOf, listsOf}
+use Rattle.admit.specs.Scenes.{sceneOf}
 use Rattle.sides.specs.Tests.{testedBy}
 use Rattle.flat.specs.Flat.{State, flatRun}
 use Rattle.flat.specs.Courses.{flatNeeded, going, flowOne}

@@ -2,9 +2,10 @@
 use mathlib.Core.Path.{sym, ap, _∙_}
 use Rattle.rules.specs.Update.{workBy}
 use Rattle.rules.specs.Calls.{world, span}
-use Rattle.mesh_metadata.specs.declared.VoxelChange.{VoxelChange}
-use Rattle.mesh_metadata.specs.Log.{changeIn, entryIn}
-use Rattle.admit.specs.Scenes.{sceneOf, listsOf}
+use Rattle.entries.specs.declared.VoxelChange.{VoxelChange}
+use Rattle.entries.specs.Log.{changeIn, entryIn}
+use Rattle.admit.specs.Scenes.{sceneOf}
+use Rattle.rules.specs.Mesh.{listsOf}
 use Rattle.sides.specs.Tests.{testedBy}
 use Rattle.flat.specs.Courses.{Flow, flowOne}
 use Rattle.mending.specs.States.{stateOf}

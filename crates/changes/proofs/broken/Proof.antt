@@ -4,10 +4,11 @@ use Prim.Native.Nat.{_+_, _-_, _*_, _≤_, _<_}
 use native.Mathlib.Omega.{arith}
 use lib.ListN.{length}
 use Rattle.rules.specs.Cells.{UNIT}
-use Rattle.rules.specs.Update.{Broken, Entry, Work, source, ops, cuts, puts, quads, nothing, workBy}
+use Rattle.rules.specs.Update.{Broken, Entry, Work, source, ops, cuts, puts, workBy}
 use Rattle.rules.specs.Calls.{Scene, world, span}
-use Rattle.mesh_metadata.specs.Log.{entryIn}
-use Rattle.admit.specs.Scenes.{sceneOf, listsOf}
+use Rattle.entries.specs.Log.{entryIn}
+use Rattle.admit.specs.Scenes.{sceneOf}
+use Rattle.rules.specs.Mesh.{listsOf}
 use Rattle.flat.specs.Flat.{State, flatRun}
 use Rattle.flat.specs.Courses.{flatNeeded, going}
 use Rattle.mending.specs.States.{stateOf}

@@ -4,10 +4,11 @@ use Prim.Native.Nat.{_+_, _-_, _*_, _≤_, _<_}
 use native.Mathlib.Omega.{arith}
 use lib.ListN.{length}
 use Rattle.rules.specs.Cells.{UNIT}
-use Rattle.rules.specs.Update.{CullFaces, Entry, Work, source, cuts, withGiven, nothing, workBy}
+use Rattle.rules.specs.Update.{CullFaces, Entry, Work, source, cuts, withGiven, workBy}
 use Rattle.rules.specs.Calls.{Scene, world, span}
-use Rattle.mesh_metadata.specs.Log.{entryIn}
-use Rattle.admit.specs.Scenes.{sceneOf, listsOf}
+use Rattle.entries.specs.Log.{entryIn}
+use Rattle.admit.specs.Scenes.{sceneOf}
+use Rattle.rules.specs.Mesh.{listsOf}
 use Rattle.flat.specs.Flat.{State}
 use Rattle.flat.specs.Courses.{going}
 use Rattle.mending.specs.States.{stateOf}

@@ -2,13 +2,13 @@
 use mathlib.Core.Path.{_≡_, sym, _∙_}
 use mathlib.Core.Bool.{false}
 use denote.Ref.{now}
-use Rattle.rules.specs.Mesh.{Lists, decode}
+use Rattle.rules.specs.Mesh.{Lists, decode, listsOf}
 use Rattle.rules.specs.Answers.{Verdict, fine, _then_, WRONG-SET}
 use Rattle.rules.specs.Calls as rules
 use Rattle.rules.specs.Calls.{world, span, openVerdict, bookVerdict}
-use Rattle.answers.specs.Verdicts.{verdictOf}
-use Rattle.admit.specs.Scenes.{sceneOf, listsOf, refuses}
-use Rattle.admit.proofs.Chains.{stops, passes, goes}
+use Rattle.answers.specs.Verdicts.{verdictOf, refuses}
+use Rattle.admit.specs.Scenes.{sceneOf}
+use Rattle.answers.proofs.Chains.{stops, passes, goes}
 use Rattle.checking.proofs.Checked.{Opened, opened, gridded, faces-told, comparable, quads-told}
 use borrow.Author.Needs.{needs}
 use native.Mathlib.Omega.{arith}

@@ -2,7 +2,7 @@
 use mathlib.Core.Path.{_∙_}
 use Prim.Native.Nat.{_+_, _*_}
 use denote.Ref.{now}
-use Rattle.admit.proofs.Sides.{six-sides}
+use Rattle.culling.proofs.Sides.{six-sides}
 use Rattle.checking.specs.Faces.{isFilled}
 use Rattle.checking.proofs.Faces.{slot-bit}
 use borrow.Author.Needs.{needs}

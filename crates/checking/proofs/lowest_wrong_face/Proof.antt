@@ -9,7 +9,7 @@ use Rattle.rules.specs.Cells.{cells, keyOf, has}
 use Rattle.rules.specs.Mesh.{World, drawn}
 use Rattle.rules.proofs.ListLaws.{lowestFrom-le}
 use Rattle.util.specs.Grid.{sizeOf}
-use Rattle.admit.specs.Culling.{worldOf, outerSet}
+use Rattle.culling.specs.Culling.{worldOf, outerSet}
 use Rattle.checking.specs.Faces.{isFilled, unlike, wrongSlot}
 use Rattle.rules.proofs.Searches.{Searched, searched, ended}
 use Rattle.checking.proofs.Faces.{all-like, first-unlike, key-slot}

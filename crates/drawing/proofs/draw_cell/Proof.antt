@@ -2,13 +2,12 @@
 use mathlib.Core.Path.{ap, _∙_}
 use Prim.Native.Nat.{ℕ, _≤_, _-_, _*_}
 use native.Mathlib.Omega.{arith}
-use Rattle.rules.specs.Mesh.{Quad}
+use Rattle.rules.specs.Mesh.{Quad, listsOf}
 use Rattle.util.specs.Grid as grid
 use Rattle.floats.specs.Triples.{tripleOf}
 use Rattle.drawing.specs.Drawn.{faceDrawn}
-use Rattle.drawing.specs.Quads.{quadOf}
-use Rattle.drawing.specs.Rooms.{listsOf}
-use Rattle.drawing.proofs.Writing.{length-quad}
+use Rattle.quads.specs.Quads.{quadOf}
+use Rattle.quads.proofs.Writing.{length-quad}
 use Rattle.drawing.proofs.Turns.{Turn, start, next, end, ready-kept}
 use Rattle.drawing.proofs.draw_cell.Statement.{statement}
 use Rattle.drawing.proofs.draw_cell.Tie as tie

@@ -4,14 +4,13 @@ use Prim.Native.Nat.{ℕ, _+_, _*_}
 use native.Mathlib.Omega.{arith}
 use lib.ListN.{set}
 use borrow.Author.Needs.{needs}
-use Rattle.rules.specs.Mesh.{Quad, Lists, NONE}
+use Rattle.rules.specs.Mesh.{Quad, Lists, NONE, listsOf}
 use Rattle.face.specs.Face.{number}
 use Rattle.face.proofs.Laws.{number-below}
 use Rattle.util.specs.Grid as grid
 use Rattle.floats.specs.Triples.{tripleOf}
 use Rattle.drawing.specs.Drawn.{bareAt}
-use Rattle.drawing.specs.Quads.{quadOf}
-use Rattle.drawing.specs.Rooms.{listsOf}
+use Rattle.quads.specs.Quads.{quadOf}
 use Rattle.drawing.proofs.Turns.{same-lists, room-less, rank-below, face-kept, face-bare}
 use Rattle.drawing.proofs.draw_face.Statement.{statement}
 use Rattle.drawing.proofs.draw_face.Tie as tie

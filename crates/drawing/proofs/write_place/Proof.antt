@@ -6,7 +6,7 @@ use Rattle.face.specs.Face.{number}
 use Rattle.util.specs.Grid as grid
 use Rattle.floats.specs.Triples.{tripleOf}
 use Rattle.vav.proofs.Laws.{lent}
-use Rattle.drawing.proofs.Writing.{length-quad}
+use Rattle.quads.proofs.Writing.{length-quad}
 use Rattle.drawing.proofs.write_place.Statement.{statement}
 use Rattle.drawing.proofs.write_place.Tie as tie
 

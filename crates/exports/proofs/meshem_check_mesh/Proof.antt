@@ -3,7 +3,7 @@ use mathlib.Core.Path.{ap, _∙_}
 use denote.Ref.{now}
 use Rattle.rules.specs.Calls.{Scene, checkBy, checkMesh}
 use Rattle.answers.specs.Verdicts.{verdictOf}
-use Rattle.admit.specs.Scenes.{listsOf}
+use Rattle.rules.specs.Mesh.{listsOf}
 use Rattle.exports.proofs.Telling.{bare}
 use borrow.Author.Needs.{needs}
 use Rattle.exports.proofs.meshem_check_mesh.Statement.{statement}

@@ -2,7 +2,7 @@
 use mathlib.Core.Path.{_∙_}
 use denote.Ref.{now}
 use Rattle.rules.specs.Calls.{meshGrid}
-use Rattle.admit.specs.Scenes.{listsOf}
+use Rattle.rules.specs.Mesh.{listsOf}
 use Rattle.exports.proofs.Telling.{mesh-told}
 use borrow.Author.Needs.{needs}
 use Rattle.exports.proofs.meshem_mesh_grid.Statement.{statement}

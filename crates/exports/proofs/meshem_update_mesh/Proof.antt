@@ -2,7 +2,7 @@
 use mathlib.Core.Path.{_∙_}
 use denote.Ref.{now}
 use Rattle.rules.specs.Calls.{updateMesh}
-use Rattle.admit.specs.Scenes.{listsOf}
+use Rattle.rules.specs.Mesh.{listsOf}
 use borrow.Author.Needs.{needs}
 use Rattle.exports.proofs.meshem_update_mesh.Statement.{statement}
 use Rattle.exports.proofs.meshem_update_mesh.Tie as tie

@@ -4,12 +4,12 @@ use mathlib.Core.List.{List}
 use Prim.Native.Nat.{ℕ, _-_}
 use native.Mathlib.Omega.{arith}
 use Rattle.rules.specs.Cells.{neighbour}
-use Rattle.rules.specs.Mesh.{Quad}
+use Rattle.rules.specs.Mesh.{Quad, listsOf}
 use Rattle.rules.specs.Update.{Op, puts, reveal, givenAt}
 use Rattle.rules.specs.Calls.{Scene, world, span}
-use Rattle.mesh_metadata.specs.Log.{entryIn}
-use Rattle.mesh_metadata.specs.declared.Entry.{Entry}
-use Rattle.admit.specs.Scenes.{sceneOf, listsOf}
+use Rattle.entries.specs.Log.{entryIn}
+use Rattle.entries.specs.declared.Entry.{Entry}
+use Rattle.admit.specs.Scenes.{sceneOf}
 use Rattle.flat.specs.Flat.{flatRun}
 use Rattle.mending.specs.States.{stateOf}
 use Rattle.flat.specs.Holding.{Ready}

@@ -7,7 +7,8 @@ use Rattle.rules.specs.Lists.{only}
 use Rattle.rules.specs.Cells.{has}
 use Rattle.rules.specs.Update.{Op, puts, quadOf}
 use Rattle.rules.specs.Calls.{Scene, world, span}
-use Rattle.admit.specs.Scenes.{sceneOf, listsOf}
+use Rattle.admit.specs.Scenes.{sceneOf}
+use Rattle.rules.specs.Mesh.{listsOf}
 use Rattle.flat.specs.Flat.{flatRun}
 use Rattle.mending.specs.States.{stateOf}
 use Rattle.flat.specs.Holding.{Ready}

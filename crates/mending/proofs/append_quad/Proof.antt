@@ -4,11 +4,11 @@ use mathlib.Core.List.{[]}
 use Prim.Native.Nat.{_+_, _*_, _≤_}
 use native.Mathlib.Omega.{arith}
 use lib.ListN.{length}
-use Rattle.rules.specs.Mesh.{Lists}
+use Rattle.rules.specs.Mesh.{Lists, listsOf}
 use Rattle.rules.specs.Calls as rules
 use Rattle.face.specs.Face.{number}
 use Rattle.voxel_mesh.proofs.Shapes.{few}
-use Rattle.admit.specs.Scenes.{sceneOf, listsOf}
+use Rattle.admit.specs.Scenes.{sceneOf}
 use Rattle.flat.proofs.Placing.{lent-drawable, lent-drawn}
 use borrow.Author.Needs.{needs}
 use Rattle.mending.proofs.append_quad.Statement.{statement}

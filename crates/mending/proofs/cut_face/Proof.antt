@@ -1,9 +1,8 @@
 -- `mending::cut_face` meets its contract. Assumes nothing.
 use mathlib.Core.Path.{sym, _∙_}
 use native.Mathlib.Omega.{arith}
-use Rattle.rules.specs.Mesh.{NONE}
-use Rattle.admit.specs.Scenes.{listsOf}
-use Rattle.admit.proofs.Books.{within}
+use Rattle.rules.specs.Mesh.{NONE, listsOf}
+use Rattle.books.proofs.Books.{within}
 use Rattle.mending.specs.States.{stateOf}
 use Rattle.flat.proofs.Doing.{standing, removable, cut-none, cut-one}
 use borrow.Author.Needs.{needs}

@@ -5,12 +5,12 @@ use Prim.Native.Nat.{ℕ, _<_}
 use native.Mathlib.Omega.{arith}
 use lib.ListN.{length, getD}
 use Rattle.rules.specs.Cells.{keyOf}
-use Rattle.rules.specs.Mesh.{Quad, NONE}
+use Rattle.rules.specs.Mesh.{Quad, NONE, listsOf}
 use Rattle.rules.specs.Update.{quadOf}
 use Rattle.rules.specs.Calls.{world, span}
 use Rattle.face.specs.Face.{number}
-use Rattle.admit.specs.Scenes.{sceneOf, listsOf}
-use Rattle.admit.proofs.Books.{within}
+use Rattle.admit.specs.Scenes.{sceneOf}
+use Rattle.books.proofs.Books.{within}
 use Rattle.flat.specs.Flat.{State}
 use Rattle.mending.specs.States.{stateOf}
 use Rattle.flat.proofs.Doing.{standing, put-there, put-new, drawable}

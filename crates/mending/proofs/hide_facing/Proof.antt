@@ -4,12 +4,12 @@ use mathlib.Core.List.{List, []}
 use mathlib.Core.Option.{some}
 use lib.ListN.{getD}
 use Rattle.rules.specs.Cells.{has, keyOf, neighbour}
-use Rattle.rules.specs.Mesh.{World}
+use Rattle.rules.specs.Mesh.{World, listsOf}
 use Rattle.rules.specs.Update.{Op}
 use Rattle.rules.specs.Calls.{world}
 use Rattle.face.specs.Face.{number}
 use Rattle.util.specs.Grid.{sizeOf, cellIn}
-use Rattle.admit.specs.Scenes.{sceneOf, listsOf}
+use Rattle.admit.specs.Scenes.{sceneOf}
 use Rattle.sides.specs.Tests.{testedBy}
 use Rattle.flat.specs.Flat.{State, flatRun}
 use Rattle.mending.specs.States.{stateOf}

@@ -4,11 +4,11 @@ use mathlib.Core.List.{List, []}
 use Prim.Native.Nat.{ℕ, _-_}
 use native.Mathlib.Omega.{arith}
 use Rattle.rules.specs.Cells.{neighbour}
-use Rattle.rules.specs.Mesh.{World}
+use Rattle.rules.specs.Mesh.{World, listsOf}
 use Rattle.rules.specs.Update.{Op, cuts, hide}
 use Rattle.rules.specs.Update as rules
 use Rattle.rules.specs.Calls.{world}
-use Rattle.admit.specs.Scenes.{sceneOf, listsOf}
+use Rattle.admit.specs.Scenes.{sceneOf}
 use Rattle.sides.specs.Tests.{testedBy}
 use Rattle.flat.specs.Flat.{flatRun}
 use Rattle.mending.specs.States.{stateOf}

@@ -6,7 +6,7 @@ use native.Mathlib.Omega.{arith}
 use Rattle.rules.specs.Lists.{only}
 use Rattle.rules.specs.Cells.{keyOf, has}
 use Rattle.rules.specs.Update.{Op, cuts}
-use Rattle.admit.specs.Scenes.{listsOf}
+use Rattle.rules.specs.Mesh.{listsOf}
 use Rattle.flat.specs.Flat.{flatRun}
 use Rattle.mending.specs.States.{stateOf}
 use Rattle.flat.specs.Holding.{Ready}

@@ -8,8 +8,9 @@ use Rattle.rules.specs.Update.{Op, put, quadOf, givenAt}
 use Rattle.rules.specs.Calls.{Scene, world, span}
 use Rattle.face.specs.Face.{number}
 use Rattle.util.specs.Grid.{sizeOf}
-use Rattle.mesh_metadata.specs.Log.{entryIn}
-use Rattle.admit.specs.Scenes.{sceneOf, listsOf}
+use Rattle.entries.specs.Log.{entryIn}
+use Rattle.admit.specs.Scenes.{sceneOf}
+use Rattle.rules.specs.Mesh.{listsOf}
 use Rattle.flat.specs.Facing.{Facing, facingBy}
 use Rattle.sides.specs.Tests.{facingIn}
 use Rattle.flat.specs.Flat.{State, flatRun}

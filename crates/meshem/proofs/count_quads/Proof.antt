@@ -1,13 +1,11 @@
 -- `meshem::count_quads` meets its contract: what is counted and what is left to count are all that is asked. Assumes nothing.
-use mathlib.Core.Path.{_≡_, refl, sym, ap, _∙_}
+use mathlib.Core.Path.{_≡_, ap, _∙_}
 use Prim.Native.Nat.{ℕ, _+_, _-_, _*_, _≤_, _<_}
-use borrow.Author.Needs.{needs}
 use native.Mathlib.Omega.{arith}
 use denote.Ref.{now}
-use lib.ListN.{length}
 use Rattle.rules.specs.Cells.{cells, quadsOf}
 use Rattle.util.specs.Grid.{sizeOf}
-use Rattle.admit.specs.Culling.{worldOf}
+use Rattle.culling.specs.Culling.{worldOf}
 use Rattle.drawing.specs.Drawn.{asked}
 use Rattle.meshem.specs.Fresh.{setAt, facesOf}
 use Rattle.meshem.proofs.Sets.{set-below, quads-le, asked-more, asked-none}

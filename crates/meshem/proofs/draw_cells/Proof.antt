@@ -1,12 +1,13 @@
 -- `meshem::draw_cells` meets its contract: what is left to do on what is there is the whole work on what was there. Assumes nothing.
-use mathlib.Core.Path.{_≡_, sym}
-use Prim.Native.Nat.{ℕ, _≤_, _-_}
+use mathlib.Core.Path.{_≡_}
+use Prim.Native.Nat.{_-_}
 use native.Mathlib.Omega.{arith}
 use denote.Ref.{now}
 use Rattle.rules.specs.Cells.{cells}
 use Rattle.rules.specs.Calls.{Scene}
 use Rattle.util.specs.Grid.{sizeOf}
-use Rattle.admit.specs.Scenes.{sceneOf, listsOf}
+use Rattle.admit.specs.Scenes.{sceneOf}
+use Rattle.rules.specs.Mesh.{listsOf}
 use Rattle.meshem.proofs.Turns.{Turned, turned, meshable, turn, ended}
 use Rattle.meshem.proofs.draw_cells.Statement.{statement}
 use Rattle.meshem.proofs.draw_cells.Tie as tie

@@ -1,26 +1,20 @@
 -- `meshem::draw_sides` meets its contract: the cell's type has its cube in the middle of the registry. Assumes nothing.
-use mathlib.Core.Path.{_≡_, refl, sym, ap, _∙_}
-use mathlib.Core.List.{List}
-use Prim.Native.Nat.{ℕ, _+_, _-_, _*_, _≤_, _<_}
+use mathlib.Core.Path.{_≡_, ap, _∙_}
+use Prim.Native.Nat.{ℕ, _+_, _-_, _*_, _≤_}
 use borrow.Author.Needs.{needs}
 use native.Mathlib.Nat.{mul-le-mul}
 use native.Mathlib.Omega.{arith}
 use denote.Ref.{now}
-use lib.ListN.{length, getD}
+use lib.ListN.{length}
 use Rattle.rules.specs.Lists.{part}
-use Rattle.rules.specs.Cells.{quadsOf, coordinates, Triple}
-use Rattle.rules.specs.Cube.{floatsOf}
-use Rattle.rules.specs.Types.{floats, cubeOf}
-use Rattle.rules.specs.Mesh.{Lists, typeAt, quadAt}
-use Rattle.rules.specs.Calls.{Scene, world, span}
+use Rattle.rules.specs.Cells.{quadsOf}
+use Rattle.rules.specs.Types.{cubeOf}
+use Rattle.rules.specs.Mesh.{typeAt, listsOf}
+use Rattle.rules.specs.Calls.{Scene, world}
 use Rattle.util.specs.Grid as grid
-use Rattle.floats.specs.Triples.{tripleOf}
 use Rattle.voxel_mesh.proofs.Shapes.{few}
 use Rattle.vav.proofs.Laws.{part-lent}
-use Rattle.admit.specs.Scenes.{sceneOf, listsOf}
-use Rattle.drawing.specs.Drawn.{facesDrawn}
-use Rattle.drawing.specs.Quads.{quadOf}
-use Rattle.drawing.specs.Rooms.{Ready}
+use Rattle.admit.specs.Scenes.{sceneOf}
 use Rattle.meshem.specs.Fresh.{setAt, facesOf}
 use Rattle.meshem.proofs.Sets.{quads-le, set-below}
 use Rattle.meshem.proofs.Turns.{set-world, type-is, cube-part, ready-by, faces-by}

@@ -1,21 +1,19 @@
 -- `meshem::mesh_grid` meets its contract: the refusals in their order, then the fresh mesh's layout. Assumes nothing.
 use mathlib.Core.Path.{_≡_, refl, sym, ap, _∙_}
-use Prim.Native.Nat.{ℕ, _≤_, _<_}
+use Prim.Native.Nat.{_≤_, _<_}
 use borrow.Author.Needs.{needs}
 use native.Mathlib.Omega.{arith}
 use denote.Ref.{now}
 use lib.ListN.{length}
 use Rattle.rules.specs.Lists.{member}
 use Rattle.rules.specs.Cells.{cells}
-use Rattle.rules.specs.Mesh.{Lists, layout, quadAt}
+use Rattle.rules.specs.Mesh.{Lists, listsOf}
 use Rattle.rules.specs.Answers.{fine}
-use Rattle.rules.specs.Calls.{Scene, answered, world, span, faces, room, freshMesh}
+use Rattle.rules.specs.Calls.{Scene, answered, world, room, freshMesh}
 use Rattle.rules.proofs.Sets.{setOf-lt}
 use Rattle.answers.specs.Verdicts.{verdictOf}
-use Rattle.admit.specs.Scenes.{sceneOf, listsOf, inputVerdict, Admitted}
-use Rattle.admit.specs.Culling.{outerSet}
+use Rattle.admit.specs.Scenes.{sceneOf, inputVerdict, Admitted}
 use Rattle.admit.proofs.Admitting.{admitted}
-use Rattle.drawing.specs.Drawn.{asked, cellsDrawn}
 use Rattle.meshem.specs.Fresh.{setAt, facesOf}
 use Rattle.meshem.specs.Outcome.{isCulling}
 use Rattle.meshem.proofs.Sets.{asked-cong}

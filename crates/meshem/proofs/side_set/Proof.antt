@@ -1,6 +1,6 @@
 -- `meshem::side_set` meets its contract: Culling asks for what `drawn_set` finds, Naive for all six of a NormalCube. Assumes nothing.
-use mathlib.Core.Path.{_≡_, refl, sym, ap, _∙_}
-use mathlib.Core.Bool.{Bool, true, false}
+use mathlib.Core.Path.{_≡_, sym, _∙_}
+use mathlib.Core.Bool.{true, false}
 use borrow.Author.Needs.{needs}
 use borrow.Author.Tests.{eq-eqb, ne-eqb}
 use native.Mathlib.Omega.{arith}
@@ -8,7 +8,7 @@ use denote.Ref.{now}
 use lib.ListN.{length, getD}
 use Prim.Native.Nat.{_<_}
 use Rattle.rules.specs.Mesh.{typeAt}
-use Rattle.admit.proofs.Books.{within}
+use Rattle.books.proofs.Books.{within}
 use Rattle.meshem.specs.Fresh.{setAt, facesOf}
 use Rattle.meshem.proofs.Sets.{outer-faces, naive-set}
 use Rattle.meshem.proofs.side_set.Statement.{statement}

@@ -3,7 +3,7 @@ use mathlib.Core.Path.{_∙_}
 use Rattle.rules.specs.Cells.{neighbour}
 use Rattle.rules.specs.Update.{givenAt}
 use Rattle.util.specs.Grid.{sizeOf}
-use Rattle.mesh_metadata.specs.Log.{entryIn}
+use Rattle.entries.specs.Log.{entryIn}
 use Rattle.flat.specs.Facing.{facingBy, bareBy}
 use Rattle.flat.proofs.Facings.{set-of}
 use borrow.Author.Needs.{needs}

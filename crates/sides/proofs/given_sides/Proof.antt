@@ -1,7 +1,7 @@
 -- `sides::given_sides` meets its contract. Assumes nothing.
 use mathlib.Core.Path.{_∙_}
 use Rattle.rules.specs.Update.{withGiven}
-use Rattle.mesh_metadata.specs.Log.{entryIn}
+use Rattle.entries.specs.Log.{entryIn}
 use Rattle.flat.proofs.Facings.{set-of}
 use borrow.Author.Needs.{needs}
 use Rattle.sides.proofs.given_sides.Statement.{statement}

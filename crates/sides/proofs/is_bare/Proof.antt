@@ -10,8 +10,9 @@ use Rattle.rules.specs.Update.{givenAt}
 use Rattle.rules.specs.Calls.{world}
 use Rattle.face.specs.Face.{number}
 use Rattle.util.specs.Grid.{sizeOf}
-use Rattle.mesh_metadata.specs.Log.{entryIn}
-use Rattle.admit.specs.Scenes.{sceneOf, bookOf}
+use Rattle.entries.specs.Log.{entryIn}
+use Rattle.admit.specs.Scenes.{sceneOf}
+use Rattle.rules.specs.Mesh.{bookOf}
 use Rattle.flat.specs.Courses.{isFilled}
 use Rattle.flat.specs.Facing.{Facing, facingBy, bareBy}
 use Rattle.sides.specs.Tests.{facingIn}

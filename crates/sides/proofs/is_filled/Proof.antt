@@ -9,7 +9,7 @@ use Rattle.rules.specs.Cells.{keyOf}
 use Rattle.rules.specs.Mesh.{NONE}
 use Rattle.face.specs.Face.{number}
 use Rattle.face.proofs.Laws.{number-below}
-use Rattle.admit.proofs.Books.{within}
+use Rattle.books.proofs.Books.{within}
 use borrow.Author.Needs.{needs}
 use Rattle.sides.proofs.is_filled.Statement.{statement}
 use Rattle.sides.proofs.is_filled.Tie as tie

@@ -2,7 +2,7 @@
 use mathlib.Core.Path.{sym, _∙_}
 use mathlib.Core.List.{[]}
 use Rattle.face.specs.Face.{number}
-use Rattle.mesh_metadata.specs.Log.{entryIn}
+use Rattle.entries.specs.Log.{entryIn}
 use Rattle.flat.proofs.Facings.{not-given, is-given}
 use borrow.Author.Needs.{needs}
 use Rattle.sides.proofs.is_given.Statement.{statement}

@@ -1,7 +1,7 @@
 -- `sides::is_open` meets its contract. Assumes nothing.
 use mathlib.Core.Path.{sym, _∙_}
 use Rattle.face.specs.Face.{number}
-use Rattle.mesh_metadata.specs.Log.{entryIn}
+use Rattle.entries.specs.Log.{entryIn}
 use Rattle.flat.proofs.Facings.{open-outside, open-voxel}
 use borrow.Author.Needs.{needs}
 use Rattle.sides.proofs.is_open.Statement.{statement}

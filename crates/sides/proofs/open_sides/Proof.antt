@@ -1,6 +1,6 @@
 -- `sides::open_sides` meets its contract. Assumes nothing.
 use mathlib.Core.Path.{_∙_}
-use Rattle.mesh_metadata.specs.Log.{entryIn}
+use Rattle.entries.specs.Log.{entryIn}
 use Rattle.flat.specs.Facing.{openBy}
 use Rattle.flat.proofs.Facings.{set-of}
 use borrow.Author.Needs.{needs}

@@ -9,7 +9,7 @@ use Rattle.rules.specs.Update.{givenAt}
 use Rattle.rules.specs.Calls.{world}
 use Rattle.face.specs.Face.{number}
 use Rattle.util.specs.Grid.{sizeOf, cellIn}
-use Rattle.mesh_metadata.specs.Log.{entryIn}
+use Rattle.entries.specs.Log.{entryIn}
 use Rattle.admit.specs.Scenes.{sceneOf}
 use Rattle.flat.specs.Facing.{facingBy}
 use Rattle.flat.proofs.Facings.{none-outside, given-voxel, facing-is}

@@ -5,7 +5,7 @@ use lib.Dec.{ltb}
 use lib.ListN.{length}
 use Rattle.rules.specs.Answers.{refuseIf, refuseLowest, badEntry, BAD-ENTRY}
 use Rattle.answers.specs.Verdicts.{verdictOf}
-use Rattle.admit.proofs.Chains.{stops, goes}
+use Rattle.answers.proofs.Chains.{stops, goes}
 use borrow.Author.Needs.{needs}
 use Rattle.update.proofs.entry_verdict.Statement.{statement}
 use Rattle.update.proofs.entry_verdict.Tie as tie

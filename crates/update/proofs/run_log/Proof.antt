@@ -7,7 +7,8 @@ use lib.ListN.{length}
 use Rattle.rules.specs.Update as rules
 use Rattle.rules.specs.Update.{Work, work, entryAt}
 use Rattle.rules.specs.Calls.{Scene, world, span}
-use Rattle.admit.specs.Scenes.{sceneOf, listsOf}
+use Rattle.admit.specs.Scenes.{sceneOf}
+use Rattle.rules.specs.Mesh.{listsOf}
 use Rattle.changes.specs.declared.Ran.{Ran}
 use Rattle.sides.specs.Tests.{testedBy}
 use Rattle.changes.specs.Ran.{ranOf}

@@ -2,13 +2,13 @@
 use mathlib.Core.Path.{_≡_, refl, sym, ap, _∙_}
 use Prim.Native.Nat.{ℕ, _*_}
 use lib.Seq.{length-take-le}
-use Rattle.rules.specs.Mesh.{Lists}
+use Rattle.rules.specs.Mesh.{Lists, listsOf}
 use Rattle.rules.specs.Update.{source}
 use Rattle.rules.specs.Answers as rules
 use Rattle.rules.specs.Answers.{fine}
 use Rattle.rules.specs.Calls.{Scene, faces, room, updateVerdict, updateBy, course}
 use Rattle.answers.specs.Verdicts.{verdictOf}
-use Rattle.admit.specs.Scenes.{sceneOf, listsOf}
+use Rattle.admit.specs.Scenes.{sceneOf}
 use Rattle.admit.proofs.Admitting.{sized}
 use Rattle.changes.specs.declared.Ran.{Ran}
 use Rattle.changes.specs.Ran.{ranOf}

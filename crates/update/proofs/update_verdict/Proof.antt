@@ -7,9 +7,9 @@ use lib.ListN.{length}
 use Rattle.rules.specs.Answers.{BAD-ENTRY}
 use Rattle.rules.specs.Calls.{Scene}
 use Rattle.util.specs.Grid.{Within}
-use Rattle.answers.specs.Verdicts.{verdictOf}
-use Rattle.admit.specs.Scenes.{sceneOf, refuses}
-use Rattle.admit.proofs.Chains.{stops, passes, goes}
+use Rattle.answers.specs.Verdicts.{verdictOf, refuses}
+use Rattle.admit.specs.Scenes.{sceneOf}
+use Rattle.answers.proofs.Chains.{stops, passes, goes}
 use Rattle.admit.proofs.Admitting.{sized, typed}
 use borrow.Author.Needs.{needs}
 use Rattle.update.proofs.update_verdict.Statement.{statement}

@@ -10,9 +10,9 @@ use Rattle.rules.specs.Cells.{codeIn}
 use Rattle.rules.specs.Calls.{answered}
 use Rattle.rules.specs.Program.{meshLines}
 use Rattle.rules.proofs.ListLaws.{all-at}
-use Rattle.workfile.specs.Written.{OfFaces, Room, quadsOf}
-use Rattle.workfile.proofs.Writing.{end-inside}
-use Rattle.workfile.proofs.Lining.{lines-room}
+use Rattle.lines.specs.Written.{OfFaces, Room, quadsOf}
+use Rattle.lines.proofs.Writing.{end-inside}
+use Rattle.lines.proofs.Lining.{lines-room}
 use Rattle.workfile_run.proofs.is_right_example.Statement.{statement}
 use Rattle.workfile_run.proofs.is_right_example.Tie as tie
 

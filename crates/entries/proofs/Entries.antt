@@ -1,0 +1,61 @@
+-- Laws of log entries. Assumes nothing.
+use mathlib.Core.Path.{_≡_, refl, sym, ap}
+use mathlib.Core.Logic.{_≢_}
+use mathlib.Core.Bool.{Bool, true, false, _&&_}
+use mathlib.Core.List.{List, [], _∷_}
+use Prim.Native.Nat.{ℕ, zero, suc, _+_, _-_, _≤_, _<_}
+use native.Mathlib.Omega.{arith}
+use native.Mathlib.Numerals.{add-one}
+use native.Mathlib.Nat.{add-zero}
+use lib.ListN.{length, getD}
+use Rattle.rules.specs.Lists.{each, table, part, every, lowestFrom}
+use Rattle.rules.specs.Update as rule
+use Rattle.rules.proofs.ListLaws.{getD-table, table-is}
+use Rattle.face.specs.declared.Face.{Face}
+use Rattle.face.specs.Face.{number}
+use Rattle.face.proofs.Laws.{number-below}
+use Rattle.vav.proofs.Laws.{length-part, part-at}
+use Rattle.entries.specs.declared.Entry.{Entry}
+use Rattle.entries.specs.Log.{entryIn}
+
+pub change-last : (n : ℕ) → n ≢ 0 → n ≢ 1 → n ≢ 2 → rule.AddFaces ≡ rule.changeOf n
+change-last zero a b c = absurd (a refl)
+change-last (suc zero) a b c = absurd (b refl)
+change-last (suc (suc zero)) a b c = absurd (c refl)
+change-last (suc (suc (suc n))) a b c = refl
+
+-- one more of which p holds, or not
+pub every-more : (n : ℕ) (p : ℕ → Bool) → (every n p && p n) ≡ every (n + 1) p
+unfolding every
+every-more n p = rw (add-one, every)
+
+-- ---- six words of a list, one by one
+abbrev pub sixAt : List ℕ → ℕ → List ℕ
+sixAt xs at =
+    getD xs at 0 ∷ getD xs (at + 1) 0 ∷ getD xs (at + 2) 0 ∷ getD xs (at + 3) 0 ∷ getD xs (at + 4) 0 ∷ getD xs (at + 5) 0 ∷ []
+
+pub six : (at : ℕ) (xs : List ℕ) → at + 6 ≤ length xs → table 6 (λ k. getD (sixAt xs at) k 0) ≡ part at 6 xs
+unfolding each
+six at xs h =
+    let w : table 6 (λ f. getD xs (at + f) 0) ≡ part at 6 xs =
+    table-is (λ f. getD xs (at + f) 0) 6 (part at 6 xs) 0 (length-part at 6 xs h) (λ k l. part-at at 6 xs k l) in
+    rw (add-zero at) at w
+
+-- the neighbour given at a face
+pub given-is : (e : Entry) (f : Face) → rule.givenAt (entryIn e) (number f) ≡ getD (e .neighbours) (number f) 0
+given-is e f = getD-table (λ k. getD (e .neighbours) k 0) 6 (number f) 255 (number-below f)
+
+-- ---- a search: the next one is bad, or not
+pub lowest-here : (i n : ℕ) (bad : ℕ → Bool) → i < n → bad i ≡ true → lowestFrom i (n - i) bad ≡ i
+unfolding lowestFrom
+lowest-here i n bad l e = let s : n - i ≡ suc (n - (i + 1)) = omega arith in rw (s, lowestFrom, e)
+
+pub lowest-next : (i n : ℕ) (bad : ℕ → Bool) → i < n → bad i ≡ false → lowestFrom i (n - i) bad ≡ lowestFrom (i + 1) (n - (i + 1)) bad
+unfolding lowestFrom
+lowest-next i n bad l e =
+    let s : n - i ≡ suc (n - (i + 1)) = omega arith in
+    rw (s, lowestFrom, e) (ap (λ (k : ℕ). lowestFrom k (n - (i + 1)) bad) (sym (add-one i)))
+
+pub lowest-end : (i : ℕ) (bad : ℕ → Bool) → lowestFrom i (i - i) bad ≡ i
+unfolding lowestFrom
+lowest-end i bad = let s : i - i ≡ 0 = omega arith in rw s

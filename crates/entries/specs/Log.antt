@@ -1,0 +1,31 @@
+-- The entries of a log, as rules says them. Definitions only.
+use mathlib.Core.Bool.{cond}
+use Prim.Native.Nat.{ℕ}
+use lib.ListN.{getD}
+use Rattle.rules.specs.Lists.{table}
+use Rattle.rules.specs.Update.{outside}
+use Rattle.rules.specs.Update as rule
+use Rattle.entries.specs.declared.VoxelChange.{VoxelChange}
+use Rattle.entries.specs.declared.VoxelChange.the-variants.{Broken, Added, CullFaces, AddFaces}
+use Rattle.entries.specs.declared.Entry.{Entry}
+use Rattle.entries.specs.declared.Neighbour.{Neighbour}
+use Rattle.entries.specs.declared.Neighbour.the-variants.{Outside, Voxel}
+
+abbrev pub changeIn : VoxelChange → rule.Change
+changeIn Broken = rule.Broken
+changeIn Added = rule.Added
+changeIn CullFaces = rule.CullFaces
+changeIn AddFaces = rule.AddFaces
+
+abbrev pub entryIn : Entry → rule.Entry
+entryIn e =
+    record {
+      cell = e .cell .0;
+      change = changeIn (e .change);
+      type = e .voxel;
+      given = table 6 (λ f. getD (e .neighbours) f 0);
+    }
+
+-- a neighbour is either outside or a voxel of a type
+abbrev pub neighbourOf : ℕ → Neighbour
+neighbourOf t = cond (outside t) Outside (Voxel t)

@@ -1,0 +1,31 @@
+-- `face::face_at` meets its contract. Assumes nothing.
+use mathlib.Core.Path.{sym, _∙_}
+use borrow.Author.Needs.{needs}
+use Rattle.face.proofs.Laws.{face-number, face-nothing}
+use Rattle.face.proofs.face_at.Statement.{statement}
+use Rattle.face.proofs.face_at.Tie as tie
+
+from-number-requires : tie.Need-from-number-requires
+from-number-requires c κs = search needs
+
+enum-known-face : tie.Need-enum-known-face
+enum-known-face c = search needs
+
+enum-told : tie.Need-enum-told
+enum-told c = search needs
+
+returns : tie.Need-returns
+returns c =
+    let found = c .before .before .before in
+    let t = found .before in
+    face-number (t .args .n) _ (t .pre) (sym (found .from-number .ensures) ∙ c .before .face .given .1)
+
+returns-2 : tie.Need-returns-2
+returns-2 c =
+    let found = c .before .before in
+    let t = found .before in
+    absurd (face-nothing (t .args .n) (t .pre) (sym (found .from-number .ensures) ∙ c .enum-told .given .1))
+
+pub face-at-spec : {M : Type 1} → statement M
+face-at-spec =
+    tie.close (tie.spec from-number-requires enum-known-face enum-told returns returns-2)

@@ -1,0 +1,34 @@
+-- The words of one vertex and of a cell's quads, and what drawing them asks for. Definitions only.
+use Prim.Native.Nat.{ℕ, _+_, _*_, _≤_}
+use mathlib.Core.Bool.{cond}
+use mathlib.Core.List.{List}
+use lib.ListN.{getD}
+use lib.Dec.{T, ltb}
+use Rattle.rules.specs.Lists.{table}
+use Rattle.rules.specs.Cells.{Triple, along, keyOf}
+use Rattle.rules.specs.Floats.{finite3}
+use Rattle.rules.specs.Types.{movedWord, quadWords}
+use Rattle.rules.specs.Mesh.{Quad}
+use Rattle.types.specs.Tests.{Words, Placed}
+
+-- word k of vertex v of a cube that is drawn at `a`: each position plus (coordinate as f32 · d)
+unfoldable pub vertexWord : List ℕ → ℕ → Triple → Triple → ℕ → ℕ → ℕ
+vertexWord cube n d a v k =
+    let word = getD cube (n * v + k) 0 in
+    cond (ltb k 3) (movedWord word (along a k) (along d k)) word
+
+abbrev pub vertexWords : List ℕ → ℕ → Triple → Triple → ℕ → List ℕ
+vertexWords cube n d a v = table n (vertexWord cube n d a v)
+
+-- the quad of face f of cell c, which stands at `a`
+abbrev pub quadOf : List ℕ → ℕ → Triple → Triple → ℕ → ℕ → Quad
+quadOf cube n d a c f = record { key = keyOf c f; words = quadWords cube n d f a }
+
+-- a cube of finite positions, which d and the coordinates `a` move
+pub record Drawable (cube : List ℕ) (floats : ℕ) (a d : Triple) : Type 0 where
+  pub words : Words cube floats
+  pub placed : Placed cube floats
+  pub finite : T (finite3 d)
+  pub x : a .x ≤ 1024
+  pub y : a .y ≤ 1024
+  pub z : a .z ≤ 1024

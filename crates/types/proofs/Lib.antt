@@ -1,0 +1,3 @@
+pub mod Known
+pub mod Compared
+pub mod FreshCubes
