@@ -69,7 +69,13 @@ pub enum Uncovered {
     Nothing,
 }
 
-pub fn uncovered_at(scene: Scene, kinds: &[u8], covers: &[u8], entry: Entry, face: Face) -> Uncovered
+pub fn uncovered_at(
+    scene: Scene,
+    kinds: &[u8],
+    covers: &[u8],
+    entry: Entry,
+    face: Face,
+) -> Uncovered
     requires { ⌜ Within (sizeOf (scene .dims)) × (entry .cell .0 < cells (sizeOf (scene .dims))) × (length (now kinds) ≤ 255) ⌝ }
     ensures { λ r. ⌜ facingIn r
         ≡ facingBy (now (kinds .entry)) (now (covers .entry)) (entry .voxel) (givenAt (entryIn entry) (number face)) (number face) (neighbour (sizeOf (scene .dims)) (entry .cell .0) (number face)) ⌝ }
