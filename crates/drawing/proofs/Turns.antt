@@ -2,11 +2,11 @@
 use mathlib.Core.Path.{_≡_, refl, sym, ap, _∙_}
 use mathlib.Core.Bool.{Bool, true, false, cond}
 use mathlib.Core.List.{List}
-use Prim.Native.Nat.{ℕ, zero, suc, _+_, _-_, _*_, _≤_, _<_}
-use native.Mathlib.Nat.{mul-le-mul-left, le-trans, le-refl, add-zero, add-suc}
+use Prim.Native.Nat.{ℕ, zero, suc, _+_, _-_, _*_, _^_, _≤_, _<_}
+use native.Mathlib.Nat.{mul-le-mul-left, le-trans, le-refl, add-zero, add-suc, zero-div}
 use native.Mathlib.Numerals.{add-one}
 use native.Mathlib.Omega.{arith}
-use lib.ListN.{length, length-set}
+use lib.ListN.{length, set, length-set}
 use Rattle.rules.specs.Lists.{count}
 use Rattle.rules.specs.Cells.{Triple, has, rank, quadsOf, keyOf, linkOf, firstVertex}
 use Rattle.rules.specs.Mesh.{Quad, Lists, NONE, pattern, listsOf}
@@ -141,3 +141,33 @@ module _ (s set : ℕ) (quad : ℕ → Quad) (base c : ℕ) (wide : (f : ℕ) �
   pub end : {f : ℕ} {B₀ B : Lists} → f ≡ 6 → Turn f B₀ B → B ≡ facesDrawn s set quad base c 0 6 B₀
   unfolding facesDrawn
   end {f} {B₀} {B} e t = let n : 6 - f ≡ 0 = omega arith in sym (ap (λ (k : ℕ). facesDrawn s set quad base c f k B) n) ∙ t .whole
+
+-- ---- a cell that shows nothing
+pub zero-has : (f : ℕ) → has 0 f ≡ false
+zero-has f = rw (zero-div (2 ^ f))
+
+module _ (s : ℕ) (quad : ℕ → Quad) (base c : ℕ) where
+  -- n faces from f on, none of them in the set
+  abbrev bares : ℕ → ℕ → Lists → Lists
+  bares zero f B = B
+  bares (suc n) f B = bares n (suc f) (bareAt (keyOf c f) B)
+
+  none-drawn : (n f : ℕ) (B : Lists) → facesDrawn s 0 quad base c f n B ≡ bares n f B
+  unfolding facesDrawn
+  none-drawn zero f B = refl
+  none-drawn (suc n) f B =
+      ap (λ (b : Bool). facesDrawn s 0 quad base c (suc f) n (cond b (drawnAt s (base + rank 0 f) (quad f) B) (bareAt (keyOf c f) B))) (zero-has f)
+      ∙ none-drawn n (suc f) (bareAt (keyOf c f) B)
+
+  pub all-bare : (B : Lists) {n : ℕ} {slots : List ℕ} → n ≡ 0
+      → slots ≡ set (set (set (set (set (set (B .slots) (6 * c) NONE) (6 * c + 1) NONE) (6 * c + 2) NONE) (6 * c + 3) NONE) (6 * c + 4) NONE) (6 * c + 5) NONE
+      → listsOf (B .vertices) (B .triangles) (B .links) slots ≡ facesDrawn s n quad base c 0 6 B
+  unfolding bareAt
+  all-bare B e w =
+      ap (listsOf (B .vertices) (B .triangles) (B .links)) w ∙ zeroth ∙ sym (none-drawn 6 0 B)
+      ∙ ap (λ (k : ℕ). facesDrawn s k quad base c 0 6 B) (sym e)
+    where
+      zeroth : listsOf (B .vertices) (B .triangles) (B .links)
+          (set (set (set (set (set (set (B .slots) (6 * c) NONE) (6 * c + 1) NONE) (6 * c + 2) NONE) (6 * c + 3) NONE) (6 * c + 4) NONE) (6 * c + 5) NONE)
+          ≡ bares 6 0 B
+      zeroth = let z : 6 * c + 0 ≡ 6 * c = add-zero (6 * c) in rw z refl

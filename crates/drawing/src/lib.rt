@@ -147,8 +147,8 @@ fn draw_face(
     bare_face(slots, key(cell, face) as usize);
 }
 
-// The six faces of a cell.
-pub fn draw_cell(
+// The six faces of a cell, one after the other.
+fn draw_faces(
     vertices: &mut [u32],
     triangles: &mut [u32],
     links: &mut [u32],
@@ -186,4 +186,56 @@ pub fn draw_cell(
         );
         f += 1;
     }
+}
+
+// The six faces of a cell with no quad, whose slots start at a place.
+fn bare_cell(slots: &mut [u32], at: usize)
+    requires { ⌜ at + 6 ≤ length (now slots) ⌝ }
+    ensures { λ _. ⌜ now (slots .exit) ≡ set (set (set (set (set (set (now (slots .entry)) at NONE) (at + 1) NONE) (at + 2) NONE) (at + 3) NONE) (at + 4) NONE) (at + 5) NONE ⌝ }
+{
+    slots[at] = NONE;
+    slots[at + 1] = NONE;
+    slots[at + 2] = NONE;
+    slots[at + 3] = NONE;
+    slots[at + 4] = NONE;
+    slots[at + 5] = NONE;
+}
+
+// The six faces of a cell; most cells show none.
+pub fn draw_cell(
+    vertices: &mut [u32],
+    triangles: &mut [u32],
+    links: &mut [u32],
+    slots: &mut [u32],
+    cube: &[u32],
+    floats: usize,
+    cell: Cell,
+    at: Coordinates,
+    d: Triple,
+    set: u8,
+    base: usize,
+)
+    requires { ⌜ Ready (now cube) floats (grid.tripleOf at) (tripleOf d) set base (cell .0)
+        (listsOf (now vertices) (now triangles) (now links) (now slots)) ⌝ }
+    ensures { λ _. ⌜ listsOf (now (vertices .exit)) (now (triangles .exit)) (now (links .exit)) (now (slots .exit))
+        ≡ facesDrawn (4 * floats) set (quadOf (now (cube .entry)) floats (tripleOf d) (grid.tripleOf at) (cell .0))
+        base (cell .0) 0 6 (listsOf (now (vertices .entry)) (now (triangles .entry)) (now (links .entry)) (now (slots .entry))) ⌝ }
+{
+    if set == 0 {
+        bare_cell(slots, 6 * cell.0 as usize);
+        return;
+    }
+    draw_faces(
+        vertices,
+        triangles,
+        links,
+        slots,
+        cube,
+        floats,
+        cell,
+        at,
+        d,
+        set,
+        base,
+    );
 }

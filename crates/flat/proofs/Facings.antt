@@ -22,6 +22,7 @@ use Rattle.rules.specs.Calls.{Scene}
 use Rattle.rules.proofs.ListLaws.{split, and-true}
 use Rattle.mesh_metadata.proofs.Slots.{order}
 use Rattle.rules.proofs.Neighbours.{beside}
+use Rattle.drawing.proofs.Turns.{zero-has}
 use Rattle.util.specs.Grid.{Within}
 use Rattle.types.proofs.Known.{placed}
 use Rattle.voxel_mesh.proofs.Shapes.{row-within}
@@ -33,9 +34,6 @@ use Rattle.flat.specs.Facing.{Facing, facingBy, openBy}
 use Rattle.flat.specs.Holding.{Shaped}
 
 -- ---- types
-
-pub zero-has : (f : ℕ) → has 0 f ≡ false
-zero-has f = rw (zero-div (2 ^ f))
 
 pub past : (xs : List ℕ) (t : ℕ) → length xs ≤ t → getD xs t 0 ≡ 0
 past xs t h = List·getD-eq-default xs 0 h

@@ -1,7 +1,8 @@
 -- `sides::is_covering` meets its contract. Assumes nothing.
 use mathlib.Core.Path.{sym}
 use Rattle.face.specs.Face.{number}
-use Rattle.flat.proofs.Facings.{past, zero-has}
+use Rattle.drawing.proofs.Turns.{zero-has}
+use Rattle.flat.proofs.Facings.{past}
 use borrow.Author.Needs.{needs}
 use Rattle.sides.proofs.is_covering.Statement.{statement}
 use Rattle.sides.proofs.is_covering.Tie as tie
