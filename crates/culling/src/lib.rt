@@ -2,19 +2,20 @@
 use face::Cell;
 use face::Face;
 use face::has;
+use util::Coordinates;
 use util::Dimensions;
 use util::Neighbor;
-use util::get_neighbor;
+use util::neighbor_at;
 use util::wide;
 ghost use mathlib.Core.Path.{_≡_};
 ghost use mathlib.Core.Bool.{cond};
 ghost use mathlib.Core.List.{List};
 ghost use Prim.Native.Nat.{ℕ, _≤_, _<_};
 ghost use lib.ListN.{length, getD};
-ghost use Rattle.rules.specs.Cells.{setOf};
+ghost use Rattle.rules.specs.Cells.{setOf, coordinates};
 ghost use Rattle.rules.specs.Mesh.{drawn};
 ghost use Rattle.face.specs.Face.{number};
-ghost use Rattle.util.specs.Grid.{sizeOf};
+ghost use Rattle.util.specs.Grid.{sizeOf, tripleOf};
 ghost use Rattle.culling.specs.Culling.{worldOf, outerSet, shownAt, Laid};
 
 // The faces of the outer list.
@@ -33,14 +34,22 @@ pub fn outer_set(outer: &[u8]) -> u8
 }
 
 // Whether the neighbour leaves the side to be seen, or the outer list at the grid's edge.
-fn is_shown(dims: Dimensions, outer: u8, grid: &[u8], covers: &[u8], cell: Cell, face: Face) -> bool
-    requires { ⌜ Laid (sizeOf dims) (now grid) (length (now covers)) (cell .0) ⌝ }
+fn is_shown(
+    dims: Dimensions,
+    outer: u8,
+    grid: &[u8],
+    covers: &[u8],
+    cell: Cell,
+    at: Coordinates,
+    face: Face,
+) -> bool
+    requires { ⌜ Laid (sizeOf dims) (now grid) (length (now covers)) (cell .0) × (tripleOf at ≡ coordinates (sizeOf dims) (cell .0)) ⌝ }
     ensures { λ r. ⌜ ((faces : List ℕ) → outer ≡ outerSet faces → r ≡ shownAt (sizeOf dims) (now (covers .entry)) faces (now (grid .entry)) (cell .0) (number face)) ⌝ }
 {
-    match get_neighbor(cell, face, dims) {
+    match neighbor_at(cell, at, face, dims) {
         Neighbor::At(beside) => {
-            let at = beside.0 as usize;
-            let code = wide(grid[at]);
+            let next = beside.0 as usize;
+            let code = wide(grid[next]);
             let facing = face.opposite();
             !has(covers[code], facing)
         }
@@ -55,13 +64,14 @@ fn shown_side(
     grid: &[u8],
     covers: &[u8],
     cell: Cell,
+    at: Coordinates,
     face: Face,
     bit: u8,
 ) -> u8
-    requires { ⌜ Laid (sizeOf dims) (now grid) (length (now covers)) (cell .0) ⌝ }
+    requires { ⌜ Laid (sizeOf dims) (now grid) (length (now covers)) (cell .0) × (tripleOf at ≡ coordinates (sizeOf dims) (cell .0)) ⌝ }
     ensures { λ r. ⌜ ((faces : List ℕ) → outer ≡ outerSet faces → r ≡ cond (shownAt (sizeOf dims) (now (covers .entry)) faces (now (grid .entry)) (cell .0) (number face)) bit 0) × (r ≤ bit) ⌝ }
 {
-    if is_shown(dims, outer, grid, covers, cell, face) {
+    if is_shown(dims, outer, grid, covers, cell, at, face) {
         bit
     } else {
         0
@@ -76,19 +86,20 @@ pub fn drawn_set(
     kinds: &[u8],
     covers: &[u8],
     cell: Cell,
+    at: Coordinates,
 ) -> u8
-    requires { ⌜ Laid (sizeOf dims) (now grid) (length (now covers)) (cell .0) × (length (now covers) ≡ length (now kinds)) ⌝ }
+    requires { ⌜ Laid (sizeOf dims) (now grid) (length (now covers)) (cell .0) × (tripleOf at ≡ coordinates (sizeOf dims) (cell .0)) × (length (now covers) ≡ length (now kinds)) ⌝ }
     ensures { λ r. ⌜ ((faces : List ℕ) → outer ≡ outerSet faces → r ≡ setOf (drawn (worldOf (sizeOf dims) (now (kinds .entry)) (now (covers .entry))) faces (now (grid .entry)) (cell .0))) ⌝ }
 {
-    let at = cell.0 as usize;
-    let code = wide(grid[at]);
+    let here = cell.0 as usize;
+    let code = wide(grid[here]);
     if kinds[code] != 1 {
         return 0;
     }
-    shown_side(dims, outer, grid, covers, cell, Face::Top, 1)
-        + shown_side(dims, outer, grid, covers, cell, Face::Bottom, 2)
-        + shown_side(dims, outer, grid, covers, cell, Face::Right, 4)
-        + shown_side(dims, outer, grid, covers, cell, Face::Left, 8)
-        + shown_side(dims, outer, grid, covers, cell, Face::Back, 16)
-        + shown_side(dims, outer, grid, covers, cell, Face::Forward, 32)
+    shown_side(dims, outer, grid, covers, cell, at, Face::Top, 1)
+        + shown_side(dims, outer, grid, covers, cell, at, Face::Bottom, 2)
+        + shown_side(dims, outer, grid, covers, cell, at, Face::Right, 4)
+        + shown_side(dims, outer, grid, covers, cell, at, Face::Left, 8)
+        + shown_side(dims, outer, grid, covers, cell, at, Face::Back, 16)
+        + shown_side(dims, outer, grid, covers, cell, at, Face::Forward, 32)
 }

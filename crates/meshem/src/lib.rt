@@ -9,16 +9,18 @@ use culling::outer_set;
 use drawing::draw_cell;
 use face::Cell;
 use face::quads_of;
+use util::Coordinates;
 use util::Dimensions;
+use util::next_cords;
 use util::three_d_cords;
 use voxel_mesh::floats_of;
 ghost use mathlib.Core.Path.{_≡_};
 ghost use Prim.Native.Nat.{_+_, _<_};
 ghost use lib.ListN.{length};
-ghost use Rattle.rules.specs.Cells.{cells, quadsOf};
+ghost use Rattle.rules.specs.Cells.{cells, quadsOf, coordinates};
 ghost use Rattle.rules.specs.Mesh.{quadAt, listsOf};
 ghost use Rattle.rules.specs.Calls.{world, span, meshGrid};
-ghost use Rattle.util.specs.Grid.{sizeOf};
+ghost use Rattle.util.specs.Grid.{sizeOf, tripleOf};
 ghost use Rattle.admit.specs.Scenes.{sceneOf};
 ghost use Rattle.culling.specs.Culling.{worldOf, Laid};
 ghost use Rattle.drawing.specs.Drawn.{facesDrawn, cellsDrawn, asked};
@@ -62,15 +64,17 @@ fn side_set(
     kinds: &[u8],
     covers: &[u8],
     cell: Cell,
+    at: Coordinates,
 ) -> u8
-    requires { ⌜ Laid (sizeOf dims) (now grid) (length (now covers)) (cell .0) × (length (now covers) ≡ length (now kinds)) × (outer < 64) ⌝ }
+    requires { ⌜ Laid (sizeOf dims) (now grid) (length (now covers)) (cell .0) × (length (now covers) ≡ length (now kinds)) × (outer < 64)
+        × (tripleOf at ≡ coordinates (sizeOf dims) (cell .0)) ⌝ }
     ensures { λ r. ⌜ r ≡ setAt culling (worldOf (sizeOf dims) (now (kinds .entry)) (now (covers .entry))) (facesOf outer) (now (grid .entry)) (cell .0) ⌝ }
 {
     if culling {
-        return drawn_set(dims, outer, grid, kinds, covers, cell);
+        return drawn_set(dims, outer, grid, kinds, covers, cell, at);
     }
-    let at = cell.0 as usize;
-    let code = wide(grid[at]);
+    let here = cell.0 as usize;
+    let code = wide(grid[here]);
     if kinds[code] == 1 { 63 } else { 0 }
 }
 
@@ -88,10 +92,12 @@ fn count_quads(
 {
     let end = dims.cell_count();
     let mut n: usize = 0;
+    let mut at = three_d_cords(Cell(0), dims);
     let mut c: u32 = 0;
     while c < end {
-        let set = side_set(dims, culling, outer, grid, kinds, covers, Cell(c));
+        let set = side_set(dims, culling, outer, grid, kinds, covers, Cell(c), at);
         n += quads_of(set) as usize;
+        at = next_cords(Cell(c), at, dims);
         c += 1;
     }
     n
@@ -111,10 +117,12 @@ fn draw_sides(
     covers: &[u8],
     cubes: &[u32],
     cell: Cell,
+    at: Coordinates,
     base: usize,
 ) -> usize
     requires { ⌜ Meshable (sceneOf scene (now kinds) (now covers) (now cubes)) culling outer (now grid)
-        (listsOf (now vertices) (now triangles) (now links) (now slots)) (cell .0) base ⌝ }
+        (listsOf (now vertices) (now triangles) (now links) (now slots)) (cell .0) base
+        × (tripleOf at ≡ coordinates (sizeOf (scene .dims)) (cell .0)) ⌝ }
     ensures { λ r. ⌜ (r ≡ base + quadsOf (setAt culling (world (sceneOf scene (now (kinds .entry)) (now (covers .entry)) (now (cubes .entry)))) (facesOf outer) (now (grid .entry)) (cell .0)))
         × (listsOf (now (vertices .exit)) (now (triangles .exit)) (now (links .exit)) (now (slots .exit))
         ≡ facesDrawn (span (sceneOf scene (now (kinds .entry)) (now (covers .entry)) (now (cubes .entry))))
@@ -123,11 +131,11 @@ fn draw_sides(
         (listsOf (now (vertices .entry)) (now (triangles .entry)) (now (links .entry)) (now (slots .entry)))) ⌝ }
 {
     let dims = scene.dims;
-    let set = side_set(dims, culling, outer, grid, kinds, covers, cell);
+    let set = side_set(dims, culling, outer, grid, kinds, covers, cell, at);
     let floats = floats_of(scene.coloured);
-    let at = cell.0 as usize;
+    let here = cell.0 as usize;
     let words = 24 * floats;
-    let start = words * wide(grid[at]);
+    let start = words * wide(grid[here]);
     let end = start + words;
     draw_cell(
         vertices,
@@ -137,7 +145,7 @@ fn draw_sides(
         &cubes[start..end],
         floats,
         cell,
-        three_d_cords(cell, dims),
+        at,
         scene.d,
         set,
         base,
@@ -167,8 +175,10 @@ fn draw_cells(
         (quadAt (world (sceneOf scene (now (kinds .entry)) (now (covers .entry)) (now (cubes .entry)))) (now (grid .entry))) 0 0 (cells (sizeOf (scene .dims)))
         (listsOf (now (vertices .entry)) (now (triangles .entry)) (now (links .entry)) (now (slots .entry))) ⌝ }
 {
-    let end = scene.dims.cell_count();
+    let dims = scene.dims;
+    let end = dims.cell_count();
     let mut base: usize = 0;
+    let mut at = three_d_cords(Cell(0), dims);
     let mut c: u32 = 0;
     while c < end {
         base = draw_sides(
@@ -184,8 +194,10 @@ fn draw_cells(
             covers,
             cubes,
             Cell(c),
+            at,
             base,
         );
+        at = next_cords(Cell(c), at, dims);
         c += 1;
     }
 }

@@ -110,11 +110,37 @@ fn behind(cell: u32, step: u32, at: u32) -> Neighbor
     }
 }
 
-pub fn get_neighbor(cell: Cell, face: Face, dims: Dimensions) -> Neighbor
-    requires { ⌜ Within (sizeOf dims) × (cell .0 < cells (sizeOf dims)) ⌝ }
+// The coordinates of the cell after a cell, from its own.
+pub fn next_cords(cell: Cell, cords: Coordinates, dims: Dimensions) -> Coordinates
+    requires { ⌜ Within (sizeOf dims) × (cell .0 < cells (sizeOf dims)) × (tripleOf cords ≡ coordinates (sizeOf dims) (cell .0)) ⌝ }
+    ensures { λ r. ⌜ tripleOf r ≡ coordinates (sizeOf dims) (cell .0 + 1) ⌝ }
+{
+    if cords.x + 1 < dims.width {
+        return Coordinates {
+            x: cords.x + 1,
+            y: cords.y,
+            z: cords.z,
+        };
+    }
+    if cords.z + 1 < dims.length {
+        return Coordinates {
+            x: 0,
+            y: cords.y,
+            z: cords.z + 1,
+        };
+    }
+    Coordinates {
+        x: 0,
+        y: cords.y + 1,
+        z: 0,
+    }
+}
+
+// The neighbour of a cell whose coordinates are known.
+pub fn neighbor_at(cell: Cell, cords: Coordinates, face: Face, dims: Dimensions) -> Neighbor
+    requires { ⌜ Within (sizeOf dims) × (cell .0 < cells (sizeOf dims)) × (tripleOf cords ≡ coordinates (sizeOf dims) (cell .0)) ⌝ }
     ensures { λ r. ⌜ cellIn r ≡ neighbour (sizeOf dims) (cell .0) (number face) ⌝ }
 {
-    let cords = three_d_cords(cell, dims);
     let row = dims.width;
     let layer = dims.length * row;
     match face {
@@ -125,6 +151,13 @@ pub fn get_neighbor(cell: Cell, face: Face, dims: Dimensions) -> Neighbor
         Face::Back => ahead(cell.0, row, cords.z, dims.length),
         Face::Forward => behind(cell.0, row, cords.z),
     }
+}
+
+pub fn get_neighbor(cell: Cell, face: Face, dims: Dimensions) -> Neighbor
+    requires { ⌜ Within (sizeOf dims) × (cell .0 < cells (sizeOf dims)) ⌝ }
+    ensures { λ r. ⌜ cellIn r ≡ neighbour (sizeOf dims) (cell .0) (number face) ⌝ }
+{
+    neighbor_at(cell, three_d_cords(cell, dims), face, dims)
 }
 
 pub fn wide(code: u8) -> usize

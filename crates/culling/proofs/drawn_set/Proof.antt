@@ -29,8 +29,8 @@ isCube c t = eqb (getD (now (start c .args .kinds)) t 0) 1
 cube : (c : tie.After-wide) → isCube c (typeAt (now (start c .args .grid)) (start c .args .cell .0)) ≡ isCube c (c .wide .result)
 cube c = ap (isCube c) (sym (code c))
 
-cast-at : tie.Need-cast-at
-cast-at c = search needs
+cast-here : tie.Need-cast-here
+cast-here c = search needs
 
 shared-slice-read-wide : tie.Need-shared-slice-read-wide
 shared-slice-read-wide c = search needs
@@ -72,7 +72,7 @@ add-result-4 : tie.Need-add-result-4
 add-result-4 c = search needs
 
 shown-side-requires-6 : tie.Need-shown-side-requires-6
-shown-side-requires-6 c κs = search needs
+shown-side-requires-6 c κs = let s = start (c .before .before .before .before .before .before .before) in (s .pre .0, s .pre .1)
 
 add-result-5 : tie.Need-add-result-5
 add-result-5 c = search needs
@@ -93,7 +93,7 @@ pub drawn-set-spec : {M : Type 1} → statement M
 drawn-set-spec =
     tie.close
     (tie.spec
-    cast-at
+    cast-here
     shared-slice-read-wide
     wide-requires
     shared-slice-read-if1

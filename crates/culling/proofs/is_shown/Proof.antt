@@ -25,23 +25,23 @@ cell c = c .beside .given .0 .0 .0
 
 next : (c : tie.After-beside) → let args = start c .args in
     neighbour (sizeOf (args .dims)) (args .cell .0) (number (args .face)) ≡ some (cell c)
-next c = sym (c .before .before .get-neighbor .ensures) ∙ ap cellIn (c .beside .given .1)
+next c = sym (c .before .before .neighbor-at .ensures) ∙ ap cellIn (c .beside .given .1)
 
 inside : (c : tie.After-beside) → cell c < length (now (start c .args .grid))
 inside c =
     let face = start c .args .face in
-    let laid = start c .pre in
+    let laid = start c .pre .0 in
     let sides = laid .within .sides in
     rw (laid .whole) (beside _ (sides .wide) (sides .long) _ (laid .inside) (number face) _ (next c) .inside)
 
-get-neighbor-requires : tie.Need-get-neighbor-requires
-get-neighbor-requires c κs = search needs
+neighbor-at-requires : tie.Need-neighbor-at-requires
+neighbor-at-requires c κs = search needs
 
 enum-known-beside : tie.Need-enum-known-beside
 enum-known-beside c = search needs
 
-cast-at : tie.Need-cast-at
-cast-at c = search needs
+cast-next : tie.Need-cast-next
+cast-next c = search needs
 
 shared-slice-read-wide : tie.Need-shared-slice-read-wide
 shared-slice-read-wide c = inside (c .before .before .before)
@@ -53,7 +53,7 @@ opposite-requires : tie.Need-opposite-requires
 opposite-requires c κs = search needs
 
 shared-slice-read-has : tie.Need-shared-slice-read-has
-shared-slice-read-has c = let side = c .before .before .before .before .before .before in rw (c .before .before .wide .ensures) (start side .pre .typed _ (inside side))
+shared-slice-read-has c = let side = c .before .before .before .before .before .before in rw (c .before .before .wide .ensures) (start side .pre .0 .typed _ (inside side))
 
 has-requires : tie.Need-has-requires
 has-requires c κs = search needs
@@ -75,16 +75,16 @@ returns-2 c =
     λ faces e. let args = c .before .before .before .before .before .before .args in
     let face = number (args .face) in
     let edge : neighbour (sizeOf (args .dims)) (args .cell .0) face ≡ none =
-    sym (c .before .before .before .get-neighbor .ensures) ∙ ap cellIn (c .before .enum-told .given .1) in
+    sym (c .before .before .before .neighbor-at .ensures) ∙ ap cellIn (c .before .enum-told .given .1) in
     rw edge (ap not ((rw e at (c .has2 .ensures)) ∙ has-setOf (λ f. member f faces) face (number-below (args .face))))
 
 pub is-shown-spec : {M : Type 1} → statement M
 is-shown-spec =
     tie.close
     (tie.spec
-    get-neighbor-requires
+    neighbor-at-requires
     enum-known-beside
-    cast-at
+    cast-next
     shared-slice-read-wide
     wide-requires
     opposite-requires

@@ -30,22 +30,23 @@ scene s = let a = s .args in sceneOf (a .scene) (now (a .kinds)) (now (a .covers
 side-set-requires : tie.Need-side-set-requires
 side-set-requires c κs =
     let s = start c in
-    let r = s .pre .roomy in (
+    let r = s .pre .0 .roomy in (
       record {
         within = r .grid .within;
         whole = r .grid .whole;
         typed = λ k l. rw (r .types .covered) (r .grid .typed k l);
-        inside = s .pre .inside;
+        inside = s .pre .0 .inside;
       },
       r .types .covered,
       r .few,
+      s .pre .1,
     )
 
 floats-of-requires : tie.Need-floats-of-requires
 floats-of-requires c κs = search needs
 
-cast-at : tie.Need-cast-at
-cast-at c = search needs
+cast-here : tie.Need-cast-here
+cast-here c = search needs
 
 -- a vertex has 8 to 12 words
 narrow : (c : tie.After-floats-of) → c .floats-of .result ≤ 12
@@ -88,15 +89,12 @@ ends : (c : tie.After-wide) →
     24 * c .before .before .before .floats-of .result * c .wide .result + 24 * c .before .before .before .floats-of .result ≤ length (now (s .args .cubes))
 ends c =
     let s = start (c .before .before .before .before .before) in
-    let r = s .pre .roomy in
+    let r = s .pre .0 .roomy in
     rw (c .before .before .before .floats-of .ensures, c .wide .ensures .0)
-    (cube-part (scene s) (s .args .culling) (s .args .outer) (now (s .args .grid)) (r .grid) (r .types) (s .args .cell .0) (s .pre .inside))
+    (cube-part (scene s) (s .args .culling) (s .args .outer) (now (s .args .grid)) (r .grid) (r .types) (s .args .cell .0) (s .pre .0 .inside))
 
 part-draw-cell-end : tie.Need-part-draw-cell-end
 part-draw-cell-end c = ends (c .before .before .before .before)
-
-three-d-cords-requires : tie.Need-three-d-cords-requires
-three-d-cords-requires c κs = search needs
 
 -- the stretch that is lent is the cube of the cell's type
 cube-is : (c : tie.After-wide) →
@@ -106,8 +104,8 @@ cube-is : (c : tie.After-wide) →
     ≡ cubeOf (scene s .types) (typeAt (now (s .args .grid)) (s .args .cell .0))
 cube-is c =
     let s = start (c .before .before .before .before .before) in
-    let r = s .pre .roomy in
-    let t = type-is (scene s) (s .args .culling) (s .args .outer) (now (s .args .grid)) (r .grid) (r .types) (s .args .cell .0) (s .pre .inside) in
+    let r = s .pre .0 .roomy in
+    let t = type-is (scene s) (s .args .culling) (s .args .outer) (now (s .args .grid)) (r .grid) (r .types) (s .args .cell .0) (s .pre .0 .inside) in
     let n = 24 * c .before .before .before .floats-of .result in
     part-lent (n * c .wide .result) n (now (s .args .cubes))
     ∙ rw (c .before .before .before .floats-of .ensures, c .wide .ensures .0, t)
@@ -121,15 +119,15 @@ set-is c =
 
 draw-cell-requires : tie.Need-draw-cell-requires
 draw-cell-requires c κs =
-    let w = c .before .before .before .before .before .before in
+    let w = c .before .before .before .before .before in
     let f = w .before .before .before in
     let s = start (f .before .before) in
-    ready-by (scene s) (s .args .culling) (s .args .outer) (now (s .args .grid)) (s .args .cell .0) (cube-is w) (f .floats-of .ensures) (c .three-d-cords .ensures) (set-is (f .before)) (s .pre)
+    ready-by (scene s) (s .args .culling) (s .args .outer) (now (s .args .grid)) (s .args .cell .0) (cube-is w) (f .floats-of .ensures) (s .pre .1) (set-is (f .before)) (s .pre .0)
 
 quads-of-requires : tie.Need-quads-of-requires
 quads-of-requires c κs =
     let d = c .before .before .before .before .before .before .before .before in
-    let f = d .before .before .before .before .before .before .before .before .before .before in
+    let f = d .before .before .before .before .before .before .before .before .before in
     let s = start (f .before .before) in
     rw (set-is (f .before)) (set-below (s .args .culling) (world (scene s)) (facesOf (s .args .outer)) (now (s .args .grid)) (s .args .cell .0))
 
@@ -139,11 +137,11 @@ cast-result c = search needs
 add-result : tie.Need-add-result
 add-result c =
     let d = c .before .before .before .before .before .before .before .before .before in
-    let f = d .before .before .before .before .before .before .before .before .before .before in
+    let f = d .before .before .before .before .before .before .before .before .before in
     let s = start (f .before .before) in
-    let i = s .pre .inside in
-    let m = s .pre .roomy .grid .within .most in
-    let l = s .pre .low in
+    let i = s .pre .0 .inside in
+    let m = s .pre .0 .roomy .grid .within .most in
+    let l = s .pre .0 .low in
     omega (arith, c .quads-of .ensures, quads-le (f .before .side-set .result))
 
 same-length : tie.Need-same-length
@@ -161,14 +159,13 @@ same-length-4 c = search needs
 returns : tie.Need-returns
 returns c =
     let d = c .before .before .before .before .before .before .before .before .before in
-    let t = d .before in
-    let w = t .before .before .before .before .before .before in
+    let w = d .before .before .before .before .before .before in
     let f = w .before .before .before in
     let s = start (f .before .before) in
     let a = s .args in (
       ap (λ (q : ℕ). a .base + q) (c .quads-of .ensures ∙ ap quadsOf (set-is (f .before))),
       d .draw-cell .ensures
-          ∙ faces-by (scene s) (a .culling) (a .outer) (now (a .grid)) (a .cell .0) (cube-is w) (f .floats-of .ensures) (t .three-d-cords .ensures) (set-is (f .before))
+          ∙ faces-by (scene s) (a .culling) (a .outer) (now (a .grid)) (a .cell .0) (cube-is w) (f .floats-of .ensures) (s .pre .1) (set-is (f .before))
           (listsOf (now (a .vertices)) (now (a .triangles)) (now (a .links)) (now (a .slots))) (a .base),
     )
 
@@ -178,7 +175,7 @@ draw-sides-spec =
     (tie.spec
     side-set-requires
     floats-of-requires
-    cast-at
+    cast-here
     mul-words
     shared-slice-read-wide
     wide-requires
@@ -188,7 +185,6 @@ draw-sides-spec =
     sub-draw-cell
     part-draw-cell-start
     part-draw-cell-end
-    three-d-cords-requires
     draw-cell-requires
     quads-of-requires
     cast-result

@@ -43,8 +43,8 @@ returns c =
     let start = c .before .before .before .before .before in
     rw (c .before .if1 .taken) (c .drawn-set .ensures (facesOf (start .args .outer)) (outer-faces (start .args .outer) (start .pre .2)))
 
-cast-at : tie.Need-cast-at
-cast-at c = search needs
+cast-here : tie.Need-cast-here
+cast-here c = search needs
 
 shared-slice-read-wide : tie.Need-shared-slice-read-wide
 shared-slice-read-wide c = search needs
@@ -70,4 +70,4 @@ returns-3 c =
 pub side-set-spec : {M : Type 1} → statement M
 side-set-spec =
     tie.close
-    (tie.spec drawn-set-requires returns cast-at shared-slice-read-wide wide-requires shared-slice-read-if2 returns-2 returns-3)
+    (tie.spec drawn-set-requires returns cast-here shared-slice-read-wide wide-requires shared-slice-read-if2 returns-2 returns-3)

@@ -1,3 +1,4 @@
+-- `util::neighbor_at` meets its contract. Assumes nothing.
 use mathlib.Core.Path.{ap, _∙_}
 use native.Mathlib.Omega.{arith}
 use borrow.Author.Needs.{needs}
@@ -5,14 +6,11 @@ use Rattle.rules.specs.Cells.{Triple, neighbour}
 use Rattle.util.specs.Grid.{sizeOf}
 use Rattle.util.proofs.Cells.{layer-fits}
 use Rattle.util.proofs.Neighbors.{steps}
-use Rattle.util.proofs.get_neighbor.Statement.{statement}
-use Rattle.util.proofs.get_neighbor.Tie as tie
-
-three-d-cords-requires : tie.Need-three-d-cords-requires
-three-d-cords-requires c κs = search needs
+use Rattle.util.proofs.neighbor_at.Statement.{statement}
+use Rattle.util.proofs.neighbor_at.Tie as tie
 
 mul-layer : tie.Need-mul-layer
-mul-layer c = omega (arith, layer-fits (sizeOf (c .before .before .args .dims)) (c .before .before .pre .0 .sides))
+mul-layer c = omega (arith, layer-fits (sizeOf (c .before .args .dims)) (c .before .pre .0 .sides))
 
 enum-told : tie.Need-enum-told
 enum-told c = search needs
@@ -20,7 +18,7 @@ enum-told c = search needs
 ahead-requires : tie.Need-ahead-requires
 ahead-requires c κs =
     let at = c .before .before .before in
-    steps _ _ (at .before .pre .0) (at .before .pre .1) (at .three-d-cords .ensures) .top
+    steps _ _ (at .pre .0) (at .pre .1) (at .pre .2) .top
 
 enum-told-2 : tie.Need-enum-told-2
 enum-told-2 c = search needs
@@ -28,7 +26,7 @@ enum-told-2 c = search needs
 behind-requires : tie.Need-behind-requires
 behind-requires c κs =
     let at = c .before .before .before in
-    steps _ _ (at .before .pre .0) (at .before .pre .1) (at .three-d-cords .ensures) .bottom
+    steps _ _ (at .pre .0) (at .pre .1) (at .pre .2) .bottom
 
 enum-told-3 : tie.Need-enum-told-3
 enum-told-3 c = search needs
@@ -36,7 +34,7 @@ enum-told-3 c = search needs
 ahead-requires-2 : tie.Need-ahead-requires-2
 ahead-requires-2 c κs =
     let at = c .before .before .before in
-    steps _ _ (at .before .pre .0) (at .before .pre .1) (at .three-d-cords .ensures) .right
+    steps _ _ (at .pre .0) (at .pre .1) (at .pre .2) .right
 
 enum-told-4 : tie.Need-enum-told-4
 enum-told-4 c = search needs
@@ -44,7 +42,7 @@ enum-told-4 c = search needs
 behind-requires-2 : tie.Need-behind-requires-2
 behind-requires-2 c κs =
     let at = c .before .before .before in
-    steps _ _ (at .before .pre .0) (at .before .pre .1) (at .three-d-cords .ensures) .left
+    steps _ _ (at .pre .0) (at .pre .1) (at .pre .2) .left
 
 enum-told-5 : tie.Need-enum-told-5
 enum-told-5 c = search needs
@@ -52,7 +50,7 @@ enum-told-5 c = search needs
 ahead-requires-3 : tie.Need-ahead-requires-3
 ahead-requires-3 c κs =
     let at = c .before .before .before in
-    steps _ _ (at .before .pre .0) (at .before .pre .1) (at .three-d-cords .ensures) .back
+    steps _ _ (at .pre .0) (at .pre .1) (at .pre .2) .back
 
 enum-told-6 : tie.Need-enum-told-6
 enum-told-6 c = search needs
@@ -60,49 +58,48 @@ enum-told-6 c = search needs
 behind-requires-3 : tie.Need-behind-requires-3
 behind-requires-3 c κs =
     let at = c .before .before .before in
-    steps _ _ (at .before .pre .0) (at .before .pre .1) (at .three-d-cords .ensures) .forward
+    steps _ _ (at .pre .0) (at .pre .1) (at .pre .2) .forward
 
 returns : tie.Need-returns
 unfolding neighbour
 returns c =
     let at = c .before .before .before .before in
-    c .ahead .ensures ∙ rw (ap (λ (v : Triple). v .y) (at .three-d-cords .ensures), c .before .enum-told .given .1)
+    c .ahead .ensures ∙ rw (ap (λ (v : Triple). v .y) (at .pre .2), c .before .enum-told .given .1)
 
 returns-2 : tie.Need-returns-2
 unfolding neighbour
 returns-2 c =
     let at = c .before .before .before .before in
-    c .behind .ensures ∙ rw (ap (λ (v : Triple). v .y) (at .three-d-cords .ensures), c .before .enum-told2 .given .1)
+    c .behind .ensures ∙ rw (ap (λ (v : Triple). v .y) (at .pre .2), c .before .enum-told2 .given .1)
 
 returns-3 : tie.Need-returns-3
 unfolding neighbour
 returns-3 c =
     let at = c .before .before .before .before in
-    c .ahead2 .ensures ∙ rw (ap (λ (v : Triple). v .x) (at .three-d-cords .ensures), c .before .enum-told3 .given .1)
+    c .ahead2 .ensures ∙ rw (ap (λ (v : Triple). v .x) (at .pre .2), c .before .enum-told3 .given .1)
 
 returns-4 : tie.Need-returns-4
 unfolding neighbour
 returns-4 c =
     let at = c .before .before .before .before in
-    c .behind2 .ensures ∙ rw (ap (λ (v : Triple). v .x) (at .three-d-cords .ensures), c .before .enum-told4 .given .1)
+    c .behind2 .ensures ∙ rw (ap (λ (v : Triple). v .x) (at .pre .2), c .before .enum-told4 .given .1)
 
 returns-5 : tie.Need-returns-5
 unfolding neighbour
 returns-5 c =
     let at = c .before .before .before .before in
-    c .ahead3 .ensures ∙ rw (ap (λ (v : Triple). v .z) (at .three-d-cords .ensures), c .before .enum-told5 .given .1)
+    c .ahead3 .ensures ∙ rw (ap (λ (v : Triple). v .z) (at .pre .2), c .before .enum-told5 .given .1)
 
 returns-6 : tie.Need-returns-6
 unfolding neighbour
 returns-6 c =
     let at = c .before .before .before .before in
-    c .behind3 .ensures ∙ rw (ap (λ (v : Triple). v .z) (at .three-d-cords .ensures), c .before .enum-told6 .given .1)
+    c .behind3 .ensures ∙ rw (ap (λ (v : Triple). v .z) (at .pre .2), c .before .enum-told6 .given .1)
 
-pub get-neighbor-spec : {M : Type 1} → statement M
-get-neighbor-spec =
+pub neighbor-at-spec : {M : Type 1} → statement M
+neighbor-at-spec =
     tie.close
     (tie.spec
-    three-d-cords-requires
     mul-layer
     enum-told
     ahead-requires
