@@ -11,6 +11,8 @@ use culling::outer_set;
 use face::Cell;
 use face::NONE;
 use util::Dimensions;
+use util::next_cords;
+use util::three_d_cords;
 use words::first_wrong_quad;
 ghost use mathlib.Core.Path.{_≡_};
 ghost use mathlib.Core.Bool.{cond};
@@ -76,14 +78,16 @@ fn lowest_wrong_face(
     ensures { λ r. ⌜ ((faces : List ℕ) → outer ≡ outerSet faces → r ≡ lowest (6 * cells (sizeOf dims)) (wrongSlot (worldOf (sizeOf dims) (now (kinds .entry)) (now (covers .entry))) faces (now (grid .entry)) (now (slots .entry)))) ⌝ }
 {
     let cells = dims.cell_count();
+    let mut at = three_d_cords(Cell(0), dims);
     let mut cell: u32 = 0;
     while cell < cells {
-        let at = cell as usize;
-        let drawn = drawn_set(dims, outer, grid, kinds, covers, Cell(cell));
-        let filled = filled_set(slots, at);
+        let here = cell as usize;
+        let drawn = drawn_set(dims, outer, grid, kinds, covers, Cell(cell), at);
+        let filled = filled_set(slots, here);
         if drawn != filled {
-            return 6 * at + lowest_unlike(drawn, filled);
+            return 6 * here + lowest_unlike(drawn, filled);
         }
+        at = next_cords(Cell(cell), at, dims);
         cell += 1;
     }
     6 * cell as usize

@@ -5,10 +5,10 @@ use mathlib.Core.List.{List}
 use Prim.Native.Nat.{ℕ, _*_, _≤_, _<_, _-_}
 use denote.Ref.{now}
 use Rattle.rules.specs.Lists.{lowest}
-use Rattle.rules.specs.Cells.{cells, keyOf, has}
+use Rattle.rules.specs.Cells.{cells, keyOf, has, coordinates}
 use Rattle.rules.specs.Mesh.{World, drawn}
 use Rattle.rules.proofs.ListLaws.{lowestFrom-le}
-use Rattle.util.specs.Grid.{sizeOf}
+use Rattle.util.specs.Grid.{sizeOf, tripleOf}
 use Rattle.culling.specs.Culling.{worldOf, outerSet}
 use Rattle.checking.specs.Faces.{isFilled, unlike, wrongSlot}
 use Rattle.rules.proofs.Searches.{Searched, searched, ended}
@@ -19,11 +19,12 @@ use Rattle.checking.proofs.lowest_wrong_face.Statement.{statement}
 use Rattle.checking.proofs.lowest_wrong_face.Tie as tie
 
 abbrev Inv-loop : tie.InvT-loop
-Inv-loop dims outer grid kinds covers slots cells cell₀ cell =
+Inv-loop dims outer grid kinds covers slots cells at₀ cell₀ at cell =
     (cell ≤ cells) × ((faces : List ℕ) → outer ≡ outerSet faces → Searched (6 * cells) (wrongSlot (worldOf (sizeOf dims) kinds covers) faces grid slots) (6 * cell))
+    × (tripleOf at ≡ coordinates (sizeOf dims) cell)
 
 abbrev μ-loop : tie.MeasureT-loop
-μ-loop dims outer grid kinds covers slots cells cell₀ cell = cells - cell
+μ-loop dims outer grid kinds covers slots cells at₀ cell₀ at cell = cells - cell
 
 abbrev world : tie.Start Inv-loop μ-loop → World
 world c = worldOf (sizeOf (c .args .dims)) (now (c .args .kinds)) (now (c .args .covers))
@@ -31,36 +32,46 @@ world c = worldOf (sizeOf (c .args .dims)) (now (c .args .kinds)) (now (c .args 
 abbrev bad : tie.Start Inv-loop μ-loop → List ℕ → ℕ → Bool
 bad c faces = wrongSlot (world c) faces (now (c .args .grid)) (now (c .args .slots))
 
+abbrev start : tie.After-cell-count Inv-loop μ-loop → tie.Start Inv-loop μ-loop
+start c = c .before .before .before .before .before
+
+abbrev counted : tie.At-loop Inv-loop μ-loop → tie.After-cell-count Inv-loop μ-loop
+counted c = c .before .before
+
 few : (c : tie.After-cell-count Inv-loop μ-loop) → c .cell-count .result ≤ 1048576
-few c = omega (arith, c .cell-count .ensures, c .before .before .before .before .before .pre .0 .within .most)
+few c = omega (arith, c .cell-count .ensures, start c .pre .0 .within .most)
 
 -- the cell at hand is in the grid
-inside : (c : tie.In-loop Inv-loop μ-loop) → c .before .loop .cell < cells (sizeOf (c .before .before .before .before .before .before .before .args .dims))
-inside c = omega (arith, c .before .before .cell-count .ensures, c .loop-test .taken)
+inside : (c : tie.In-loop Inv-loop μ-loop) → c .before .loop .cell < cells (sizeOf (start (counted (c .before)) .args .dims))
+inside c = omega (arith, counted (c .before) .cell-count .ensures, c .loop-test .taken)
 
 by-rule : (c : tie.After-cell-count Inv-loop μ-loop) (faces : List ℕ)
-    → lowest (6 * c .cell-count .result) (bad (c .before .before .before .before .before) faces) ≡ lowest (6 * cells (sizeOf (c .before .before .before .before .before .args .dims))) (bad (c .before .before .before .before .before) faces)
-by-rule c faces = ap (λ (n : ℕ). lowest (6 * n) (bad (c .before .before .before .before .before) faces)) (c .cell-count .ensures)
+    → lowest (6 * c .cell-count .result) (bad (start c) faces) ≡ lowest (6 * cells (sizeOf (start c .args .dims))) (bad (start c) faces)
+by-rule c faces = ap (λ (n : ℕ). lowest (6 * n) (bad (start c) faces)) (c .cell-count .ensures)
 
 cell-count-requires : tie.Need-cell-count-requires Inv-loop μ-loop
 cell-count-requires c κs = c .before .before .before .before .pre .0 .within .sides
 
-loop-holds : tie.Need-loop-holds Inv-loop μ-loop
-loop-holds c = (omega arith, λ faces e. searched _ _)
+three-d-cords-requires : tie.Need-three-d-cords-requires Inv-loop μ-loop
+three-d-cords-requires c κs = start c .pre .0 .within
 
-cast-at : tie.Need-cast-at Inv-loop μ-loop
-cast-at c = search needs
+loop-holds : tie.Need-loop-holds Inv-loop μ-loop
+loop-holds c = (omega arith, λ faces e. searched _ _, c .three-d-cords .ensures)
+
+cast-here : tie.Need-cast-here Inv-loop μ-loop
+cast-here c = search needs
 
 drawn-set-requires : tie.Need-drawn-set-requires Inv-loop μ-loop
 drawn-set-requires c κs =
-    let ok = c .before .before .before .before .before .before .before .pre .0 in
-    (record { within = ok .within; whole = ok .whole; typed = ok .typed; inside = inside c }, c .before .before .before .before .before .before .before .pre .1)
+    let pre = start (counted (c .before)) .pre in
+    let ok = pre .0 in
+    (record { within = ok .within; whole = ok .whole; typed = ok .typed; inside = inside c }, c .before .loop .inv .2, pre .1)
 
 filled-set-requires : tie.Need-filled-set-requires Inv-loop μ-loop
-filled-set-requires c κs = omega (arith, inside (c .before), c .before .before .before .before .before .before .before .before .pre .0 .slotted)
+filled-set-requires c κs = omega (arith, inside (c .before), start (counted (c .before .before)) .pre .0 .slotted)
 
 mul-result : tie.Need-mul-result Inv-loop μ-loop
-mul-result c = omega (arith, few (c .before .before .before .before .before), c .before .before .before .loop-test .taken)
+mul-result c = omega (arith, few (counted (c .before .before .before .before)), c .before .before .before .loop-test .taken)
 
 lowest-unlike-requires : tie.Need-lowest-unlike-requires Inv-loop μ-loop
 lowest-unlike-requires c κs = search needs
@@ -68,19 +79,26 @@ lowest-unlike-requires c κs = search needs
 add-result : tie.Need-add-result Inv-loop μ-loop
 add-result c =
     let differs : ℕ → Bool = λ f. unlike (has (c .before .before .before .drawn-set .result) f) (has (c .before .before .filled-set .result) f) in
-    omega (arith, few (c .before .before .before .before .before .before), c .before .before .before .before .loop-test .taken, c .lowest-unlike .ensures, lowestFrom-le 6 0 differs)
+    omega (arith, few (counted (c .before .before .before .before .before)), c .before .before .before .before .loop-test .taken, c .lowest-unlike .ensures, lowestFrom-le 6 0 differs)
 
 returns : tie.Need-returns Inv-loop μ-loop
 returns c =
-    λ faces e. let start = c .before .before .before .before .before .before .before .before .before .before .before in
-    let slots = now (start .args .slots) in
-    let cell = c .before .before .before .before .before .loop .cell in
-    let h : cell < c .before .before .before .before .before .before .cell-count .result = c .before .before .before .before .loop-test .taken in
+    λ faces e. let looped = c .before .before .before .before .before in
+    let all = counted looped in
+    let s = start all in
+    let slots = now (s .args .slots) in
+    let cell = looped .loop .cell in
+    let h : cell < all .cell-count .result = c .before .before .before .before .loop-test .taken in
     rw (c .lowest-unlike .ensures)
-    (first-unlike (6 * c .before .before .before .before .before .before .cell-count .result) cell (bad start faces) (drawn (world start) faces (now (start .args .grid)) cell) (λ f. isFilled slots (keyOf cell f))
-    (c .before .before .before .drawn-set .result) (c .before .before .filled-set .result) (key-slot (world start) faces (now (start .args .grid)) slots cell)
-    (c .before .before .before .drawn-set .ensures faces e) (c .before .before .filled-set .ensures) (omega arith) (c .before .before .before .before .before .loop .inv .1 faces e) (λ same. omega (arith, c .before .if1 .taken))
-    ∙ by-rule (c .before .before .before .before .before .before) faces)
+    (first-unlike (6 * all .cell-count .result) cell (bad s faces) (drawn (world s) faces (now (s .args .grid)) cell) (λ f. isFilled slots (keyOf cell f))
+    (c .before .before .before .drawn-set .result) (c .before .before .filled-set .result) (key-slot (world s) faces (now (s .args .grid)) slots cell)
+    (c .before .before .before .drawn-set .ensures faces e) (c .before .before .filled-set .ensures) (omega arith) (looped .loop .inv .1 faces e) (λ same. omega (arith, c .before .if1 .taken))
+    ∙ by-rule all faces)
+
+next-cords-requires : tie.Need-next-cords-requires Inv-loop μ-loop
+next-cords-requires c κs =
+    let test = c .before .before .before in
+    (start (counted (test .before)) .pre .0 .within, inside test, test .before .loop .inv .2)
 
 add-cell : tie.Need-add-cell Inv-loop μ-loop
 add-cell c = search needs
@@ -91,23 +109,27 @@ loop-less c = search needs
 loop-again : tie.Need-loop-again Inv-loop μ-loop
 loop-again c = (
   omega arith,
-  λ faces e. let start = c .before .before .before .before .before .before .before .before .before .before in
-      let slots = now (start .args .slots) in
-      let cell = c .before .before .before .before .loop .cell in
-      let h : cell < c .before .before .before .before .before .cell-count .result = c .before .before .before .loop-test .taken in
-      all-like (6 * c .before .before .before .before .before .cell-count .result) cell (bad start faces) (drawn (world start) faces (now (start .args .grid)) cell) (λ f. isFilled slots (keyOf cell f))
-      (c .before .before .drawn-set .result) (c .before .filled-set .result) (key-slot (world start) faces (now (start .args .grid)) slots cell)
-      (c .before .before .drawn-set .ensures faces e) (c .before .filled-set .ensures) (omega arith) (c .before .before .before .before .loop .inv .1 faces e) (c .if1 .left),
+  λ faces e. let alike = c .before in
+      let looped = alike .before .before .before .before in
+      let all = counted looped in
+      let s = start all in
+      let slots = now (s .args .slots) in
+      let cell = looped .loop .cell in
+      let h : cell < all .cell-count .result = alike .before .before .before .loop-test .taken in
+      all-like (6 * all .cell-count .result) cell (bad s faces) (drawn (world s) faces (now (s .args .grid)) cell) (λ f. isFilled slots (keyOf cell f))
+      (alike .before .before .drawn-set .result) (alike .before .filled-set .result) (key-slot (world s) faces (now (s .args .grid)) slots cell)
+      (alike .before .before .drawn-set .ensures faces e) (alike .before .filled-set .ensures) (omega arith) (looped .loop .inv .1 faces e) (alike .if1 .left),
+  c .next-cords .ensures,
 )
 
 cast-result : tie.Need-cast-result Inv-loop μ-loop
 cast-result c = search needs
 
 mul-result-2 : tie.Need-mul-result-2 Inv-loop μ-loop
-mul-result-2 c = omega (arith, few (c .before .before))
+mul-result-2 c = omega (arith, few (counted (c .before)))
 
 returns-2 : tie.Need-returns-2 Inv-loop μ-loop
-returns-2 c = λ faces e. ended _ _ (6 * c .before .loop .cell) (omega arith) (c .before .loop .inv .1 faces e) ∙ by-rule (c .before .before) faces
+returns-2 c = λ faces e. ended _ _ (6 * c .before .loop .cell) (omega arith) (c .before .loop .inv .1 faces e) ∙ by-rule (counted (c .before)) faces
 
 pub lowest-wrong-face-spec : {M : Type 1} → statement M
 lowest-wrong-face-spec =
@@ -116,14 +138,16 @@ lowest-wrong-face-spec =
     Inv-loop
     μ-loop
     cell-count-requires
+    three-d-cords-requires
     loop-holds
-    cast-at
+    cast-here
     drawn-set-requires
     filled-set-requires
     mul-result
     lowest-unlike-requires
     add-result
     returns
+    next-cords-requires
     add-cell
     loop-less
     loop-again

@@ -70,9 +70,11 @@ add-n c = omega (arith, c .quads-of .ensures, quads-le (c .before .side-set .res
 
 next-cords-requires : tie.Need-next-cords-requires Inv-loop μ-loop
 next-cords-requires c κs =
-    let l = c .before .before .before .loop in
-    (c .before .before .before .before .before .before .before .before .before .pre .0 .within,
-      omega (arith, l .inv .1, c .before .before .loop-test .taken), l .inv .4)
+    let l = c .before .before .before .loop in (
+      c .before .before .before .before .before .before .before .before .before .pre .0 .within,
+      omega (arith, l .inv .1, c .before .before .loop-test .taken),
+      l .inv .4,
+    )
 
 add-c : tie.Need-add-c Inv-loop μ-loop
 add-c c = omega (arith, c .before .before .before .loop-test .taken)
