@@ -3,6 +3,27 @@
 //!
 //! Per quad: four vertices of 8 or 12 floats, six triangle words, one link (which cell and face it is). Per cell: six slots (which
 //! vertex each face's quad starts at, [`NO_QUAD`] for none). The room in quads is what the shortest of vertices, triangles and links holds.
+//!
+//! ```
+//! use nalumoce::lent::{self, Room};
+//! # use nalumoce::*;
+//! # let mut registry = VoxelRegistry::new([1.0; 3], [0.0; 3], false);
+//! # let texture = Face::ALL.map(|face| (face, [0, 0]));
+//! # let cube = generate_voxel_mesh([1.0; 3], [1, 1], texture, [0.0; 3], 0.0, None, 1.0)?;
+//! # let air = registry.add(VoxelMesh::Null, Sides::NONE)?;
+//! # let rock = registry.add(VoxelMesh::NormalCube(&cube), Sides::ALL)?;
+//! let (dims, grid) = ((2, 1, 1), [rock, rock]);
+//! let (mut vertices, mut triangles, mut links, mut slots) = ([0.0; 16 * 32], [0; 16 * 6], [0; 16], [0; 2 * 6]);
+//! let mut room = Room { vertices: &mut vertices, triangles: &mut triangles, links: &mut links, slots: &mut slots };
+//! let quads = lent::mesh_grid(dims, &[], &grid, &registry, MeshingAlgorithm::Culling, &mut room)?;
+//! assert_eq!(quads, 10);
+//!
+//! let mut log = Log::new();
+//! log.push(VoxelChange::Broken, 0, rock, neighboring_voxels(&grid, 0, dims));
+//! let updated = lent::update_mesh(&mut room, quads, dims, &log, &registry)?;
+//! lent::check_mesh(dims, &[], &[air, rock], &registry, room.lists(), updated.quads)?;
+//! # Ok::<(), Refusal>(())
+//! ```
 
 use crate::raw::{self, Told};
 use crate::{Dimensions, Face, Log, MeshingAlgorithm, Reason, Refusal, VoxelRegistry};
