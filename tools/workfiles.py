@@ -113,4 +113,5 @@ def main():
         out.write("cases %d right %d\n" % (len(told) + 1, len(told) + 1))
 
 
-main()
+if __name__ == "__main__":
+    main()

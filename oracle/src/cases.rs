@@ -288,7 +288,7 @@ pub fn entry(cell: usize, change: u8, voxel: u8, neighbours: &[u8]) -> Vec<u8> {
 }
 
 /// x, y, z of a cell.
-fn coordinates([width, _, length]: [u32; 3], cell: usize) -> [u32; 3] {
+pub fn coordinates([width, _, length]: [u32; 3], cell: usize) -> [u32; 3] {
     let cell = cell as u32;
     [cell % width, cell / (length * width), cell / width % length]
 }
@@ -299,7 +299,7 @@ fn cell_at([width, height, length]: [u32; 3], [x, y, z]: [u32; 3]) -> Option<usi
 }
 
 /// The cell on a side, for writing honest entries.
-fn neighbour(dims: [u32; 3], cell: usize, face: usize) -> Option<usize> {
+pub fn neighbour(dims: [u32; 3], cell: usize, face: usize) -> Option<usize> {
     let mut at = coordinates(dims, cell);
     let along = &mut at[[1, 0, 2][face / 2]];
     *along = if face % 2 == 0 { *along + 1 } else { along.wrapping_sub(1) };

@@ -63,10 +63,10 @@ pub const fn floats(coloured: bool) -> usize {
     }
 }
 
-/// The 24 vertices of `generate_voxel_mesh`, whose 36 indices have to be 01's constant.
-pub fn cube(p: &CubeParameters) -> Vec<u32> {
+/// `generate_voxel_mesh`.
+pub fn voxel_mesh(p: &CubeParameters) -> Mesh {
     let entry = |i: usize| (Face::from(p.texture[3 * i] as usize), [p.texture[3 * i + 1], p.texture[3 * i + 2]]);
-    let mesh = generate_voxel_mesh(
+    generate_voxel_mesh(
         p.d.map(f32::from_bits),
         p.atlas,
         std::array::from_fn(entry),
@@ -74,7 +74,12 @@ pub fn cube(p: &CubeParameters) -> Vec<u32> {
         f32::from_bits(p.padding),
         p.coloured.then_some(f32::from_bits(p.colour)),
         f32::from_bits(p.alpha),
-    );
+    )
+}
+
+/// The 24 vertices of `generate_voxel_mesh`, whose 36 indices have to be 01's constant.
+pub fn cube(p: &CubeParameters) -> Vec<u32> {
+    let mesh = voxel_mesh(p);
     assert_eq!(indices_of(&mesh), &cube_indices(), "the cube's indices");
     vertices_of(&mesh, p.coloured)
 }

@@ -1,0 +1,360 @@
+//! The static library's speed beside the Rust's, and beside reading or setting the same bytes.
+//!
+//!     bench [SECONDS [SEED]]
+//!
+//! Every row is timed in rounds. A round runs each subject once, the first last in every other round; a row's figure is the median
+//! of its rounds. SECONDS (110) is shared out among the rows, set-up included; each has three rounds at least. Before a row is timed,
+//! the two answers are compared word for word. The last table holds the figures to their goals.
+
+use oracle::calls::Calls;
+use oracle::cases::{coordinates, cube_of, entry, neighbour, Case, Random};
+use oracle::library::Library;
+use oracle::rust::{self, cube, floats, Registry, Types, Words, ENTRY, OUTSIDE};
+use std::hint::black_box;
+use std::time::{Duration, Instant};
+
+const ROWS: u32 = 14;
+const MOST_ROUNDS: usize = 201;
+
+fn main() {
+    let mut arguments = std::env::args().skip(1).map(|argument| argument.parse().expect("a number"));
+    let (seconds, seed) = (arguments.next().unwrap_or(110), arguments.next().unwrap_or(1));
+    let bench = Bench { share: Duration::from_secs(seconds) / ROWS };
+    println!("{WHAT_IS_DONE}\nSeed {seed}.\n");
+    let rows = rows(&bench, &mut Random(seed));
+    println!("| | quads | Rust | library | Rust / library | MB | those bytes | library / bytes | rounds |");
+    println!("|---|---|---|---|---|---|---|---|---|");
+    rows.iter().for_each(Row::print);
+    println!("\n| Goal | Asked | Measured | |\n|---|---|---|---|");
+    goals(&rows).iter().for_each(Goal::print);
+}
+
+const WHAT_IS_DONE: &str = "\
+The Rust: `mesh_grid` into lists that it allocates, and `update_mesh` after the log has been handed to `MeshMD::log`.
+The library: the C calls on lent lists; each tests its whole input first, an update the whole mesh it is given.
+Those bytes: for a fresh mesh and a cube, setting every byte that the call writes; for an update and the check, summing every word that
+its tests read, once a call. Rust and library start from equal meshes and end with equal ones. Freeing what the Rust allocated is timed
+for a cube alone.
+";
+
+/// A figure of one row, in seconds.
+struct Row {
+    name: String,
+    quads: u64,
+    rust: Option<f64>,
+    library: f64,
+    bytes: usize,
+    plain: f64,
+    rounds: usize,
+}
+
+impl Row {
+    fn print(&self) {
+        let rust = self.rust.map_or("none".into(), time);
+        let ratio = self.rust.map_or("".into(), |rust| format!("{:.1}", rust / self.library));
+        let megabytes = self.bytes as f64 / 1e6;
+        println!(
+            "| {} | {} | {rust} | {} | {ratio} | {megabytes:.3} | {} | {:.1} | {} |",
+            self.name,
+            self.quads,
+            time(self.library),
+            time(self.plain),
+            self.library / self.plain,
+            self.rounds
+        );
+    }
+}
+
+fn time(seconds: f64) -> String {
+    match seconds {
+        s if s < 1e-6 => format!("{:.0} ns", s * 1e9),
+        s if s < 1e-3 => format!("{:.1} µs", s * 1e6),
+        s => format!("{:.2} ms", s * 1e3),
+    }
+}
+
+struct Goal {
+    what: &'static str,
+    asked: String,
+    measured: String,
+    met: bool,
+}
+
+impl Goal {
+    fn at_least(what: &'static str, bound: f64, measured: f64) -> Goal {
+        let [asked, told] = [bound, measured].map(|times| format!("{times:.1} times"));
+        Goal { what, asked: format!("at least {asked}"), measured: told, met: measured >= bound }
+    }
+
+    fn print(&self) {
+        println!("| {} | {} | {} | {} |", self.what, self.asked, self.measured, if self.met { "met" } else { "missed" });
+    }
+}
+
+fn goals(rows: &[Row]) -> Vec<Goal> {
+    let row = |name: &str| rows.iter().find(|row| row.name == name).expect("a row of that name");
+    let ratio = |name: &str| row(name).rust.expect("the Rust's figure") / row(name).library;
+    let call = row("200 edits, one a call (each)").library;
+    let check = row("check, 32³ terrain").library / row("fresh, 32³ terrain").library;
+    vec![
+        Goal::at_least("fresh mesh, 32³ terrain: the Rust's time over the library's", 37.0, ratio("fresh, 32³ terrain")),
+        Goal::at_least("200 edits in one log: the same", 6.0, ratio("200 edits in one log")),
+        Goal::at_least("5,000 edits in one log: the same", 15.0, ratio("5,000 edits in one log")),
+        Goal {
+            what: "a call with one edit, 32³ terrain",
+            asked: "at most 33 µs × 1.5 = 49.5 µs".into(),
+            measured: time(call),
+            met: call <= 49.5e-6,
+        },
+        Goal {
+            what: "the check, over a fresh mesh of the same ground",
+            asked: "at most 1.2 × 1.5 = 1.8 times".into(),
+            measured: format!("{check:.2} times"),
+            met: check <= 1.8,
+        },
+    ]
+}
+
+fn rows(bench: &Bench, random: &mut Random) -> Vec<Row> {
+    let mut rows = vec![];
+    for (name, dims) in [("16³", [16; 3]), ("32³", [32; 3]), ("64³", [64; 3])] {
+        rows.push(bench.fresh(format!("fresh, {name} terrain"), &terrain(random, dims)));
+        rows.push(bench.fresh(format!("fresh, {name} half full"), &half_full(random, dims)));
+    }
+    rows.push(bench.fresh("fresh, 16×256×16 terrain".into(), &terrain(random, [16, 256, 16])));
+    rows.push(bench.fresh("fresh, 128×128×64 terrain".into(), &terrain(random, [128, 128, 64])));
+
+    let ground = terrain(random, [32; 3]);
+    for (name, entries) in [("200 edits", 200), ("5,000 edits", 5_000)] {
+        let case = Case { log: edits(random, &ground, entries), ..ground.clone() };
+        rows.push(bench.update(format!("{name} in one log"), &case, case.log.len()));
+        rows.push(bench.update(format!("{name}, one a call (each)"), &case, ENTRY));
+    }
+    rows.push(bench.check("check, 32³ terrain".into(), &ground));
+    rows.push(bench.cube());
+    assert_eq!(rows.len(), ROWS as usize);
+    rows
+}
+
+struct Bench {
+    share: Duration,
+}
+
+type Subject<'a> = &'a mut dyn FnMut() -> Duration;
+
+impl Bench {
+    /// The median time of each subject, and the number of rounds. A subject answers how long its timed part took.
+    fn interleaved<const N: usize>(&self, subjects: [Subject; N]) -> ([f64; N], usize) {
+        let mut times = [(); N].map(|()| vec![]);
+        let start = Instant::now();
+        for round in 0..MOST_ROUNDS {
+            if round >= 3 && start.elapsed() > self.share {
+                break;
+            }
+            for turn in 0..N {
+                let which = if round % 2 == 0 { turn } else { N - 1 - turn };
+                times[which].push(subjects[which]().as_secs_f64());
+            }
+        }
+        let rounds = times[0].len();
+        (times.map(median), rounds)
+    }
+
+    fn fresh(&self, name: String, case: &Case) -> Row {
+        let registry = Registry::of(&case.types);
+        let expected = rust_mesh(case, &registry).words();
+        let quads = expected.links.len();
+        let mut room = room_for(quads, case);
+        assert_eq!(Library.mesh_grid(case, &mut room).quads, quads as u64);
+        assert!(room == expected, "{name}: the two meshes differ");
+        let mut lists = room.clone();
+        let ([rust, library, plain], rounds) = self.interleaved([
+            &mut || timed(|| rust_mesh(case, &registry)),
+            &mut || timed(|| Library.mesh_grid(case, &mut room)),
+            &mut || timed(|| set(&mut lists)),
+        ]);
+        Row { name, quads: quads as u64, rust: Some(rust), library, bytes: bytes_of(&expected), plain, rounds }
+    }
+
+    /// A log in calls of `step` bytes each; the figures are those of one call.
+    fn update(&self, name: String, case: &Case, step: usize) -> Row {
+        let registry = Registry::of(&case.types);
+        let mut meshed = rust_mesh(case, &registry);
+        let fresh = meshed.words();
+        meshed.update(&registry, &case.log);
+        let expected = meshed.words();
+        let most = fresh.links.len() + 6 * case.log.len() / ENTRY;
+        let start = with_room(&fresh, most, case);
+        let mut call = Case { grid: vec![], log: vec![0; step], ..case.clone() };
+        let mut mend = |room: &mut Words| {
+            let mut quads = fresh.links.len() as u64;
+            for part in case.log.chunks_exact(step) {
+                call.log.copy_from_slice(part);
+                let answer = Library.update_mesh(&call, room, quads);
+                assert_eq!(answer.number, 0);
+                quads = answer.quads;
+            }
+            quads
+        };
+        let mut room = start.clone();
+        let quads = mend(&mut room);
+        let length = expected.links.len();
+        assert_eq!(quads, length as u64, "{name}");
+        assert!(room.links[..length] == expected.links && room.slots == expected.slots, "{name}: the two indexes differ");
+        assert!(room.vertices[..expected.vertices.len()] == expected.vertices, "{name}: the two meshes differ");
+
+        let tested = Words { vertices: vec![], ..fresh.clone() };
+        let ([rust, library, plain], rounds) = self.interleaved([
+            &mut || {
+                let mut meshed = rust_mesh(case, &registry);
+                timed(|| case.log.chunks_exact(step).for_each(|part| meshed.update(&registry, part)))
+            },
+            &mut || {
+                room.clone_from(&start);
+                timed(|| mend(&mut room))
+            },
+            &mut || timed(|| sum(&tested)),
+        ]);
+        let calls = (case.log.len() / step) as f64;
+        let quads = fresh.links.len() as u64;
+        Row { name, quads, rust: Some(rust / calls), library: library / calls, bytes: bytes_of(&tested), plain, rounds }
+    }
+
+    fn check(&self, name: String, case: &Case) -> Row {
+        let mesh = rust_mesh(case, &Registry::of(&case.types)).words();
+        let quads = mesh.links.len() as u64;
+        assert_eq!(Library.check_mesh(case, &mesh, quads).number, 0);
+        let ([library, plain], rounds) =
+            self.interleaved([&mut || timed(|| Library.check_mesh(case, &mesh, quads)), &mut || timed(|| sum(&mesh))]);
+        Row { name, quads, rust: None, library, bytes: bytes_of(&mesh), plain, rounds }
+    }
+
+    fn cube(&self) -> Row {
+        const TIMES: u32 = 1000;
+        let parameters = cube_of(1.0, 0);
+        let expected = cube(&parameters);
+        let mut out = vec![0; expected.len()];
+        assert_eq!(Library.generate_voxel_mesh(&parameters, &mut out).number, 0);
+        assert_eq!(out, expected);
+        let mut set_out = out.clone();
+        let ([rust, library, plain], rounds) = self.interleaved([
+            &mut || timed(|| (0..TIMES).for_each(|_| drop(black_box(rust::voxel_mesh(black_box(&parameters)))))),
+            &mut || timed(|| (0..TIMES).for_each(|_| _ = black_box(Library.generate_voxel_mesh(&parameters, &mut out)))),
+            &mut || timed(|| (0..TIMES).for_each(|_| black_box(&mut set_out).fill(0))),
+        ]);
+        let [rust, library, plain] = [rust, library, plain].map(|seconds| seconds / TIMES as f64);
+        Row { name: "a cube".into(), quads: 6, rust: Some(rust), library, bytes: 4 * expected.len(), plain, rounds }
+    }
+}
+
+/// How long the work takes; what it makes is dropped after the clock has stopped.
+fn timed<T>(work: impl FnOnce() -> T) -> Duration {
+    let start = Instant::now();
+    let made = black_box(work());
+    let time = start.elapsed();
+    drop(made);
+    time
+}
+
+fn median(mut times: Vec<f64>) -> f64 {
+    times.sort_by(f64::total_cmp);
+    times[times.len() / 2]
+}
+
+fn rust_mesh(case: &Case, registry: &Registry) -> rust::Meshed {
+    rust::mesh(case.dims, &case.outer, &case.grid, registry, case.naive)
+}
+
+fn room_for(quads: usize, case: &Case) -> Words {
+    Words {
+        vertices: vec![0; 4 * floats(case.types.coloured) * quads],
+        triangles: vec![0; 6 * quads],
+        links: vec![0; quads],
+        slots: vec![0; 6 * case.grid.len()],
+    }
+}
+
+/// A mesh in lists with room for more.
+fn with_room(mesh: &Words, quads: usize, case: &Case) -> Words {
+    let mut room = room_for(quads, case);
+    room.vertices[..mesh.vertices.len()].copy_from_slice(&mesh.vertices);
+    room.triangles[..mesh.triangles.len()].copy_from_slice(&mesh.triangles);
+    room.links[..mesh.links.len()].copy_from_slice(&mesh.links);
+    room.slots.copy_from_slice(&mesh.slots);
+    room
+}
+
+fn bytes_of(mesh: &Words) -> usize {
+    4 * [&mesh.vertices, &mesh.triangles, &mesh.links, &mesh.slots].map(Vec::len).iter().sum::<usize>()
+}
+
+fn set(lists: &mut Words) {
+    for list in [&mut lists.vertices, &mut lists.triangles, &mut lists.links, &mut lists.slots] {
+        black_box(list).fill(0);
+    }
+}
+
+fn sum(mesh: &Words) -> u32 {
+    let total = |list: &Vec<u32>| black_box(list).iter().fold(0, |sum: u32, &word| sum.wrapping_add(word));
+    [&mesh.vertices, &mesh.triangles, &mesh.links, &mesh.slots].map(total).iter().fold(0, |sum, &part| sum.wrapping_add(part))
+}
+
+/// Air, and three kinds of ground that cover all sides.
+fn ground_types() -> Types {
+    let cubes = (0..4).flat_map(|tile| cube(&cube_of(1.0, tile))).collect();
+    Types {
+        kinds: vec![0, 1, 1, 1],
+        covers: vec![0, 63, 63, 63],
+        cubes,
+        coloured: false,
+        d: [1.0f32.to_bits(); 3],
+        centre: [0; 3],
+    }
+}
+
+/// Rolling ground between a quarter and three quarters of the height: heights drawn at every eighth column, joined by straight
+/// lines; rock, two cells of soil, one of turf.
+fn terrain(random: &mut Random, dims: [u32; 3]) -> Case {
+    const STEP: u32 = 8;
+    let [width, height, length] = dims;
+    let posts = width / STEP + 2;
+    let drawn: Vec<u32> = (0..posts * (length / STEP + 2)).map(|_| random.below(1 + height as usize / 2) as u32).collect();
+    let top = |x: u32, z: u32| {
+        let (post, (across, along)) = (z / STEP * posts + x / STEP, (x % STEP, z % STEP));
+        let at = |step: u32| drawn[(post + step) as usize];
+        let near = at(0) * (STEP - across) + at(1) * across;
+        let far = at(posts) * (STEP - across) + at(posts + 1) * across;
+        height / 4 + (near * (STEP - along) + far * along) / (STEP * STEP)
+    };
+    let voxel = |cell: usize| {
+        let [x, y, z] = coordinates(dims, cell);
+        match top(x, z) as i64 - y as i64 {
+            i64::MIN..=-1 => 0,
+            0 => 3,
+            1 | 2 => 2,
+            _ => 1,
+        }
+    };
+    let grid = (0..(width * height * length) as usize).map(voxel).collect();
+    Case { dims, grid, types: ground_types(), ..Case::default() }
+}
+
+/// Air or rock in each cell, as a coin falls.
+fn half_full(random: &mut Random, dims: [u32; 3]) -> Case {
+    let grid = random.bytes(dims.iter().product::<u32>() as usize, 2);
+    Case { dims, grid, types: ground_types(), ..Case::default() }
+}
+
+/// An honest log on cells drawn from the whole grid: ground is dug, air is filled with rock.
+fn edits(random: &mut Random, case: &Case, entries: usize) -> Vec<u8> {
+    let mut grid = case.grid.clone();
+    let mut log = vec![];
+    for _ in 0..entries {
+        let cell = random.below(grid.len());
+        let beside: Vec<u8> = (0..6).map(|face| neighbour(case.dims, cell, face).map_or(OUTSIDE, |other| grid[other])).collect();
+        let (change, voxel, after) = if grid[cell] == 0 { (1, 1, 1) } else { (0, grid[cell], 0) };
+        grid[cell] = after;
+        log.extend(entry(cell, change, voxel, &beside));
+    }
+    log
+}

@@ -1,0 +1,175 @@
+//! The calls on lists that you lend: a mapped graphics buffer, a part of a larger list, a list kept from frame to frame. Nothing is
+//! allocated or copied; the lists have the library's layout.
+//!
+//! Per quad: four vertices of 8 or 12 floats, six triangle words, one link (which cell and face it is). Per cell: six slots (which
+//! vertex each face's quad starts at, [`NO_QUAD`] for none). The room in quads is what the shortest of vertices, triangles and links holds.
+//!
+//! ```
+//! use nalumoce::lent::{self, Room};
+//! # use nalumoce::*;
+//! # let mut registry = VoxelRegistry::new([1.0; 3], [0.0; 3], false);
+//! # let texture = Face::ALL.map(|face| (face, [0, 0]));
+//! # let cube = generate_voxel_mesh([1.0; 3], [1, 1], texture, [0.0; 3], 0.0, None, 1.0)?;
+//! # let air = registry.add(VoxelMesh::Null, Sides::NONE)?;
+//! # let rock = registry.add(VoxelMesh::NormalCube(&cube), Sides::ALL)?;
+//! let (dims, grid) = ((2, 1, 1), [rock, rock]);
+//! let (mut vertices, mut triangles, mut links, mut slots) = ([0.0; 16 * 32], [0; 16 * 6], [0; 16], [0; 2 * 6]);
+//! let mut room = Room { vertices: &mut vertices, triangles: &mut triangles, links: &mut links, slots: &mut slots };
+//! let quads = lent::mesh_grid(dims, &[], &grid, &registry, MeshingAlgorithm::Culling, &mut room)?;
+//! assert_eq!(quads, 10);
+//!
+//! let mut log = Log::new();
+//! log.push(VoxelChange::Broken, 0, rock, neighboring_voxels(&grid, 0, dims));
+//! let updated = lent::update_mesh(&mut room, quads, dims, &log, &registry)?;
+//! lent::check_mesh(dims, &[], &[air, rock], &registry, room.lists(), updated.quads)?;
+//! # Ok::<(), Refusal>(())
+//! ```
+
+use crate::raw::{self, Told};
+use crate::{Dimensions, Face, Log, MeshingAlgorithm, Reason, Refusal, VoxelRegistry};
+use std::fmt;
+
+/// A slot without a quad.
+pub const NO_QUAD: u32 = u32::MAX;
+
+/// The four lists of a mesh, lent to be written.
+#[derive(Debug)]
+pub struct Room<'a> {
+    /// Per quad four vertices.
+    pub vertices: &'a mut [f32],
+    /// Per quad six words.
+    pub triangles: &'a mut [u32],
+    /// Per quad one word.
+    pub links: &'a mut [u32],
+    /// Per cell six words.
+    pub slots: &'a mut [u32],
+}
+
+impl Room<'_> {
+    /// The same lists, to be read.
+    pub fn lists(&self) -> Lists<'_> {
+        Lists { vertices: self.vertices, triangles: self.triangles, links: self.links, slots: self.slots }
+    }
+}
+
+/// The four lists of a mesh, lent to be read.
+#[derive(Clone, Copy, Debug)]
+pub struct Lists<'a> {
+    /// Per quad four vertices.
+    pub vertices: &'a [f32],
+    /// Per quad six words.
+    pub triangles: &'a [u32],
+    /// Per quad one word.
+    pub links: &'a [u32],
+    /// Per cell six words.
+    pub slots: &'a [u32],
+}
+
+/// What an update did.
+#[derive(Clone, Copy, Debug, PartialEq, Eq)]
+pub struct Updated {
+    /// The quads of the mesh after it.
+    pub quads: usize,
+    /// How many times a quad was given another place.
+    pub moved: u64,
+}
+
+/// Why an update stopped.
+#[derive(Clone, Copy, Debug, PartialEq, Eq)]
+pub enum UpdateError {
+    /// Refused: nothing has changed.
+    Refused(Refusal),
+    /// NO_ROOM: the entries before `entry` are done, completely; that one and those after it are not.
+    NoRoom {
+        /// The entry that asks for more room than there is.
+        entry: usize,
+        /// The mesh as the entries before it left it.
+        kept: Updated,
+    },
+}
+
+impl From<UpdateError> for Refusal {
+    fn from(error: UpdateError) -> Refusal {
+        match error {
+            UpdateError::Refused(refusal) => refusal,
+            UpdateError::NoRoom { entry, .. } => Refusal { reason: Reason::NoRoom, place: entry as u64 },
+        }
+    }
+}
+
+impl fmt::Display for UpdateError {
+    fn fmt(&self, f: &mut fmt::Formatter) -> fmt::Result {
+        Refusal::from(*self).fmt(f)
+    }
+}
+
+impl std::error::Error for UpdateError {}
+
+/// Meshes a grid and answers its number of quads. Spare room stays as it was.
+///
+/// # Errors
+///
+/// BAD_SIZE, BAD_TYPES, BAD_NUMBER, NOT_A_CUBE, BAD_CELL, SHORT_ROOM, NO_ROOM, tried in this order; nothing has changed then.
+pub fn mesh_grid(
+    dims: Dimensions,
+    outer_layer: &[Face],
+    grid: &[u8],
+    reg: &VoxelRegistry,
+    meshing_algorithm: MeshingAlgorithm,
+    room: &mut Room,
+) -> Result<usize, Refusal> {
+    let told = raw::mesh_grid(dims, outer_layer, grid, reg, meshing_algorithm, room);
+    told.refusal().map_or(Ok(told.quads as usize), Err)
+}
+
+/// Mends a mesh of `quads` quads by a log. The places freed at its end are zeroed; other spare room stays as it was.
+///
+/// # Errors
+///
+/// BAD_SIZE, BAD_TYPES, BAD_NUMBER, NOT_A_CUBE, SHORT_ROOM, BAD_COUNT, BAD_LINKS, BAD_TRIANGLES, BAD_ENTRY, tried in this order, and
+/// then nothing has changed; or [`UpdateError::NoRoom`].
+pub fn update_mesh(
+    room: &mut Room,
+    quads: usize,
+    dims: Dimensions,
+    log: &Log,
+    reg: &VoxelRegistry,
+) -> Result<Updated, UpdateError> {
+    update_by_bytes(room, quads, dims, log.as_bytes(), reg)
+}
+
+pub(crate) fn update_by_bytes(
+    room: &mut Room,
+    quads: usize,
+    dims: Dimensions,
+    log: &[u8],
+    reg: &VoxelRegistry,
+) -> Result<Updated, UpdateError> {
+    let told = raw::update_mesh(room, quads, dims, log, reg);
+    let updated = |told: &Told| Updated { quads: told.quads as usize, moved: told.moved };
+    match told.refusal() {
+        None => Ok(updated(&told)),
+        Some(Refusal { reason: Reason::NoRoom, place }) => {
+            Err(UpdateError::NoRoom { entry: place as usize, kept: updated(&told) })
+        }
+        Some(refusal) => Err(UpdateError::Refused(refusal)),
+    }
+}
+
+/// Says whether lists hold the culled mesh of a grid with `quads` quads: exactly the faces that show, each once, every float bit for
+/// bit, and an index that agrees. Their order is free.
+///
+/// # Errors
+///
+/// What is wrong: BAD_SIZE, BAD_TYPES, BAD_NUMBER, NOT_A_CUBE, BAD_CELL, SHORT_ROOM, BAD_COUNT, BAD_LINKS, BAD_TRIANGLES, WRONG_SET,
+/// WRONG_VERTEX, tried in this order.
+pub fn check_mesh(
+    dims: Dimensions,
+    outer_layer: &[Face],
+    grid: &[u8],
+    reg: &VoxelRegistry,
+    lists: Lists,
+    quads: usize,
+) -> Result<(), Refusal> {
+    raw::check_mesh(dims, outer_layer, grid, reg, &lists, quads).refusal().map_or(Ok(()), Err)
+}

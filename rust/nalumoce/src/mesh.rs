@@ -1,0 +1,223 @@
+//! Meshes that own their lists and grow as they need.
+
+use crate::lent::{self, Lists, Room, UpdateError, Updated, NO_QUAD};
+use crate::registry::floats;
+use crate::{Dimensions, Face, Log, Reason, Refusal, VoxelChange, VoxelRegistry};
+
+/// The variants of the meshing algorithm.
+#[derive(Clone, Copy, Debug, PartialEq, Eq)]
+pub enum MeshingAlgorithm {
+    /// All six faces of every cube.
+    Naive,
+    /// The faces that show.
+    Culling,
+}
+
+/// A mesh: vertices and triangles. [`MeshMD`] belongs to it.
+#[derive(Clone, Debug)]
+pub struct Mesh {
+    vertices: Vec<f32>,
+    triangles: Vec<u32>,
+    quads: usize,
+    coloured: bool,
+}
+
+impl Mesh {
+    /// How many quads there are, of four vertices and two triangles each.
+    pub fn quads(&self) -> usize {
+        self.quads
+    }
+
+    /// The floats of a vertex: 8, or 12 with colour.
+    pub fn floats(&self) -> usize {
+        floats(self.coloured)
+    }
+
+    /// All vertices: position 3, normal 3, uv 2, and colour 4 if there is one.
+    pub fn vertices(&self) -> &[f32] {
+        &self.vertices[..4 * self.floats() * self.quads]
+    }
+
+    /// The triangles, three vertex numbers each.
+    pub fn indices(&self) -> &[u32] {
+        &self.triangles[..6 * self.quads]
+    }
+
+    /// The position of each vertex.
+    pub fn positions(&self) -> impl ExactSizeIterator<Item = [f32; 3]> + '_ {
+        self.attribute(0)
+    }
+
+    /// The normal of each vertex.
+    pub fn normals(&self) -> impl ExactSizeIterator<Item = [f32; 3]> + '_ {
+        self.attribute(3)
+    }
+
+    /// The place in the atlas of each vertex.
+    pub fn uvs(&self) -> impl ExactSizeIterator<Item = [f32; 2]> + '_ {
+        self.attribute(6)
+    }
+
+    /// The colour of each vertex, if they have one.
+    pub fn colors(&self) -> Option<impl ExactSizeIterator<Item = [f32; 4]> + '_> {
+        self.coloured.then(|| self.attribute(8))
+    }
+
+    fn attribute<const N: usize>(&self, from: usize) -> impl ExactSizeIterator<Item = [f32; N]> + '_ {
+        self.vertices().chunks_exact(self.floats()).map(move |vertex| std::array::from_fn(|i| vertex[from + i]))
+    }
+}
+
+/// What has to be kept beside a mesh to mend it: the index of its quads, and the log of changes.
+#[derive(Clone, Debug)]
+pub struct MeshMD {
+    /// The dimensions of the grid.
+    pub dims: Dimensions,
+    links: Vec<u32>,
+    slots: Vec<u32>,
+    log: Log,
+}
+
+impl MeshMD {
+    /// Logs a change, as in Meshem: the cell, the voxel that was broken or added there, and what stands around it by face as the
+    /// grid is at that moment ([`neighboring_voxels`](crate::neighboring_voxels)). [`update_mesh`] does it.
+    pub fn log(&mut self, voxel_change: VoxelChange, voxel_index: usize, voxel: u8, neighboring_voxels: [Option<u8>; 6]) {
+        self.log.push(voxel_change, voxel_index, voxel, neighboring_voxels);
+    }
+
+    /// The changes logged and not yet done.
+    pub fn logged(&self) -> &Log {
+        &self.log
+    }
+
+    /// Forgets the changes logged.
+    pub fn clear_log(&mut self) {
+        self.log.clear();
+    }
+
+    /// The first vertex of a cell's quad on a face, if it is drawn.
+    pub fn get_quad_index(&self, face: Face, voxel_index: usize) -> Option<u32> {
+        let slot = voxel_index.checked_mul(6)?.checked_add(face as usize)?;
+        self.slots.get(slot).copied().filter(|&vertex| vertex != NO_QUAD)
+    }
+
+    /// Whose face a quad is.
+    pub fn cell_and_face(&self, mesh: &Mesh, quad: usize) -> Option<(usize, Face)> {
+        let link = *self.links[..mesh.quads.min(self.links.len())].get(quad)?;
+        let face = Face::try_from(5usize.checked_sub((link >> 29) as usize)?).ok()?;
+        Some(((link & 0x1FFF_FFFF) as usize, face))
+    }
+}
+
+/// The lists of a mesh and its index as one room.
+fn room<'a>(mesh: &'a mut Mesh, metadata: &'a mut MeshMD) -> Room<'a> {
+    Room { vertices: &mut mesh.vertices, triangles: &mut mesh.triangles, links: &mut metadata.links, slots: &mut metadata.slots }
+}
+
+fn set_room(mesh: &mut Mesh, metadata: &mut MeshMD, quads: usize) {
+    mesh.vertices.resize(4 * mesh.floats() * quads, 0.0);
+    mesh.triangles.resize(6 * quads, 0);
+    metadata.links.resize(quads, 0);
+}
+
+/// The most cells that a grid may have.
+const MOST_CELLS: usize = 1 << 20;
+
+/// Meshes a grid of type codes. The faces of the grid's edge named by `outer_layer` are not drawn.
+///
+/// ```
+/// # use nalumoce::*;
+/// # let mut registry = VoxelRegistry::new([1.0; 3], [0.0; 3], false);
+/// # let texture = Face::ALL.map(|face| (face, [0, 0]));
+/// # let cube = generate_voxel_mesh([1.0; 3], [1, 1], texture, [0.0; 3], 0.0, None, 1.0)?;
+/// # registry.add(VoxelMesh::Null, Sides::NONE)?;
+/// # let rock = registry.add(VoxelMesh::NormalCube(&cube), Sides::ALL)?;
+/// let (mesh, metadata) = mesh_grid((2, 1, 1), &[], &[rock, rock], &registry, MeshingAlgorithm::Culling)?;
+/// assert_eq!(mesh.quads(), 10);
+/// assert_eq!(metadata.get_quad_index(Face::Right, 0), None);
+/// # Ok::<(), Refusal>(())
+/// ```
+///
+/// # Errors
+///
+/// BAD_SIZE, BAD_TYPES, BAD_NUMBER, NOT_A_CUBE, BAD_CELL, tried in this order.
+pub fn mesh_grid(
+    dims: Dimensions,
+    outer_layer: &[Face],
+    grid: &[u8],
+    reg: &VoxelRegistry,
+    meshing_algorithm: MeshingAlgorithm,
+) -> Result<(Mesh, MeshMD), Refusal> {
+    let cells = grid.len().min(MOST_CELLS);
+    let mut mesh = Mesh { vertices: vec![], triangles: vec![], quads: 0, coloured: reg.coloured };
+    let mut metadata = MeshMD { dims, links: vec![], slots: vec![0; 6 * cells], log: Log::new() };
+    let mut quads = 16 + cells / 4;
+    loop {
+        set_room(&mut mesh, &mut metadata, quads);
+        match lent::mesh_grid(dims, outer_layer, grid, reg, meshing_algorithm, &mut room(&mut mesh, &mut metadata)) {
+            Ok(quads) => {
+                mesh.quads = quads;
+                return Ok((mesh, metadata));
+            }
+            Err(Refusal { reason: Reason::NoRoom, .. }) => quads *= 2,
+            Err(refusal) => return Err(refusal),
+        }
+    }
+}
+
+/// Mends a mesh by the changes logged, and empties the log. The lists grow if they must.
+///
+/// ```
+/// # use nalumoce::*;
+/// # let mut registry = VoxelRegistry::new([1.0; 3], [0.0; 3], false);
+/// # let texture = Face::ALL.map(|face| (face, [0, 0]));
+/// # let cube = generate_voxel_mesh([1.0; 3], [1, 1], texture, [0.0; 3], 0.0, None, 1.0)?;
+/// # let air = registry.add(VoxelMesh::Null, Sides::NONE)?;
+/// # let rock = registry.add(VoxelMesh::NormalCube(&cube), Sides::ALL)?;
+/// let mut grid = [rock, rock];
+/// let (mut mesh, mut metadata) = mesh_grid((2, 1, 1), &[], &grid, &registry, MeshingAlgorithm::Culling)?;
+/// metadata.log(VoxelChange::Broken, 0, rock, neighboring_voxels(&grid, 0, metadata.dims));
+/// grid[0] = air;
+/// let updated = update_mesh(&mut mesh, &mut metadata, &registry)?;
+/// assert_eq!((updated.quads, updated.moved), (6, 14));
+/// check_mesh(&mesh, &metadata, &[], &grid, &registry)?;
+/// # Ok::<(), Refusal>(())
+/// ```
+///
+/// # Errors
+///
+/// BAD_ENTRY for a log that names what isn't there; BAD_COUNT, BAD_LINKS or BAD_TRIANGLES for metadata of another mesh; BAD_TYPES,
+/// BAD_NUMBER or NOT_A_CUBE for a registry that would not mesh. Mesh and log are then as they were.
+pub fn update_mesh(mesh: &mut Mesh, metadata: &mut MeshMD, reg: &VoxelRegistry) -> Result<Updated, Refusal> {
+    let log = std::mem::take(&mut metadata.log);
+    let (mut done, mut moved) = (0, 0);
+    loop {
+        let (dims, quads, rest) = (metadata.dims, mesh.quads, &log.as_bytes()[Log::ENTRY * done..]);
+        match lent::update_by_bytes(&mut room(mesh, metadata), quads, dims, rest, reg) {
+            Ok(updated) => {
+                mesh.quads = updated.quads;
+                return Ok(Updated { moved: moved + updated.moved, ..updated });
+            }
+            Err(UpdateError::NoRoom { entry, kept }) => {
+                mesh.quads = kept.quads;
+                done += entry;
+                moved += kept.moved;
+                set_room(mesh, metadata, 2 * kept.quads + 16);
+            }
+            Err(UpdateError::Refused(refusal)) => {
+                metadata.log = log;
+                return Err(refusal);
+            }
+        }
+    }
+}
+
+/// Says whether a mesh is the culled mesh of a grid; [`lent::check_mesh`] says what that means.
+///
+/// # Errors
+///
+/// What is wrong, and where.
+pub fn check_mesh(mesh: &Mesh, metadata: &MeshMD, outer_layer: &[Face], grid: &[u8], reg: &VoxelRegistry) -> Result<(), Refusal> {
+    let lists = Lists { vertices: &mesh.vertices, triangles: &mesh.triangles, links: &metadata.links, slots: &metadata.slots };
+    lent::check_mesh(metadata.dims, outer_layer, grid, reg, lists, mesh.quads)
+}

@@ -1,0 +1,210 @@
+//! The C interface of `include/meshem.h`, and the only unsafe code: each slice is passed as its own pointer and length, what is
+//! written to comes by `&mut` and so overlaps nothing, and an f32 and its bits are one word.
+
+use crate::lent::{Lists, Room};
+use crate::{Dimensions, Face, MeshingAlgorithm, Reason, Refusal, VoxelRegistry};
+use std::mem::{align_of, size_of};
+
+#[rustfmt::skip]
+extern "C" {
+    fn meshem_generate_voxel_mesh(
+        dx: u32, dy: u32, dz: u32,
+        atlas_width: u32, atlas_height: u32,
+        texture: *const u32, texture_len: usize,
+        cx: u32, cy: u32, cz: u32,
+        padding: u32,
+        coloured: u32,
+        colour: u32, alpha: u32,
+        out: *mut u32, out_len: usize,
+        place: *mut u64,
+    ) -> u32;
+
+    fn meshem_mesh_grid(
+        width: u32, height: u32, length: u32,
+        outer: *const u8, outer_len: usize,
+        grid: *const u8, grid_len: usize,
+        kinds: *const u8, kinds_len: usize,
+        covers: *const u8, covers_len: usize,
+        cubes: *const u32, cubes_len: usize,
+        coloured: u32,
+        dx: u32, dy: u32, dz: u32, cx: u32, cy: u32, cz: u32,
+        algorithm: u32,
+        vertices: *mut u32, vertices_len: usize, triangles: *mut u32, triangles_len: usize,
+        links: *mut u32, links_len: usize, slots: *mut u32, slots_len: usize,
+        place: *mut u64, quads: *mut u64,
+    ) -> u32;
+
+    fn meshem_update_mesh(
+        vertices: *mut u32, vertices_len: usize, triangles: *mut u32, triangles_len: usize,
+        links: *mut u32, links_len: usize, slots: *mut u32, slots_len: usize,
+        count: u64,
+        width: u32, height: u32, length: u32,
+        log: *const u8, log_len: usize,
+        kinds: *const u8, kinds_len: usize, covers: *const u8, covers_len: usize,
+        cubes: *const u32, cubes_len: usize, coloured: u32,
+        dx: u32, dy: u32, dz: u32, cx: u32, cy: u32, cz: u32,
+        place: *mut u64, quads: *mut u64, moved: *mut u64,
+    ) -> u32;
+
+    fn meshem_check_mesh(
+        width: u32, height: u32, length: u32,
+        outer: *const u8, outer_len: usize, grid: *const u8, grid_len: usize,
+        kinds: *const u8, kinds_len: usize, covers: *const u8, covers_len: usize,
+        cubes: *const u32, cubes_len: usize, coloured: u32,
+        dx: u32, dy: u32, dz: u32, cx: u32, cy: u32, cz: u32,
+        vertices: *const u32, vertices_len: usize, triangles: *const u32, triangles_len: usize,
+        links: *const u32, links_len: usize, slots: *const u32, slots_len: usize,
+        count: u64,
+        place: *mut u64,
+    ) -> u32;
+}
+
+pub(crate) struct CubeParameters<'a> {
+    pub voxel_dims: [f32; 3],
+    pub texture_atlas_dims: [u32; 2],
+    pub texture: &'a [u32],
+    pub voxel_center: [f32; 3],
+    pub padding: f32,
+    pub default_color_intensity: Option<f32>,
+    pub alpha: f32,
+}
+
+/// What a call told: 0 or a refusal's number, its place, and the counts.
+#[derive(Default)]
+pub(crate) struct Told {
+    number: u32,
+    pub place: u64,
+    pub quads: u64,
+    pub moved: u64,
+}
+
+impl Told {
+    pub fn refusal(&self) -> Option<Refusal> {
+        (self.number != 0).then(|| {
+            let reason = Reason::from_number(self.number).expect("the library names 1 to 16");
+            Refusal { reason, place: self.place }
+        })
+    }
+}
+
+const _: () = assert!(size_of::<f32>() == size_of::<u32>() && align_of::<f32>() == align_of::<u32>());
+const _: () = assert!(size_of::<Face>() == size_of::<u8>());
+
+/// The floats' own words, without a copy. Every bit pattern is an f32 and a u32, and size and alignment are one, as asserted above.
+fn words(floats: &[f32]) -> &[u32] {
+    unsafe { std::slice::from_raw_parts(floats.as_ptr().cast(), floats.len()) }
+}
+
+fn words_mut(floats: &mut [f32]) -> &mut [u32] {
+    unsafe { std::slice::from_raw_parts_mut(floats.as_mut_ptr().cast(), floats.len()) }
+}
+
+/// The faces' numbers: `Face` is `repr(u8)`.
+fn numbers(faces: &[Face]) -> &[u8] {
+    unsafe { std::slice::from_raw_parts(faces.as_ptr().cast(), faces.len()) }
+}
+
+/// A size that a u32 can't hold is over the limit, as u32::MAX is.
+fn sizes((width, height, length): Dimensions) -> [u32; 3] {
+    [width, height, length].map(|size| u32::try_from(size).unwrap_or(u32::MAX))
+}
+
+#[rustfmt::skip]
+pub(crate) fn generate_voxel_mesh(p: &CubeParameters, out: &mut [f32]) -> Told {
+    let mut told = Told::default();
+    let out = words_mut(out);
+    let [d, c] = [p.voxel_dims, p.voxel_center].map(|floats| floats.map(f32::to_bits));
+    let colour = p.default_color_intensity.unwrap_or(0.0);
+    told.number = unsafe {
+        meshem_generate_voxel_mesh(
+            d[0], d[1], d[2],
+            p.texture_atlas_dims[0], p.texture_atlas_dims[1],
+            p.texture.as_ptr(), p.texture.len(),
+            c[0], c[1], c[2],
+            p.padding.to_bits(),
+            p.default_color_intensity.is_some() as u32,
+            colour.to_bits(), p.alpha.to_bits(),
+            out.as_mut_ptr(), out.len(),
+            &mut told.place,
+        )
+    };
+    told
+}
+
+#[rustfmt::skip]
+pub(crate) fn mesh_grid(
+    dims: Dimensions, outer: &[Face], grid: &[u8], reg: &VoxelRegistry, algorithm: MeshingAlgorithm, room: &mut Room,
+) -> Told {
+    let mut told = Told::default();
+    let [width, height, length] = sizes(dims);
+    let outer = numbers(outer);
+    let cubes = words(&reg.cubes);
+    let [d, c] = [reg.voxel_dims, reg.center].map(|floats| floats.map(f32::to_bits));
+    let vertices = words_mut(room.vertices);
+    told.number = unsafe {
+        meshem_mesh_grid(
+            width, height, length,
+            outer.as_ptr(), outer.len(),
+            grid.as_ptr(), grid.len(),
+            reg.kinds.as_ptr(), reg.kinds.len(),
+            reg.covers.as_ptr(), reg.covers.len(),
+            cubes.as_ptr(), cubes.len(),
+            reg.coloured as u32,
+            d[0], d[1], d[2], c[0], c[1], c[2],
+            algorithm as u32,
+            vertices.as_mut_ptr(), vertices.len(), room.triangles.as_mut_ptr(), room.triangles.len(),
+            room.links.as_mut_ptr(), room.links.len(), room.slots.as_mut_ptr(), room.slots.len(),
+            &mut told.place, &mut told.quads,
+        )
+    };
+    told
+}
+
+#[rustfmt::skip]
+pub(crate) fn update_mesh(room: &mut Room, quads: usize, dims: Dimensions, log: &[u8], reg: &VoxelRegistry) -> Told {
+    let mut told = Told::default();
+    let [width, height, length] = sizes(dims);
+    let cubes = words(&reg.cubes);
+    let [d, c] = [reg.voxel_dims, reg.center].map(|floats| floats.map(f32::to_bits));
+    let vertices = words_mut(room.vertices);
+    told.number = unsafe {
+        meshem_update_mesh(
+            vertices.as_mut_ptr(), vertices.len(), room.triangles.as_mut_ptr(), room.triangles.len(),
+            room.links.as_mut_ptr(), room.links.len(), room.slots.as_mut_ptr(), room.slots.len(),
+            quads as u64,
+            width, height, length,
+            log.as_ptr(), log.len(),
+            reg.kinds.as_ptr(), reg.kinds.len(), reg.covers.as_ptr(), reg.covers.len(),
+            cubes.as_ptr(), cubes.len(), reg.coloured as u32,
+            d[0], d[1], d[2], c[0], c[1], c[2],
+            &mut told.place, &mut told.quads, &mut told.moved,
+        )
+    };
+    told
+}
+
+#[rustfmt::skip]
+pub(crate) fn check_mesh(
+    dims: Dimensions, outer: &[Face], grid: &[u8], reg: &VoxelRegistry, lists: &Lists, quads: usize,
+) -> Told {
+    let mut told = Told::default();
+    let [width, height, length] = sizes(dims);
+    let outer = numbers(outer);
+    let cubes = words(&reg.cubes);
+    let [d, c] = [reg.voxel_dims, reg.center].map(|floats| floats.map(f32::to_bits));
+    let vertices = words(lists.vertices);
+    told.number = unsafe {
+        meshem_check_mesh(
+            width, height, length,
+            outer.as_ptr(), outer.len(), grid.as_ptr(), grid.len(),
+            reg.kinds.as_ptr(), reg.kinds.len(), reg.covers.as_ptr(), reg.covers.len(),
+            cubes.as_ptr(), cubes.len(), reg.coloured as u32,
+            d[0], d[1], d[2], c[0], c[1], c[2],
+            vertices.as_ptr(), vertices.len(), lists.triangles.as_ptr(), lists.triangles.len(),
+            lists.links.as_ptr(), lists.links.len(), lists.slots.as_ptr(), lists.slots.len(),
+            quads as u64,
+            &mut told.place,
+        )
+    };
+    told
+}

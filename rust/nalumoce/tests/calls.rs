@@ -1,0 +1,224 @@
+//! The calls as a user makes them: worked meshes, refusals with their places, and lists lent and owned.
+
+use nalumoce::lent::{self, Room, UpdateError};
+use nalumoce::*;
+
+const AIR: u8 = 0;
+const ROCK: u8 = 1;
+const SLAB: u8 = 2;
+
+fn cube(color: Option<f32>) -> Cube {
+    generate_voxel_mesh([1.0; 3], [1, 1], Face::ALL.map(|face| (face, [0, 0])), [0.0; 3], 0.0, color, 1.0).unwrap()
+}
+
+/// Air, rock, and a slab that covers its underside.
+fn registry() -> VoxelRegistry {
+    let mut registry = VoxelRegistry::new([1.0; 3], [0.0; 3], false);
+    let cube = cube(None);
+    assert_eq!(registry.add(VoxelMesh::Null, Sides::NONE), Ok(AIR));
+    assert_eq!(registry.add(VoxelMesh::NormalCube(&cube), Sides::ALL), Ok(ROCK));
+    assert_eq!(registry.add(VoxelMesh::NormalCube(&cube), Sides::from_fn(|side| side == Face::Bottom)), Ok(SLAB));
+    registry
+}
+
+fn meshed(dims: Dimensions, grid: &[u8]) -> (Mesh, MeshMD) {
+    mesh_grid(dims, &[], grid, &registry(), MeshingAlgorithm::Culling).unwrap()
+}
+
+fn refused<T: std::fmt::Debug>(answer: Result<T, Refusal>) -> (Reason, u64) {
+    let refusal = answer.unwrap_err();
+    (refusal.reason, refusal.place)
+}
+
+#[derive(Clone, PartialEq, Debug)]
+struct Kept {
+    vertices: Vec<f32>,
+    triangles: Vec<u32>,
+    links: Vec<u32>,
+    slots: Vec<u32>,
+}
+
+impl Kept {
+    fn new(quads: usize, cells: usize) -> Kept {
+        Kept { vertices: vec![7.0; 32 * quads], triangles: vec![7; 6 * quads], links: vec![7; quads], slots: vec![7; 6 * cells] }
+    }
+    fn room(&mut self) -> Room<'_> {
+        Room { vertices: &mut self.vertices, triangles: &mut self.triangles, links: &mut self.links, slots: &mut self.slots }
+    }
+}
+
+#[test]
+fn meshes_worked_by_hand() {
+    let registry = registry();
+    let quads =
+        |dims, outer: &[Face], grid: &[u8], algorithm| mesh_grid(dims, outer, grid, &registry, algorithm).unwrap().0.quads();
+    assert_eq!(quads((1, 1, 1), &[], &[ROCK], MeshingAlgorithm::Culling), 6);
+    assert_eq!(quads((2, 1, 1), &[], &[ROCK; 2], MeshingAlgorithm::Culling), 10);
+    assert_eq!(quads((2, 1, 1), &[], &[ROCK; 2], MeshingAlgorithm::Naive), 12);
+    assert_eq!(quads((2, 1, 1), &[Face::Top], &[ROCK; 2], MeshingAlgorithm::Culling), 8);
+    assert_eq!(quads((3, 3, 3), &[], &[ROCK; 27], MeshingAlgorithm::Culling), 54);
+}
+
+#[test]
+fn a_cube_faces_outward() {
+    let (mesh, metadata) = meshed((1, 1, 1), &[ROCK]);
+    let (positions, normals): (Vec<_>, Vec<_>) = (mesh.positions().collect(), mesh.normals().collect());
+    for triangle in mesh.indices().chunks_exact(3) {
+        let [a, b, c] = [0, 1, 2].map(|i| positions[triangle[i] as usize]);
+        let [p, q] = [b, c].map(|end| [0, 1, 2].map(|axis| end[axis] - a[axis]));
+        let across = [p[1] * q[2] - p[2] * q[1], p[2] * q[0] - p[0] * q[2], p[0] * q[1] - p[1] * q[0]];
+        assert_eq!(across, normals[triangle[0] as usize]);
+    }
+    assert_eq!(metadata.cell_and_face(&mesh, 0), Some((0, Face::Top)));
+    assert_eq!(metadata.cell_and_face(&mesh, 6), None);
+    assert_eq!(metadata.get_quad_index(Face::Forward, 0), Some(20));
+    assert_eq!(metadata.get_quad_index(Face::Top, usize::MAX), None);
+    assert_eq!(mesh.uvs().len(), 24);
+    assert!(mesh.colors().is_none());
+}
+
+#[test]
+fn dug_and_filled_by_one_log() {
+    let (registry, dims) = (registry(), (6, 5, 4));
+    let mut grid = vec![ROCK; 120];
+    let (mut mesh, mut metadata) = meshed(dims, &grid);
+    for cell in (0..120).step_by(3).chain((0..120).step_by(6)) {
+        let around = neighboring_voxels(&grid, cell, dims);
+        let (change, after) = if grid[cell] == AIR { (VoxelChange::Added, ROCK) } else { (VoxelChange::Broken, AIR) };
+        metadata.log(change, cell, ROCK, around);
+        grid[cell] = after;
+    }
+    assert_eq!(metadata.logged().len(), 60);
+    let updated = update_mesh(&mut mesh, &mut metadata, &registry).unwrap();
+    assert!(metadata.logged().is_empty());
+    assert_eq!(updated.quads, mesh.quads());
+    assert_eq!(check_mesh(&mesh, &metadata, &[], &grid, &registry), Ok(()));
+    assert_eq!(mesh.quads(), meshed(dims, &grid).0.quads());
+
+    grid[60] = AIR + ROCK - grid[60];
+    assert!(matches!(check_mesh(&mesh, &metadata, &[], &grid, &registry), Err(Refusal { reason: Reason::WrongSet, .. })));
+}
+
+#[test]
+fn a_slab_added_above_rock_leaves_the_face_beneath_it() {
+    let (registry, mut grid) = (registry(), [ROCK, AIR]);
+    let (mut mesh, mut metadata) = meshed((1, 2, 1), &grid);
+    metadata.log(VoxelChange::Added, 1, SLAB, neighboring_voxels(&grid, 1, (1, 2, 1)));
+    grid[1] = SLAB;
+    assert_eq!(update_mesh(&mut mesh, &mut metadata, &registry).unwrap().quads, 11);
+    assert_eq!(refused(check_mesh(&mesh, &metadata, &[], &grid, &registry)), (Reason::WrongSet, 0));
+}
+
+#[test]
+fn a_mesh_grows_as_it_needs() {
+    let (registry, dims) = (registry(), (16, 16, 16));
+    let mut grid = vec![AIR; 4096];
+    let (mut mesh, mut metadata) = meshed(dims, &grid);
+    assert_eq!(mesh.quads(), 0);
+    for cell in (0..4096).filter(|cell| (cell + cell / 16 + cell / 256) % 2 == 0) {
+        metadata.log(VoxelChange::Added, cell, ROCK, neighboring_voxels(&grid, cell, dims));
+        grid[cell] = ROCK;
+    }
+    assert_eq!(update_mesh(&mut mesh, &mut metadata, &registry), Ok(Updated { quads: 6 * 2048, moved: 0 }));
+    assert_eq!(check_mesh(&mesh, &metadata, &[], &grid, &registry), Ok(()));
+    assert_eq!(mesh.vertices(), meshed(dims, &grid).0.vertices());
+}
+
+#[test]
+fn refusals_of_meshing() {
+    let registry = registry();
+    let refusal = |dims, grid: &[u8]| refused(mesh_grid(dims, &[], grid, &registry, MeshingAlgorithm::Culling));
+    assert_eq!(refusal((2, 1, 1), &[ROCK]), (Reason::BadSize, 0));
+    assert_eq!(refusal((0, 1, 1), &[]), (Reason::BadSize, 0));
+    assert_eq!(refusal((1025, 1, 1), &[ROCK; 1025]), (Reason::BadSize, 0));
+    assert_eq!(refusal((1 << 32, 1, 1), &[]), (Reason::BadSize, 0));
+    assert_eq!(refusal((3, 1, 1), &[ROCK, 3, 9]), (Reason::BadCell, 1));
+    let empty = VoxelRegistry::new([1.0; 3], [0.0; 3], false);
+    assert_eq!(refused(mesh_grid((1, 1, 1), &[], &[0], &empty, MeshingAlgorithm::Culling)), (Reason::BadTypes, 255));
+    let mut apart = VoxelRegistry::new([1.0; 3], [2.0; 3], false);
+    apart.add(VoxelMesh::Null, Sides::NONE).unwrap();
+    apart.add(VoxelMesh::NormalCube(&cube(None)), Sides::ALL).unwrap();
+    assert_eq!(refused(mesh_grid((1, 1, 1), &[], &[0], &apart, MeshingAlgorithm::Culling)), (Reason::NotACube, 1));
+}
+
+#[test]
+fn refusals_of_cubes_and_types() {
+    let texture = Face::ALL.map(|face| (face, [0, 4096]));
+    assert_eq!(refused(generate_voxel_mesh([1.0; 3], [1, 1], texture, [0.0; 3], 0.0, None, 1.0)), (Reason::BadAtlas, 0));
+    assert_eq!(refused(generate_voxel_mesh([f32::NAN; 3], [1, 1], texture, [0.0; 3], 0.0, None, 1.0)), (Reason::BadNumber, 0));
+    let mut registry = registry();
+    assert_eq!(refused(registry.add(VoxelMesh::NormalCube(&cube(Some(1.0))), Sides::ALL)), (Reason::BadTypes, 255));
+    while registry.len() < 255 {
+        registry.add(VoxelMesh::CustomMesh, Sides::NONE).unwrap();
+    }
+    assert_eq!(refused(registry.add(VoxelMesh::Null, Sides::NONE)), (Reason::BadTypes, 255));
+}
+
+#[test]
+fn a_refused_log_is_kept_and_nothing_is_done() {
+    let (registry, grid) = (registry(), [ROCK; 2]);
+    let (mut mesh, mut metadata) = meshed((2, 1, 1), &grid);
+    let before = mesh.vertices().to_vec();
+    let bad: [(usize, u8, [Option<u8>; 6]); 4] = [
+        (2, ROCK, [None; 6]),
+        (usize::MAX, ROCK, [None; 6]),
+        (0, 3, [None; 6]),
+        (0, ROCK, [None, None, Some(255), None, None, None]),
+    ];
+    for (cell, voxel, around) in bad {
+        metadata.log(VoxelChange::Broken, 0, ROCK, neighboring_voxels(&grid, 0, (2, 1, 1)));
+        metadata.log(VoxelChange::Broken, cell, voxel, around);
+        assert_eq!(refused(update_mesh(&mut mesh, &mut metadata, &registry)), (Reason::BadEntry, 1));
+        assert_eq!((mesh.vertices(), metadata.logged().len()), (&before[..], 2));
+        metadata.clear_log();
+    }
+    let (_, mut other) = meshed((2, 1, 1), &[ROCK, AIR]);
+    assert!(matches!(update_mesh(&mut mesh, &mut other, &registry), Err(Refusal { reason: Reason::BadLinks, .. })));
+}
+
+#[test]
+fn lent_room_is_refused_whole_and_left_alone() {
+    let registry = registry();
+    let mut kept = Kept::new(9, 2);
+    let before = kept.clone();
+    let mesh =
+        |kept: &mut Kept| lent::mesh_grid((2, 1, 1), &[], &[ROCK; 2], &registry, MeshingAlgorithm::Culling, &mut kept.room());
+    assert_eq!(refused(mesh(&mut kept)), (Reason::NoRoom, 0));
+    assert_eq!(kept, before);
+    kept.slots.pop();
+    assert_eq!(refused(mesh(&mut kept)), (Reason::ShortRoom, 0));
+    let mut kept = Kept::new(11, 2);
+    assert_eq!(mesh(&mut kept), Ok(10));
+    assert_eq!(kept.vertices[320..], [7.0; 32]);
+    let lists = kept.room();
+    assert_eq!(lent::check_mesh((2, 1, 1), &[], &[ROCK; 2], &registry, lists.lists(), 10), Ok(()));
+    assert_eq!(refused(lent::check_mesh((2, 1, 1), &[], &[ROCK; 2], &registry, lists.lists(), 12)), (Reason::BadCount, 0));
+}
+
+#[test]
+fn a_lent_update_out_of_room_keeps_what_it_did() {
+    let (registry, dims, grid) = (registry(), (5, 1, 1), [AIR; 5]);
+    let mut kept = Kept::new(13, 5);
+    assert_eq!(lent::mesh_grid(dims, &[], &grid, &registry, MeshingAlgorithm::Culling, &mut kept.room()), Ok(0));
+    let mut log = Log::new();
+    for cell in [0, 2, 4] {
+        log.push(VoxelChange::Added, cell, ROCK, neighboring_voxels(&grid, cell, dims));
+    }
+    let answer = lent::update_mesh(&mut kept.room(), 0, dims, &log, &registry);
+    assert_eq!(answer, Err(UpdateError::NoRoom { entry: 2, kept: Updated { quads: 12, moved: 0 } }));
+    assert_eq!(Refusal::from(answer.unwrap_err()), Refusal { reason: Reason::NoRoom, place: 2 });
+    assert_eq!(lent::check_mesh(dims, &[], &[ROCK, AIR, ROCK, AIR, AIR], &registry, kept.room().lists(), 12), Ok(()));
+}
+
+#[test]
+fn colours_keep_every_bit() {
+    let nan = f32::from_bits(0x7F80_0001);
+    let mut registry = VoxelRegistry::new([1.0; 3], [0.0; 3], true);
+    let rock = registry.add(VoxelMesh::NormalCube(&cube(Some(nan))), Sides::ALL).unwrap();
+    let (mesh, metadata) = mesh_grid((1, 1, 1), &[], &[rock], &registry, MeshingAlgorithm::Culling).unwrap();
+    let colors: Vec<_> = mesh.colors().unwrap().map(|color| color.map(f32::to_bits)).collect();
+    let [n, one] = [nan, 1.0].map(f32::to_bits);
+    assert_eq!(colors, [[n, n, n, one]; 24]);
+    assert_eq!(mesh.vertices().len(), 6 * 4 * 12);
+    assert_eq!(check_mesh(&mesh, &metadata, &[], &[rock], &registry), Ok(()));
+}
