@@ -9,4 +9,3 @@ pub mod Facings
 pub mod Asked
 pub mod Entering
 pub mod Changes
-pub mod Right

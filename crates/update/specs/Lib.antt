@@ -2,4 +2,3 @@ pub mod Flat
 pub mod Courses
 pub mod Holding
 pub mod Facing
-pub mod Repeated
