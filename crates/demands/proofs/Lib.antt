@@ -5,3 +5,4 @@ pub mod OneOutcome
 pub mod Exact
 pub mod Fresh
 pub mod Mending
+pub mod Composed
