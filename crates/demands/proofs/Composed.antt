@@ -6,11 +6,8 @@ use mathlib.Core.List.{List, []}
 use lib.Dec.{eqb}
 use borrow.Author.Tests.{eqb-true}
 use Rattle.rules.specs.Mesh.{Lists}
-use Rattle.rules.specs.Update.{source}
 use Rattle.rules.specs.Answers.{Verdict, fine, refuse, _then_}
-use Rattle.rules.specs.Calls.{Answer, Outcome, Scene, meshVerdict, updateMesh, checkVerdict, checkBy}
-use Rattle.rules.proofs.Refusals.{CHECK, check-numbers, zero-fine}
-use Rattle.rules.proofs.Demands.{mended-accepted}
+use Rattle.rules.specs.Calls.{Answer, Outcome, Scene, meshVerdict, updateMesh, checkVerdict}
 use Rattle.answers.specs.declared.Refusal.{Refusal}
 use Rattle.answers.specs.Verdicts.{numberOf}
 use Rattle.meshem.specs.declared.Meshed.{Meshed}
@@ -25,8 +22,8 @@ use Rattle.demands.specs.Chunks.{gridAfter, HonestLog}
 use Rattle.demands.specs.Composed.{verdictBy, mendPromise, mendVerdict}
 use Rattle.demands.proofs.Telling.{numbered}
 use Rattle.demands.proofs.Answers.{what-a-mesh-call-says}
-use Rattle.demands.proofs.Exact.{fine-is-zero}
 use Rattle.demands.proofs.Fresh.{fresh-is-fine}
+use Rattle.demands.proofs.Mending.{still-fine}
 
 -- an answer by the name that a `match` found it to have
 pub meshes : {o : Outcome} {exit : Lists} {a b : Meshed} → a ≡ b → mesh.outcome a exit ≡ o → mesh.outcome b exit ≡ o
@@ -83,8 +80,7 @@ module _ (S : Scene) (grid log left : List ℕ) (B : Lists) (Q : ℕ) where
           → (cond b fine (refuse (u .answer .number) (u .answer .place)) then again) ≡ cond b fine (refuse (u .answer .number) (u .answer .place))
       second true t p =
           ap (λ (g : List ℕ). checkVerdict S [] g (u .lists) (u .answer .quads)) l
-          ∙ sym (fine-is-zero S [] (gridAfter S log grid) (u .lists) (u .answer .quads) .1
-          (mended-accepted source S grid log B Q (ap (λ (v : Verdict). (checkBy v) .number) p) (h .honest) (h .mends) (eqb-true (u .answer .number) 0 t)))
+          ∙ sym (still-fine S log grid B Q (sym p) h (eqb-true (u .answer .number) 0 t))
       second false t p = refl
 
       first : (v : Verdict) → checkVerdict S [] grid B Q ≡ v

@@ -6,3 +6,4 @@ pub mod Exact
 pub mod Fresh
 pub mod Mending
 pub mod Composed
+pub mod OneByOne

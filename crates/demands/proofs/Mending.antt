@@ -6,7 +6,7 @@ use mathlib.Core.Bool.{true}
 use mathlib.Core.List.{List, []}
 use Rattle.rules.specs.Mesh.{Lists}
 use Rattle.rules.specs.Update.{source}
-use Rattle.rules.specs.Calls.{Answer, Scene, Outcome, answered, checkMesh}
+use Rattle.rules.specs.Calls.{Answer, Scene, Outcome, updateMesh}
 use Rattle.rules.proofs.Demands.{mended-accepted}
 use Rattle.answers.specs.declared.Verdict.{Verdict}
 use Rattle.answers.specs.declared.Verdict.the-variants.{Fine}
@@ -19,15 +19,21 @@ use Rattle.demands.proofs.OneOutcome.{one-check}
 use Rattle.demands.proofs.Exact.{fine-is-zero}
 use Rattle.demands.proofs.Fresh.{fresh-is-fine}
 
--- the check says Fine
+-- the check says Fine of what the rule of an update leaves
+pub still-fine : (S : Scene) (log grid : List ℕ) (B : Lists) (Q : ℕ) → Checks S [] grid B Q Fine → HonestLog S grid log
+    → (updateMesh S log B Q) .answer .number ≡ 0
+    → Checks S [] (gridAfter S log grid) ((updateMesh S log B Q) .lists) ((updateMesh S log B Q) .answer .quads) Fine
+still-fine S log grid B Q passed true-log unrefused =
+    fine-is-zero S [] (gridAfter S log grid) ((updateMesh S log B Q) .lists) ((updateMesh S log B Q) .answer .quads) .1
+    (mended-accepted source S grid log B Q (ap (λ (a : Answer). a .number) (fine-is-zero S [] grid B Q .0 passed))
+    (true-log .honest) (true-log .mends) unrefused)
+
+-- and of what the call leaves
 mended-is-fine : (S : Scene) (log : List ℕ) (k : Chunk) (exit : Lists) (count : Count) → Passes S k → HonestLog S (k .grid) log
     → Updates S log (k .lists) (k .quads) (Done count) exit → Passes S (mendedTo S log k count exit)
 mended-is-fine S log k exit count passed true-log mended =
-    fine-is-zero S [] (gridAfter S log (k .grid)) exit (count .quads) .1
-    (subst (λ (o : Outcome). checkMesh S [] (gridAfter S log (k .grid)) (o .lists) (o .answer .quads) ≡ answered 0 0) (sym mended)
-    (mended-accepted source S (k .grid) log (k .lists) (k .quads)
-    (ap (λ (a : Answer). a .number) (fine-is-zero S [] (k .grid) (k .lists) (k .quads) .0 passed))
-    (true-log .honest) (true-log .mends) (sym (ap (λ (o : Outcome). o .answer .number) mended))))
+    subst (λ (o : Outcome). Checks S [] (gridAfter S log (k .grid)) (o .lists) (o .answer .quads) Fine) (sym mended)
+    (still-fine S log (k .grid) (k .lists) (k .quads) passed true-log (sym (ap (λ (o : Outcome). o .answer .number) mended)))
 
 pub a-mended-mesh-passes : (S : Scene) (log grid : List ℕ) (B exit : Lists) (Q : ℕ) (count : Count) (r : Verdict)
     → Checks S [] grid B Q Fine → HonestLog S grid log → Updates S log B Q (Done count) exit

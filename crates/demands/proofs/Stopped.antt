@@ -78,7 +78,7 @@ module _ (k : ℕ) (first rest : List ℕ) (whole : length first ≡ 12 * k) whe
   word j h =
       rw (byte (12 * j) (omega arith), byte (12 * j + 1) (omega arith), byte (12 * j + 2) (omega arith), byte (12 * j + 3) (omega arith))
 
-  entry-stays : (j : ℕ) → j < k → entryAt (first ++ rest) j ≡ entryAt first j
+  pub entry-stays : (j : ℕ) → j < k → entryAt (first ++ rest) j ≡ entryAt first j
   unfolding entryAt
   entry-stays j h =
       let given : part (12 * j + 6) 6 (first ++ rest) ≡ part (12 * j + 6) 6 first =
