@@ -21,7 +21,7 @@ use Rattle.meshem.specs.declared.Meshed.the-variants as meshed
 use Rattle.update.specs.declared.Count.{Count}
 use Rattle.update.specs.declared.Updated.the-variants.{Done, NoRoom, Refused}
 use Rattle.answers.specs.declared.Verdict.the-variants.{Fine}
-use Rattle.demands.specs.declared.Went.{Went}
+use Rattle.demands.specs.declared.one_by_one.Went.{Went}
 use Rattle.demands.specs.Contracts.{Meshes, Updates, Checks}
 use Rattle.demands.specs.Chunks.{gridAfter, HonestLog}
 use Rattle.demands.specs.OneByOne.{Course, through, halted, wentOf, onward, entryLog, calls, verdictOn, checkedOn, chain, chainPromise, chainVerdict}

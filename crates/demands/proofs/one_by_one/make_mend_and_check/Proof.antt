@@ -1,12 +1,12 @@
--- `demands::make_mend_and_check` meets its contract: after an honest log the check refuses nothing. Assumes nothing.
+-- `demands::one_by_one::make_mend_and_check` meets its contract: after an honest log the check refuses nothing. Assumes nothing.
 use Rattle.rules.specs.Mesh.{Lists}
 use Rattle.rules.specs.Calls.{Scene}
 use Rattle.admit.specs.Scenes.{sceneOf, listsOf}
 use Rattle.demands.proofs.Composed.{meshes}
 use Rattle.demands.proofs.OneByOne.{chained, unmade}
 use borrow.Author.Needs.{needs}
-use Rattle.demands.proofs.make_mend_and_check.Statement.{statement}
-use Rattle.demands.proofs.make_mend_and_check.Tie as tie
+use Rattle.demands.proofs.one_by_one.make_mend_and_check.Statement.{statement}
+use Rattle.demands.proofs.one_by_one.make_mend_and_check.Tie as tie
 
 abbrev start : tie.After-mesh-grid → tie.Start
 start m = m .before .before .before .before .before .before .before .before .before .before .before .before .before .before .before .before

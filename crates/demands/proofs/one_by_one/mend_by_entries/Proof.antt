@@ -1,4 +1,4 @@
--- `demands::mend_by_entries` meets its contract: a call for each entry. Assumes nothing.
+-- `demands::one_by_one::mend_by_entries` meets its contract: a call for each entry. Assumes nothing.
 use mathlib.Core.Path.{_≡_, ap, _∙_}
 use mathlib.Core.List.{List}
 use Prim.Native.Nat.{ℕ, _-_, _*_, _/_}
@@ -13,8 +13,8 @@ use Rattle.demands.specs.OneByOne.{entryLog}
 use Rattle.demands.proofs.Composed.{updates}
 use Rattle.demands.proofs.OneByOne.{Calling, starts, goes-on, no-room, refuses, ends}
 use borrow.Author.Needs.{needs}
-use Rattle.demands.proofs.mend_by_entries.Statement.{statement}
-use Rattle.demands.proofs.mend_by_entries.Tie as tie
+use Rattle.demands.proofs.one_by_one.mend_by_entries.Statement.{statement}
+use Rattle.demands.proofs.one_by_one.mend_by_entries.Tie as tie
 
 abbrev Inv-loop : tie.InvT-loop
 Inv-loop vertices₀ triangles₀ links₀ slots₀ scene kinds covers cubes log quads entries left₀ k₀ vertices triangles links slots left k =

@@ -1,4 +1,4 @@
--- `demands::mend_each_and_check` meets its contract: the calls, then the check. Assumes nothing.
+-- `demands::one_by_one::mend_each_and_check` meets its contract: the calls, then the check. Assumes nothing.
 use mathlib.Core.Path.{ap, _∙_}
 use Rattle.rules.specs.Mesh.{Lists}
 use Rattle.rules.specs.Calls.{Scene}
@@ -6,8 +6,8 @@ use Rattle.admit.specs.Scenes.{sceneOf, listsOf}
 use Rattle.demands.specs.OneByOne.{checkedOn}
 use Rattle.demands.proofs.OneByOne.{went}
 use borrow.Author.Needs.{needs}
-use Rattle.demands.proofs.mend_each_and_check.Statement.{statement}
-use Rattle.demands.proofs.mend_each_and_check.Tie as tie
+use Rattle.demands.proofs.one_by_one.mend_each_and_check.Statement.{statement}
+use Rattle.demands.proofs.one_by_one.mend_each_and_check.Tie as tie
 
 abbrev start : tie.After-mend-by-entries → tie.Start
 start m = m .before .before .before .before .before .before .before .before .before .before .before .before .before .before
