@@ -36,7 +36,7 @@ use Rattle.update.specs.declared.Updated.the-variants as updated
 use Rattle.update.specs.Courses.{outcomeOf}
 use Rattle.demands.specs.Contracts.{Cubes, Meshes, Updates, Checks}
 use Rattle.demands.proofs.Telling.{numbered, ByName}
-use Rattle.demands.proofs.Stopped.{in-log, no-room-there, done-before}
+use Rattle.demands.proofs.Stopped.{none-is-not, in-log, no-room-there, done-before}
 
 -- a refusal: one of the call's own numbers, which 01's tests in their order give, and what was lent is as it was
 pub record Refuses {ℓ} {A : Type ℓ} (numbers : List ℕ) (verdict : rules.Verdict) (number place : ℕ) (entry exit : A) : Type ℓ where
@@ -57,6 +57,9 @@ zero-listed {ℓ} : {A : Type ℓ} {numbers : List ℕ} {n p : ℕ} → member 0
 zero-listed {numbers = numbers} m (given h) e =
     let z : _≡_ {A = Bool} true false = sym h ∙ ap (λ (i : ℕ). member i numbers) (sym e) ∙ m in
     let y : _≡_ {A = ℕ} 0 1 = cc in absurd (omega arith)
+
+fine-not-refused {ℓ} : {A : Type ℓ} {n p : ℕ} → fine ≡ refuse n p → A
+fine-not-refused e = let z : _≡_ {A = ℕ} 0 1 = cc in absurd (omega arith)
 
 -- ---- the cube
 
@@ -177,7 +180,8 @@ what-an-update-call-says S log entry Q r exit h e =
     c : Course
     c = course source S log entry Q
 
-    ran : (count : Count) (full : Option ℕ) → updateVerdict S log entry Q ≡ fine → c .full ≡ full → count .quads ≡ length (c .quads) → count .moved ≡ c .moved
+    ran : (count : Count) (full : Option ℕ) → updateVerdict S log entry Q ≡ fine → c .full ≡ full
+        → count .quads ≡ length (c .quads) → count .moved ≡ c .moved
         → exit ≡ layout (faces S) (span S) (c .highest) (c .quads) entry → Ran S log entry Q full count exit
     ran count full a f q m l = record { accepted = a; ended = f; quads = q; moved = m; laid = l }
 
@@ -192,7 +196,8 @@ what-an-update-call-says S log entry Q r exit h e =
     through (updated.NoRoom k count) t (some i) f h e =
         let p = f ∙ ap some (sym (ap (λ (o : Outcome). o .answer .place) e)) in
         record {
-          ran = ran count (some k) t p (ap (λ (o : Outcome). o .answer .quads) e) (ap (λ (o : Outcome). o .answer .moved) e) (ap (λ (o : Outcome). o .lists) e);
+          ran = ran count (some k) t p (ap (λ (o : Outcome). o .answer .quads) e) (ap (λ (o : Outcome). o .answer .moved) e)
+              (ap (λ (o : Outcome). o .lists) e);
           inLog = in-log source S log entry Q k t p;
           noRoom = no-room-there source S log entry Q k t p;
           before = (λ i. record { answer = record { number = 0; place = 0; quads = e i .answer .quads; moved = e i .answer .moved }; lists = e i .lists })
@@ -217,7 +222,8 @@ CheckSays S outer grid B Q (Refuse why place) = Refuses CHECK (checkVerdict S ou
 pub what-a-check-call-says : (S : Scene) (outer grid : List ℕ) (B : Lists) (Q : ℕ) (r : Verdict)
     → Checks S outer grid B Q r → CheckSays S outer grid B Q r
 what-a-check-call-says S outer grid B Q Fine e = sym e
-what-a-check-call-says S outer grid B Q (Refuse why place) e = refuses (sym e) (subst (Within CHECK) (sym e) (check-numbers S outer grid B Q)) refl refl refl
+what-a-check-call-says S outer grid B Q (Refuse why place) e =
+    refuses (sym e) (subst (Within CHECK) (sym e) (check-numbers S outer grid B Q)) refl refl refl
 
 -- ---- a refusal changes nothing
 
@@ -243,3 +249,23 @@ a-refused-update-changes-nothing S log entry Q why place exit d e =
 pub out-of-room-keeps-the-entries-before : (S : Scene) (log : List ℕ) (entry : Lists) (Q k : ℕ) (count : Count) (exit : Lists)
     → Updates S log entry Q (updated.NoRoom k count) exit → Updates S (take (12 * k) log) entry Q (updated.Done count) exit
 out-of-room-keeps-the-entries-before S log entry Q k count exit e = what-an-update-call-says S log entry Q (updated.NoRoom k count) exit tt e .before
+
+-- ---- and nothing is refused without cause
+
+pub made-if-nothing-refuses : (S : Scene) (outer grid : List ℕ) (culling : Bool) (entry : Lists) (r : Meshed) (exit : Lists)
+    → meshVerdict S outer grid culling entry ≡ fine → Meshes S outer grid culling entry r exit
+    → r ≡ meshed.Done (length (freshMesh S outer grid culling))
+made-if-nothing-refuses S outer grid culling entry (meshed.Done quads) exit v e =
+    ap meshed.Done (what-a-mesh-call-says S outer grid culling entry (meshed.Done quads) exit e .counted)
+made-if-nothing-refuses S outer grid culling entry (meshed.Refused why place) exit v e =
+    fine-not-refused (sym v ∙ what-a-mesh-call-says S outer grid culling entry (meshed.Refused why place) exit e .told)
+
+-- an update of a log that is accepted is done, unless an entry finds no room
+pub done-if-nothing-refuses : (S : Scene) (log : List ℕ) (entry : Lists) (Q : ℕ) (r : Updated) (exit : Lists) → ByName r
+    → updateVerdict S log entry Q ≡ fine → (course source S log entry Q) .full ≡ none → Updates S log entry Q r exit
+    → (count : Count) × (r ≡ updated.Done count)
+done-if-nothing-refuses S log entry Q (updated.Done count) exit n v f e = (count, refl)
+done-if-nothing-refuses S log entry Q (updated.NoRoom k count) exit n v f e =
+    none-is-not (sym f ∙ what-an-update-call-says S log entry Q (updated.NoRoom k count) exit n e .ran .ended)
+done-if-nothing-refuses S log entry Q (updated.Refused why place) exit n v f e =
+    fine-not-refused (sym v ∙ what-an-update-call-says S log entry Q (updated.Refused why place) exit n e .told)

@@ -22,7 +22,7 @@ use Rattle.rules.proofs.Checking.{then-fine, fine-then, if-fine, fine-if, lowes
 some-is : {a b : ℕ} → _≡_ {A = Option ℕ} (some a) (some b) → a ≡ b
 some-is e = cc
 
-none-is-not {ℓ} : {A : Type ℓ} {a : ℕ} → _≡_ {A = Option ℕ} none (some a) → A
+pub none-is-not {ℓ} : {A : Type ℓ} {a : ℕ} → _≡_ {A = Option ℕ} none (some a) → A
 none-is-not {a = a} e = let z : _≡_ {A = ℕ} 0 1 = cc in absurd (omega arith)
 
 -- ---- a course that stops
@@ -55,9 +55,21 @@ stops room work i (suc n) m v p k e =
         → Stops room work i (suc n) m v p k
     go true t e rest =
         let s = rest e in
-        record { before = suc (s .before); place = omega (arith, s .place); early = omega (arith, s .early); through = rw t (s .through); tight = rw t (s .tight) }
+        record {
+          before = suc (s .before);
+          place = omega (arith, s .place);
+          early = omega (arith, s .early);
+          through = rw t (s .through);
+          tight = rw t (s .tight);
+        }
     go false t e rest =
-        record { before = 0; place = omega (arith, some-is e); early = omega arith; through = rw t refl; tight = rw (t, sym (some-is e)) (leb-false (needed (work i) m) room t) }
+        record {
+          before = 0;
+          place = omega (arith, some-is e);
+          early = omega arith;
+          through = rw t refl;
+          tight = rw (t, sym (some-is e)) (leb-false (needed (work i) m) room t);
+        }
 
 -- a course by works that are alike is the same
 course-alike : (room : ℕ) (a b : ℕ → Work) (i n : ℕ) (m : List Quad) (v p : ℕ) → ((j : ℕ) → j < i + n → a j ≡ b j)
@@ -98,7 +110,8 @@ module _ (k : ℕ) (first rest : List ℕ) (whole : length first ≡ 12 * k) whe
         word j h,
         byte (12 * j + 4) (omega arith),
         byte (12 * j + 5) (omega arith),
-        every-alike 6 (λ f. not (badNeighbour types (getD (first ++ rest) (12 * j + (6 + f)) 0))) (λ f. not (badNeighbour types (getD first (12 * j + (6 + f)) 0)))
+        every-alike 6 (λ f. not (badNeighbour types (getD (first ++ rest) (12 * j + (6 + f)) 0)))
+            (λ f. not (badNeighbour types (getD first (12 * j + (6 + f)) 0)))
             (λ f l. ap (λ (t : ℕ). not (badNeighbour types t)) (byte (12 * j + (6 + f)) (omega arith))),
       )
 

@@ -32,7 +32,8 @@ pub fn make_and_check(
     covers: &[u8],
     cubes: &[u32],
 ) -> Verdict
-    ensures { λ r. ⌜ verdictOf r ≡ meshVerdict (sceneOf scene (now (kinds .entry)) (now (covers .entry)) (now (cubes .entry))) (now (outer .entry)) (now (grid .entry)) true
+    ensures { λ r. ⌜ verdictOf r ≡ meshVerdict (sceneOf scene (now (kinds .entry)) (now (covers .entry)) (now (cubes .entry)))
+        (now (outer .entry)) (now (grid .entry)) true
         (listsOf (now (vertices .entry)) (now (triangles .entry)) (now (links .entry)) (now (slots .entry))) ⌝ }
 {
     let made = mesh_grid(
@@ -81,11 +82,14 @@ pub fn mend_and_check(
     log: &[u8],
     left: &[u8],
 ) -> Verdict
-    ensures { λ r. ⌜ (verdictOf r ≡ mendVerdict (sceneOf scene (now (kinds .entry)) (now (covers .entry)) (now (cubes .entry))) (now (grid .entry)) (now (log .entry)) (now (left .entry))
+    ensures { λ r. ⌜ (verdictOf r ≡ mendVerdict (sceneOf scene (now (kinds .entry)) (now (covers .entry)) (now (cubes .entry)))
+        (now (grid .entry)) (now (log .entry)) (now (left .entry))
         (listsOf (now (vertices .entry)) (now (triangles .entry)) (now (links .entry)) (now (slots .entry))) quads)
         × (HonestLog (sceneOf scene (now (kinds .entry)) (now (covers .entry)) (now (cubes .entry))) (now (grid .entry)) (now (log .entry))
-        → now (left .entry) ≡ gridAfter (sceneOf scene (now (kinds .entry)) (now (covers .entry)) (now (cubes .entry))) (now (log .entry)) (now (grid .entry))
-        → verdictOf r ≡ mendPromise (sceneOf scene (now (kinds .entry)) (now (covers .entry)) (now (cubes .entry))) (now (grid .entry)) (now (log .entry))
+        → now (left .entry) ≡ gridAfter (sceneOf scene (now (kinds .entry)) (now (covers .entry)) (now (cubes .entry)))
+        (now (log .entry)) (now (grid .entry))
+        → verdictOf r ≡ mendPromise (sceneOf scene (now (kinds .entry)) (now (covers .entry)) (now (cubes .entry)))
+        (now (grid .entry)) (now (log .entry))
         (listsOf (now (vertices .entry)) (now (triangles .entry)) (now (links .entry)) (now (slots .entry))) quads) ⌝ }
 {
     let no_face = &grid[..0];

@@ -36,7 +36,8 @@ fn mend_by_entries(
     quads: usize,
 ) -> Went
     ensures { λ r. ⌜ wentOf r (listsOf (now (vertices .exit)) (now (triangles .exit)) (now (links .exit)) (now (slots .exit)))
-        ≡ calls (sceneOf scene (now (kinds .entry)) (now (covers .entry)) (now (cubes .entry))) (now (log .entry)) 0 (length (now (log .entry)) / 12)
+        ≡ calls (sceneOf scene (now (kinds .entry)) (now (covers .entry)) (now (cubes .entry)))
+        (now (log .entry)) 0 (length (now (log .entry)) / 12)
         (listsOf (now (vertices .entry)) (now (triangles .entry)) (now (links .entry)) (now (slots .entry))) quads ⌝ }
 {
     let entries = log.len() / 12;
@@ -88,7 +89,8 @@ fn mend_each_and_check(
     quads: usize,
 ) -> Verdict
     ensures { λ r. ⌜ verdictOf r ≡ checkedOn (sceneOf scene (now (kinds .entry)) (now (covers .entry)) (now (cubes .entry))) (now (left .entry))
-        (calls (sceneOf scene (now (kinds .entry)) (now (covers .entry)) (now (cubes .entry))) (now (log .entry)) 0 (length (now (log .entry)) / 12)
+        (calls (sceneOf scene (now (kinds .entry)) (now (covers .entry)) (now (cubes .entry)))
+        (now (log .entry)) 0 (length (now (log .entry)) / 12)
         (listsOf (now (vertices .entry)) (now (triangles .entry)) (now (links .entry)) (now (slots .entry))) quads) ⌝ }
 {
     let went = mend_by_entries(
@@ -136,11 +138,14 @@ pub fn make_mend_and_check(
     log: &[u8],
     left: &[u8],
 ) -> Verdict
-    ensures { λ r. ⌜ (verdictOf r ≡ chainVerdict (sceneOf scene (now (kinds .entry)) (now (covers .entry)) (now (cubes .entry))) (now (grid .entry)) (now (log .entry)) (now (left .entry))
+    ensures { λ r. ⌜ (verdictOf r ≡ chainVerdict (sceneOf scene (now (kinds .entry)) (now (covers .entry)) (now (cubes .entry)))
+        (now (grid .entry)) (now (log .entry)) (now (left .entry))
         (listsOf (now (vertices .entry)) (now (triangles .entry)) (now (links .entry)) (now (slots .entry))))
         × (HonestLog (sceneOf scene (now (kinds .entry)) (now (covers .entry)) (now (cubes .entry))) (now (grid .entry)) (now (log .entry))
-        → now (left .entry) ≡ gridAfter (sceneOf scene (now (kinds .entry)) (now (covers .entry)) (now (cubes .entry))) (now (log .entry)) (now (grid .entry))
-        → verdictOf r ≡ chainPromise (sceneOf scene (now (kinds .entry)) (now (covers .entry)) (now (cubes .entry))) (now (grid .entry)) (now (log .entry))
+        → now (left .entry) ≡ gridAfter (sceneOf scene (now (kinds .entry)) (now (covers .entry)) (now (cubes .entry)))
+        (now (log .entry)) (now (grid .entry))
+        → verdictOf r ≡ chainPromise (sceneOf scene (now (kinds .entry)) (now (covers .entry)) (now (cubes .entry)))
+        (now (grid .entry)) (now (log .entry))
         (listsOf (now (vertices .entry)) (now (triangles .entry)) (now (links .entry)) (now (slots .entry)))) ⌝ }
 {
     let made = mesh_grid(

@@ -88,7 +88,8 @@ returns-2 c =
     let o = u .before .before .before .before .before in
     let t = start (o .before .before) in
     promised (scene t) (t .args .grid .now) (t .args .log .now) (t .args .left .now) (lists t) (t .args .quads)
-    (mended (scene t) (t .args .grid .now) (t .args .log .now) (t .args .left .now) (lists t) (t .args .quads) (exit u) (told .before .mended .given .0 .0) (first-fine o)
+    (mended (scene t) (t .args .grid .now) (t .args .log .now) (t .args .left .now) (lists t) (t .args .quads) (exit u)
+    (told .before .mended .given .0 .0) (first-fine o)
     (updates (exit u) (told .before .mended .given .1) (u .update-mesh .ensures)) (c .check-mesh2 .ensures))
 
 same-length-9 : tie.Need-same-length-9
@@ -109,7 +110,8 @@ returns-3 c =
     let o = u .before .before .before .before .before in
     let t = start (o .before .before) in
     promised (scene t) (t .args .grid .now) (t .args .log .now) (t .args .left .now) (lists t) (t .args .quads)
-    (stopped (scene t) (t .args .grid .now) (t .args .log .now) (t .args .left .now) (lists t) (t .args .quads) (exit u) (c .before .mended2 .given .0 .0) (c .before .mended2 .given .0 .1 .0) (first-fine o)
+    (stopped (scene t) (t .args .grid .now) (t .args .log .now) (t .args .left .now) (lists t) (t .args .quads) (exit u)
+    (c .before .mended2 .given .0 .0) (c .before .mended2 .given .0 .1 .0) (first-fine o)
     (updates (exit u) (c .before .mended2 .given .1) (u .update-mesh .ensures)))
 
 same-length-13 : tie.Need-same-length-13
@@ -130,7 +132,8 @@ returns-4 c =
     let o = u .before .before .before .before .before in
     let t = start (o .before .before) in
     promised (scene t) (t .args .grid .now) (t .args .log .now) (t .args .left .now) (lists t) (t .args .quads)
-    (refused (scene t) (t .args .grid .now) (t .args .log .now) (t .args .left .now) (lists t) (t .args .quads) (exit u) (c .before .mended3 .given .0 .0) (c .before .mended3 .given .0 .1 .0) (first-fine o)
+    (refused (scene t) (t .args .grid .now) (t .args .log .now) (t .args .left .now) (lists t) (t .args .quads) (exit u)
+    (c .before .mended3 .given .0 .0) (c .before .mended3 .given .0 .1 .0) (first-fine o)
     (updates (exit u) (c .before .mended3 .given .1) (u .update-mesh .ensures)))
 
 pub mend-and-check-spec : {M : Type 1} → statement M

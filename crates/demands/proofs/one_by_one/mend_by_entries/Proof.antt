@@ -44,7 +44,8 @@ abbrev exit : tie.After-update-mesh Inv-loop μ-loop → Lists
 exit u = let l = u .update-mesh .last in listsOf (l .0) (l .1 .0) (l .1 .1 .0) (l .1 .1 .1 .0)
 
 called : (u : tie.After-update-mesh Inv-loop μ-loop) → let i = test u in
-    outcomeOf (u .update-mesh .result) (exit u) ≡ updateMesh (scene (start i)) (entryLog (start i .args .log .now) (i .before .loop .k)) (here i) (i .before .loop .left)
+    outcomeOf (u .update-mesh .result) (exit u)
+    ≡ updateMesh (scene (start i)) (entryLog (start i .args .log .now) (i .before .loop .k)) (here i) (i .before .loop .left)
 called u =
     let i = test u in
     let l = i .before .loop in
@@ -99,7 +100,8 @@ returns c =
     let i = test u in
     let t = start i in
     let l = i .before .loop in
-    no-room (scene t) (t .args .log .now) (length (t .args .log .now) / 12) (lists t) (t .args .quads) (l .k) (here i) (l .left) (exit u) (c .before .mended2 .given .0 .0) (c .before .mended2 .given .0 .1 .0)
+    no-room (scene t) (t .args .log .now) (length (t .args .log .now) / 12) (lists t) (t .args .quads) (l .k) (here i) (l .left) (exit u)
+    (c .before .mended2 .given .0 .0) (c .before .mended2 .given .0 .1 .0)
     (i .loop-test .taken) (l .inv) (updates (exit u) (c .before .mended2 .given .1) (called u))
 
 enum-known-mended-3 : tie.Need-enum-known-mended-3 Inv-loop μ-loop
@@ -123,7 +125,8 @@ returns-2 c =
     let i = test u in
     let t = start i in
     let l = i .before .loop in
-    refuses (scene t) (t .args .log .now) (length (t .args .log .now) / 12) (lists t) (t .args .quads) (l .k) (here i) (l .left) (exit u) (c .before .mended3 .given .0 .0) (c .before .mended3 .given .0 .1 .0)
+    refuses (scene t) (t .args .log .now) (length (t .args .log .now) / 12) (lists t) (t .args .quads) (l .k) (here i) (l .left) (exit u)
+    (c .before .mended3 .given .0 .0) (c .before .mended3 .given .0 .1 .0)
     (i .loop-test .taken) (l .inv) (updates (exit u) (c .before .mended3 .given .1) (called u))
 
 add-k : tie.Need-add-k Inv-loop μ-loop
@@ -140,7 +143,8 @@ loop-again c =
     let i = test u in
     let t = start i in
     let l = i .before .loop in
-    goes-on (scene t) (t .args .log .now) (length (t .args .log .now) / 12) (lists t) (t .args .quads) (l .k) (here i) (l .left) (exit u) (c .before .mended .given .0 .0) (i .loop-test .taken) (l .inv)
+    goes-on (scene t) (t .args .log .now) (length (t .args .log .now) / 12) (lists t) (t .args .quads) (l .k) (here i) (l .left) (exit u)
+    (c .before .mended .given .0 .0) (i .loop-test .taken) (l .inv)
     (let k = u .update-mesh .kept in record { vertices = k .0; triangles = k .1 .0; links = k .1 .1 .0; slots = k .1 .1 .1 .0 })
     (updates (exit u) (c .before .mended .given .1) (called u))
 
@@ -160,7 +164,8 @@ returns-3 : tie.Need-returns-3 Inv-loop μ-loop
 returns-3 c =
     let t = c .before .before .before .before .before .before .before .before .before .before in
     let l = c .before .loop in
-    ends (scene t) (t .args .log .now) (length (t .args .log .now) / 12) (lists t) (t .args .quads) (l .k) (listsOf (l .vertices) (l .triangles) (l .links) (l .slots)) (l .left)
+    ends (scene t) (t .args .log .now) (length (t .args .log .now) / 12) (lists t) (t .args .quads) (l .k)
+    (listsOf (l .vertices) (l .triangles) (l .links) (l .slots)) (l .left)
     (let h = c .loop-test .left in omega arith) (l .inv)
 
 pub mend-by-entries-spec : {M : Type 1} → statement M
