@@ -6,7 +6,7 @@ use Prim.Native.Nat.{ℕ, _*_, _/_, _<_}
 use mathlib.Core.Path.{_≡_, refl, sym, ap, _∙_, subst}
 use mathlib.Core.Logic.{_≢_}
 use mathlib.Core.Bool.{Bool, true, false}
-use mathlib.Core.List.{List, [], _∷_, _++_}
+use mathlib.Core.List.{List, _++_}
 use mathlib.Core.Option.{Option, none, some}
 use native.Mathlib.Omega.{arith}
 use lib.Dec.{eqb}
@@ -19,7 +19,7 @@ use Rattle.rules.specs.Update.{source, work, entryAt, needed, Course}
 use Rattle.rules.specs.Answers as rules
 use Rattle.rules.specs.Answers.{fine, refuse, _then_, refuseIf, BAD-TYPES, BAD-NUMBER, BAD-LINKS, BAD-ENTRY}
 use Rattle.rules.specs.Calls.{Answer, CubeOutcome, cubeVerdict, cubeBy, Scene, world, span, faces, room, Outcome, freshMesh, meshVerdict, meshBy, updateVerdict, course, courseAnswer, updateBy, checkVerdict, checkBy}
-use Rattle.rules.proofs.Refusals.{Within, none-given, given, CUBE, MESH, UPDATE, CHECK, cube-numbers, mesh-numbers, update-numbers, check-numbers}
+use Rattle.rules.proofs.Refusals.{Within, given, CUBE, MESH, UPDATE, CHECK, cube-numbers, mesh-numbers, update-numbers, check-numbers}
 use Rattle.answers.specs.declared.Refusal.{Refusal}
 use Rattle.answers.specs.declared.Verdict.{Verdict}
 use Rattle.answers.specs.declared.Verdict.the-variants.{Fine, Refuse}

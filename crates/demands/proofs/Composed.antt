@@ -7,7 +7,7 @@ use lib.Dec.{eqb}
 use borrow.Author.Tests.{eqb-true}
 use Rattle.rules.specs.Mesh.{Lists}
 use Rattle.rules.specs.Answers.{Verdict, fine, refuse, _then_}
-use Rattle.rules.specs.Calls.{Answer, Outcome, Scene, meshVerdict, updateMesh, checkVerdict}
+use Rattle.rules.specs.Calls.{Outcome, Scene, meshVerdict, updateMesh, checkVerdict}
 use Rattle.answers.specs.declared.Refusal.{Refusal}
 use Rattle.answers.specs.Verdicts.{numberOf}
 use Rattle.meshem.specs.declared.Meshed.{Meshed}

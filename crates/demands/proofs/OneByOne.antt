@@ -1,19 +1,19 @@
 -- A call for each entry of a log: the loop over them, and that a mesh which passed still passes. Assumes nothing.
 use Prim.Native.Nat.{ℕ, zero, suc, _+_, _-_, _*_, _/_, _≤_, _<_}
 use mathlib.Core.Path.{_≡_, refl, sym, ap, _∙_, subst}
-use mathlib.Core.Bool.{Bool, true, false, cond}
-use mathlib.Core.List.{List, [], _∷_, _++_}
+use mathlib.Core.Bool.{true, cond}
+use mathlib.Core.List.{List, [], _∷_}
 use native.Mathlib.Nat.{sub-zero}
 use native.Mathlib.Omega.{arith}
 use lib.Dec.{eqb}
 use lib.ListN.{length, getD, take, drop, take-append-drop, length-drop}
 use lib.Seq.{getD-drop, drop-drop, length-take-le}
 use borrow.Author.Tests.{eqb-true}
-use Rattle.rules.specs.Lists.{each, part}
+use Rattle.rules.specs.Lists.{each}
 use Rattle.rules.specs.Mesh.{Lists}
 use Rattle.rules.specs.Update.{Entry, entryAt, source, gridLog, Honest, Mends, gridAfter as gridStep}
 use Rattle.rules.specs.Answers.{Verdict, fine, refuse, _then_}
-use Rattle.rules.specs.Calls.{Outcome, Scene, world, entriesOf, meshVerdict, updateMesh, checkVerdict}
+use Rattle.rules.specs.Calls.{Outcome, Scene, world, entriesOf, meshVerdict, updateMesh}
 use Rattle.rules.proofs.ListLaws.{split}
 use Rattle.answers.specs.declared.Refusal.{Refusal}
 use Rattle.answers.specs.Verdicts.{numberOf}

@@ -6,7 +6,6 @@ use mathlib.Core.Bool.{Bool}
 use mathlib.Core.List.{List}
 use Rattle.rules.specs.Cube.{Shape}
 use Rattle.rules.specs.Mesh.{Lists}
-use Rattle.rules.specs.Answers as rules
 use Rattle.rules.specs.Calls.{CubeOutcome, Outcome, Scene}
 use Rattle.answers.specs.declared.Verdict.{Verdict}
 use Rattle.voxel_mesh.specs.declared.Cubed.{Cubed}

@@ -1,23 +1,21 @@
 -- A log that stops for want of room has done the log of its earlier entries, whole. Assumes nothing.
-use Prim.Native.Nat.{ℕ, zero, suc, _+_, _*_, _/_, _%_, _≤_, _<_}
+use Prim.Native.Nat.{ℕ, zero, suc, _+_, _*_, _/_, _%_, _<_}
 use mathlib.Core.Path.{_≡_, refl, sym, ap, _∙_}
-use mathlib.Core.Logic.{_≢_}
-use mathlib.Core.Bool.{Bool, true, false, cond, not, _&&_, _||_}
+use mathlib.Core.Bool.{Bool, true, false, cond, not}
 use mathlib.Core.List.{List, _++_}
 use mathlib.Core.Option.{Option, none, some}
 use native.Mathlib.Omega.{arith}
-use lib.Dec.{eqb, leb, ltb}
+use lib.Dec.{eqb, leb}
 use lib.ListN.{length, getD, take, drop, take-append-drop, length-drop, List·getD-append}
 use lib.Seq.{length-take-le, drop-append-le, take-append-le}
 use borrow.Author.Tests.{leb-false, eq-eqb}
 use Rattle.rules.specs.Lists.{every, part}
 use Rattle.rules.specs.Cells.{cells}
 use Rattle.rules.specs.Mesh.{Quad, Lists, layout, decode}
-use Rattle.rules.specs.Update.{Entry, Work, Course, Tested, changeOf, u32At, entryAt, work, ops, run, moves, highest, needed, courseFrom}
-use Rattle.rules.specs.Answers.{Verdict, fine, refuse, _then_, refuseIf, refuseLowest, BAD-SIZE, badNeighbour, badEntry, BAD-ENTRY}
-use Rattle.rules.specs.Calls.{Outcome, Scene, answered, world, span, faces, room, typesVerdict, lentVerdict, updateVerdict, course, updateBy, updateMeshBy}
-use Rattle.rules.proofs.ListLaws.{split}
-use Rattle.rules.proofs.Checking.{then-fine, fine-then, if-fine, fine-if, lowest-fine, fine-lowest}
+use Rattle.rules.specs.Update.{Entry, Work, Course, Tested, u32At, entryAt, work, ops, run, moves, highest, needed, courseFrom}
+use Rattle.rules.specs.Answers.{Verdict, fine, refuse, _then_, refuseLowest, BAD-SIZE, badNeighbour, badEntry, BAD-ENTRY}
+use Rattle.rules.specs.Calls.{Scene, answered, world, span, faces, room, typesVerdict, lentVerdict, updateVerdict, course, updateBy, updateMeshBy}
+use Rattle.rules.proofs.Checking.{then-fine, fine-then, fine-if, lowest-fine, fine-lowest}
 
 some-is : {a b : ℕ} → _≡_ {A = Option ℕ} (some a) (some b) → a ≡ b
 some-is e = cc

@@ -1,5 +1,5 @@
 -- A chunk, and update calls one after the other, each on what the one before left. Definitions only.
-use Prim.Native.Nat.{ℕ, zero, suc}
+use Prim.Native.Nat.{ℕ, suc}
 use mathlib.Core.List.{List, []}
 use Rattle.rules.specs.Mesh.{Lists}
 use Rattle.rules.specs.Update.{source, gridLog, Honest, Mends}
