@@ -1,22 +1,28 @@
 -- The same promises of the C calls, whose answers are 01's numbers. Assumes nothing.
-use Prim.Native.Nat.{ℕ}
+use Prim.Native.Nat.{ℕ, _*_}
 use mathlib.Core.Path.{_≡_, refl, sym, ap, _∙_, subst}
 use mathlib.Core.Logic.{_≢_, _↔_}
 use mathlib.Core.Bool.{Bool, true}
 use mathlib.Core.List.{List, []}
+use lib.ListN.{take}
+use Rattle.rules.specs.Cube.{Shape}
 use Rattle.rules.specs.Mesh.{Lists}
 use Rattle.rules.specs.Update.{source}
 use Rattle.rules.specs.Answers.{fine}
 use Rattle.rules.specs.Check.{Right}
-use Rattle.rules.specs.Calls.{Answer, Outcome, Scene, answered, world, span, openVerdict, meshGrid, updateMesh, checkVerdict, checkMesh}
-use Rattle.rules.proofs.Refusals.{CHECK, check-numbers, zero-fine, mesh-refused, update-refused}
+use Rattle.rules.specs.Calls.{Answer, CubeOutcome, generateVoxelMesh, Outcome, Scene, answered, world, span, openVerdict, meshGrid, updateMesh, checkVerdict, checkMesh}
+use Rattle.rules.proofs.Refusals.{CHECK, check-numbers, zero-fine, cube-refused, mesh-refused, update-refused}
 use Rattle.rules.proofs.Demands.{accepts-exactly, fresh-accepted, mended-accepted}
 use Rattle.answers.specs.declared.Verdict.the-variants.{Fine}
-use Rattle.exports.specs.Answers.{answer, outcome}
+use Rattle.exports.specs.Answers.{answer, cubeOut, outcome}
 use Rattle.demands.specs.Chunks.{gridAfter, HonestLog}
+use Rattle.demands.proofs.Answers.{out-of-room-keeps-the-entries-before}
 use Rattle.demands.proofs.Exact.{the-check-is-exact}
 
--- meshem_mesh_grid and meshem_update_mesh tell an answer and leave lists; meshem_check_mesh tells a number and a place
+-- a call tells an answer and leaves lists; meshem_check_mesh tells a number and a place
+abbrev pub TellsCube : Shape → List ℕ → Answer → List ℕ → Type 0
+TellsCube shape room a exit = cubeOut a exit ≡ generateVoxelMesh shape room
+
 abbrev pub TellsMesh : Scene → List ℕ → List ℕ → Bool → Lists → Answer → Lists → Type 0
 TellsMesh S outer grid culling B a exit = outcome a exit ≡ meshGrid S outer grid culling B
 
@@ -25,6 +31,11 @@ TellsUpdate S log B Q a exit = outcome a exit ≡ updateMesh S log B Q
 
 abbrev pub TellsCheck : Scene → List ℕ → List ℕ → Lists → ℕ → ℕ → ℕ → Type 0
 TellsCheck S outer grid B Q number place = answer number place 0 0 ≡ checkMesh S outer grid B Q
+
+pub a-refused-c-cube-changes-nothing : (shape : Shape) (room : List ℕ) (a : Answer) (exit : List ℕ) → a .number ≢ 0
+    → TellsCube shape room a exit → exit ≡ room
+a-refused-c-cube-changes-nothing shape room a exit d e =
+    ap (λ (o : CubeOutcome). o .out) e ∙ cube-refused shape room (subst (λ (o : CubeOutcome). o .answer .number ≢ 0) e d)
 
 pub a-refused-c-mesh-changes-nothing : (S : Scene) (outer grid : List ℕ) (culling : Bool) (B : Lists) (a : Answer) (exit : Lists) → a .number ≢ 0
     → TellsMesh S outer grid culling B a exit → exit ≡ B
@@ -36,6 +47,13 @@ pub a-refused-c-update-changes-nothing : (S : Scene) (log : List ℕ) (B : Lists
 a-refused-c-update-changes-nothing S log B Q a exit d f e =
     ap (λ (o : Outcome). o .lists) e
     ∙ update-refused source S log B Q (subst (λ (o : Outcome). o .answer .number ≢ 0) e d) (subst (λ (o : Outcome). o .answer .number ≢ 14) e f)
+
+-- the one exception: what is left is what the call for the entries before it leaves
+pub out-of-room-c-keeps-the-entries-before : (S : Scene) (log : List ℕ) (B : Lists) (Q : ℕ) (a : Answer) (exit : Lists) → a .number ≡ 14
+    → TellsUpdate S log B Q a exit → TellsUpdate S (take (12 * a .place) log) B Q (answer 0 0 (a .quads) (a .moved)) exit
+out-of-room-c-keeps-the-entries-before S log B Q a exit z e =
+    out-of-room-keeps-the-entries-before S log B Q (a .place) (record { quads = a .quads; moved = a .moved }) exit
+    ((λ i. outcome (answer (sym z i) (a .place) (a .quads) (a .moved)) exit) ∙ e)
 
 pub the-c-check-is-exact : (S : Scene) (outer grid : List ℕ) (B : Lists) (Q number place : ℕ) → TellsCheck S outer grid B Q number place
     → (number ≡ 0) ↔ ((openVerdict S outer grid B Q ≡ fine) × Right (world S) outer grid (span S) B Q)
