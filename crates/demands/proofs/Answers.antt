@@ -1,0 +1,271 @@
+-- Promise 1, "every public call takes all input, damaged meshes and logs among it, ends, and answers a result or one numbered refusal of
+-- document 01. A refused call changes no lent buffer; only an update out of room keeps the entries before the one it stopped at, complete,
+-- and says how many", and promise 3, "cubes, fresh meshes and updates are proved against 01's face rules": all that an answer says.
+-- That a call ends, for all input, is proved with its code: none of the four has a `requires`. Assumes nothing.
+use Prim.Native.Nat.{ℕ, _*_, _/_, _<_}
+use mathlib.Core.Path.{_≡_, refl, sym, ap, _∙_, subst}
+use mathlib.Core.Logic.{_≢_}
+use mathlib.Core.Bool.{Bool, true, false}
+use mathlib.Core.List.{List, _++_}
+use mathlib.Core.Option.{Option, none, some}
+use native.Mathlib.Omega.{arith}
+use lib.Dec.{eqb}
+use lib.ListN.{length, take, drop}
+use borrow.Author.Tests.{eqb-false}
+use Rattle.rules.specs.Lists.{member}
+use Rattle.rules.specs.Cube.{Shape, floatsOf, cubeWords}
+use Rattle.rules.specs.Mesh.{Lists, layout}
+use Rattle.rules.specs.Update.{source, work, entryAt, needed, Course}
+use Rattle.rules.specs.Answers as rules
+use Rattle.rules.specs.Answers.{fine, refuse, _then_, refuseIf, BAD-TYPES, BAD-NUMBER, BAD-LINKS, BAD-ENTRY}
+use Rattle.rules.specs.Calls.{Answer, CubeOutcome, cubeVerdict, cubeBy, Scene, world, span, faces, room, Outcome, freshMesh, meshVerdict, meshBy, updateVerdict, course, courseAnswer, updateBy, checkVerdict, checkBy}
+use Rattle.rules.proofs.Refusals.{Within, given, CUBE, MESH, UPDATE, CHECK, cube-numbers, mesh-numbers, update-numbers, check-numbers}
+use Rattle.answers.specs.declared.Refusal.{Refusal}
+use Rattle.answers.specs.declared.Verdict.{Verdict}
+use Rattle.answers.specs.declared.Verdict.the-variants.{Fine, Refuse}
+use Rattle.answers.specs.Verdicts.{numberOf}
+use Rattle.voxel_mesh.specs.declared.Cubed.{Cubed}
+use Rattle.voxel_mesh.specs.declared.Cubed.the-variants as cubed
+use Rattle.voxel_mesh.specs.Outcome as cube
+use Rattle.meshem.specs.declared.Meshed.{Meshed}
+use Rattle.meshem.specs.declared.Meshed.the-variants as meshed
+use Rattle.meshem.specs.Outcome as mesh
+use Rattle.mending.specs.declared.Count.{Count}
+use Rattle.update.specs.declared.Updated.{Updated}
+use Rattle.update.specs.declared.Updated.the-variants as updated
+use Rattle.update.specs.Outcome.{outcomeOf}
+use Rattle.demands.specs.Contracts.{Cubes, Meshes, Updates, Checks}
+use Rattle.demands.proofs.Telling.{numbered, ByName}
+use Rattle.demands.proofs.Stopped.{none-is-not, in-log, no-room-there, done-before}
+
+-- a refusal: one of the call's own numbers, which 01's tests in their order give, and what was lent is as it was
+pub record Refuses {ℓ} {A : Type ℓ} (numbers : List ℕ) (verdict : rules.Verdict) (number place : ℕ) (entry exit : A) : Type ℓ where
+  pub listed : member number numbers ≡ true
+  pub told : verdict ≡ refuse number place
+  pub kept : exit ≡ entry
+
+refuses {ℓ} : {A : Type ℓ} {numbers : List ℕ} {verdict : rules.Verdict} {number place n p : ℕ} {entry exit : A}
+    → verdict ≡ refuse n p → Within numbers (refuse n p) → number ≡ n → place ≡ p → exit ≡ entry → Refuses numbers verdict number place entry exit
+refuses {numbers = numbers} t (given h) n p e =
+    record { listed = ap (λ (i : ℕ). member i numbers) n ∙ h; told = t ∙ (λ i. refuse (sym n i) (sym p i)); kept = e }
+
+-- no refusal's number is 0
+not-zero : (why : Refusal) → numberOf why ≢ 0
+not-zero why = eqb-false (numberOf why) 0 (numbered why .1)
+
+zero-listed {ℓ} : {A : Type ℓ} {numbers : List ℕ} {n p : ℕ} → member 0 numbers ≡ false → Within numbers (refuse n p) → 0 ≡ n → A
+zero-listed {numbers = numbers} m (given h) e =
+    let z : _≡_ {A = Bool} true false = sym h ∙ ap (λ (i : ℕ). member i numbers) (sym e) ∙ m in
+    let y : _≡_ {A = ℕ} 0 1 = cc in absurd (omega arith)
+
+fine-not-refused {ℓ} : {A : Type ℓ} {n p : ℕ} → fine ≡ refuse n p → A
+fine-not-refused e = let z : _≡_ {A = ℕ} 0 1 = cc in absurd (omega arith)
+
+-- ---- the cube
+
+-- the words of 01's cube, then what was there
+pub record CubeMade (shape : Shape) (entry exit : List ℕ) : Type 0 where
+  pub accepted : cubeVerdict shape entry ≡ fine
+  pub laid : exit ≡ cubeWords shape ++ drop (24 * floatsOf (shape .coloured)) entry
+
+abbrev saysBy : Shape → List ℕ → rules.Verdict → List ℕ → Type 0
+saysBy shape entry fine exit = CubeMade shape entry exit
+saysBy shape entry (refuse number place) exit = Refuses CUBE (cubeVerdict shape entry) number place entry exit
+
+abbrev pub CubeSays : Shape → List ℕ → Cubed → List ℕ → Type 0
+CubeSays shape entry r exit = saysBy shape entry (cube.verdictOf r) exit
+
+pub what-a-cube-call-says : (shape : Shape) (entry : List ℕ) (r : Cubed) (exit : List ℕ) → Cubes shape entry r exit → CubeSays shape entry r exit
+what-a-cube-call-says shape entry r exit = by r
+  where
+    done : (v : rules.Verdict) → cubeVerdict shape entry ≡ v → Within CUBE v
+        → record { answer = checkBy fine; out = exit } ≡ cubeBy v shape entry → CubeMade shape entry exit
+    done fine t w e = record { accepted = t; laid = ap (λ (o : CubeOutcome). o .out) e }
+    done (refuse n p) t w e = zero-listed refl w (ap (λ (o : CubeOutcome). o .answer .number) e)
+
+    refused : (number place : ℕ) → number ≢ 0 → (v : rules.Verdict) → cubeVerdict shape entry ≡ v → Within CUBE v
+        → record { answer = checkBy (refuse number place); out = exit } ≡ cubeBy v shape entry
+        → Refuses CUBE (cubeVerdict shape entry) number place entry exit
+    refused number place d fine t w e = absurd (d (ap (λ (o : CubeOutcome). o .answer .number) e))
+    refused number place d (refuse n p) t w e =
+        refuses t w (ap (λ (o : CubeOutcome). o .answer .number) e) (ap (λ (o : CubeOutcome). o .answer .place) e) (ap (λ (o : CubeOutcome). o .out) e)
+
+    by : (r : Cubed) → Cubes shape entry r exit → CubeSays shape entry r exit
+    by cubed.Done = done (cubeVerdict shape entry) refl (cube-numbers shape entry)
+    by cubed.BadNumber = refused 4 0 (λ e. omega arith) (cubeVerdict shape entry) refl (cube-numbers shape entry)
+    by cubed.BadAtlas = refused 5 0 (λ e. omega arith) (cubeVerdict shape entry) refl (cube-numbers shape entry)
+    by (cubed.BadFace place) = refused 7 place (λ e. omega arith) (cubeVerdict shape entry) refl (cube-numbers shape entry)
+    by cubed.ShortRoom = refused 9 0 (λ e. omega arith) (cubeVerdict shape entry) refl (cube-numbers shape entry)
+
+-- ---- a fresh mesh
+
+-- 01's mesh, by the algorithm asked for, laid out in the lent lists
+pub record Made (S : Scene) (outer grid : List ℕ) (culling : Bool) (entry : Lists) (quads : ℕ) (exit : Lists) : Type 0 where
+  pub accepted : meshVerdict S outer grid culling entry ≡ fine
+  pub counted : quads ≡ length (freshMesh S outer grid culling)
+  pub laid : let m = freshMesh S outer grid culling in exit ≡ layout (faces S) (span S) (length m) m entry
+
+abbrev pub MeshSays : Scene → List ℕ → List ℕ → Bool → Lists → Meshed → Lists → Type 0
+MeshSays S outer grid culling entry (meshed.Done quads) exit = Made S outer grid culling entry quads exit
+MeshSays S outer grid culling entry (meshed.Refused why place) exit =
+    Refuses MESH (meshVerdict S outer grid culling entry) (numberOf why) place entry exit
+
+pub what-a-mesh-call-says : (S : Scene) (outer grid : List ℕ) (culling : Bool) (entry : Lists) (r : Meshed) (exit : Lists)
+    → Meshes S outer grid culling entry r exit → MeshSays S outer grid culling entry r exit
+what-a-mesh-call-says S outer grid culling entry r exit e =
+    go r (meshVerdict S outer grid culling entry) refl (mesh-numbers S outer grid culling entry) e
+  where
+    go : (r : Meshed) (v : rules.Verdict) → meshVerdict S outer grid culling entry ≡ v → Within MESH v
+        → mesh.outcome r exit ≡ meshBy v S (freshMesh S outer grid culling) entry → MeshSays S outer grid culling entry r exit
+    go (meshed.Done quads) fine t w e =
+        record { accepted = t; counted = ap (λ (o : Outcome). o .answer .quads) e; laid = ap (λ (o : Outcome). o .lists) e }
+    go (meshed.Refused why place) fine t w e = absurd (not-zero why (ap (λ (o : Outcome). o .answer .number) e))
+    go (meshed.Done quads) (refuse n p) t w e = zero-listed refl w (ap (λ (o : Outcome). o .answer .number) e)
+    go (meshed.Refused why place) (refuse n p) t w e =
+        refuses t w (ap (λ (o : Outcome). o .answer .number) e) (ap (λ (o : Outcome). o .answer .place) e) (ap (λ (o : Outcome). o .lists) e)
+
+-- ---- an update
+
+-- 01's course of the log, by the side that the source tests, laid out in the lent lists; `full` is the entry that found no room
+pub record Ran (S : Scene) (log : List ℕ) (entry : Lists) (Q : ℕ) (full : Option ℕ) (count : Count) (exit : Lists) : Type 0 where
+  pub accepted : updateVerdict S log entry Q ≡ fine
+  pub ended : (course source S log entry Q) .full ≡ full
+  pub quads : count .quads ≡ length ((course source S log entry Q) .quads)
+  pub moved : count .moved ≡ (course source S log entry Q) .moved
+  pub laid : let c = course source S log entry Q in exit ≡ layout (faces S) (span S) (c .highest) (c .quads) entry
+
+-- out of room at entry k: the call for the entries before it alone, k of them, answers Done with the same count and the same lists
+pub record Stopped (S : Scene) (log : List ℕ) (entry : Lists) (Q k : ℕ) (count : Count) (exit : Lists) : Type 0 where
+  pub ran : Ran S log entry Q (some k) count exit
+  pub inLog : k < length log / 12
+  pub noRoom : room S entry < needed (work source (world S) (entryAt log k)) ((course source S log entry Q) .quads)
+  pub before : Updates S (take (12 * k) log) entry Q (updated.Done count) exit
+
+abbrev pub UpdateSays : Scene → List ℕ → Lists → ℕ → Updated → Lists → Type 0
+UpdateSays S log entry Q (updated.Done count) exit = Ran S log entry Q none count exit
+UpdateSays S log entry Q (updated.NoRoom k count) exit = Stopped S log entry Q k count exit
+UpdateSays S log entry Q (updated.Refused why place) exit = Refuses UPDATE (updateVerdict S log entry Q) (numberOf why) place entry exit
+
+-- 14 is not given before the log is run
+data Early : rules.Verdict → Type 0 where
+  passes : Early fine
+  refused-by : {n p : ℕ} → eqb n 14 ≡ false → Early (refuse n p)
+
+infixr 20 _and-then_
+_and-then_ : {a b : rules.Verdict} → Early a → Early b → Early (a then b)
+unfolding _then_
+passes and-then w = w
+refused-by h and-then w = refused-by h
+
+early-if : (b : Bool) (n p : ℕ) → eqb n 14 ≡ false → Early (refuseIf b n p)
+unfolding refuseIf
+early-if true n p h = refused-by h
+early-if false n p h = passes
+
+early : (S : Scene) (log : List ℕ) (B : Lists) (Q : ℕ) → Early (updateVerdict S log B Q)
+unfolding BAD-TYPES BAD-NUMBER BAD-LINKS BAD-ENTRY
+early S log B Q =
+    early-if _ _ _ refl and-then ((early-if _ _ _ refl and-then early-if _ _ _ refl) and-then early-if _ _ _ refl and-then early-if _ _ _ refl)
+    and-then (early-if _ _ _ refl and-then early-if _ _ _ refl and-then (early-if _ _ _ refl and-then early-if _ _ _ refl) and-then early-if _ _ _ refl)
+    and-then (early-if _ _ _ refl and-then early-if _ _ _ refl)
+
+not-early {ℓ} : {A : Type ℓ} {n p : ℕ} → Early (refuse n p) → 14 ≡ n → A
+not-early {n = n} (refused-by h) e = absurd (eqb-false n 14 h (sym e))
+
+pub what-an-update-call-says : (S : Scene) (log : List ℕ) (entry : Lists) (Q : ℕ) (r : Updated) (exit : Lists) → ByName r
+    → Updates S log entry Q r exit → UpdateSays S log entry Q r exit
+what-an-update-call-says S log entry Q r exit h e =
+    go r (updateVerdict S log entry Q) refl (update-numbers S log entry Q) (early S log entry Q) h e
+  where
+    c : Course
+    c = course source S log entry Q
+
+    ran : (count : Count) (full : Option ℕ) → updateVerdict S log entry Q ≡ fine → c .full ≡ full
+        → count .quads ≡ length (c .quads) → count .moved ≡ c .moved
+        → exit ≡ layout (faces S) (span S) (c .highest) (c .quads) entry → Ran S log entry Q full count exit
+    ran count full a f q m l = record { accepted = a; ended = f; quads = q; moved = m; laid = l }
+
+    through : (r : Updated) → updateVerdict S log entry Q ≡ fine → (full : Option ℕ) → c .full ≡ full → ByName r
+        → outcomeOf r exit ≡ record { answer = courseAnswer c full; lists = layout (faces S) (span S) (c .highest) (c .quads) entry }
+        → UpdateSays S log entry Q r exit
+    through (updated.Done count) t none f h e =
+        ran count none t f (ap (λ (o : Outcome). o .answer .quads) e) (ap (λ (o : Outcome). o .answer .moved) e) (ap (λ (o : Outcome). o .lists) e)
+    through (updated.NoRoom k count) t none f h e = let z = ap (λ (o : Outcome). o .answer .number) e in absurd (omega arith)
+    through (updated.Refused why place) t none f h e = absurd (not-zero why (ap (λ (o : Outcome). o .answer .number) e))
+    through (updated.Done count) t (some k) f h e = let z = ap (λ (o : Outcome). o .answer .number) e in absurd (omega arith)
+    through (updated.NoRoom k count) t (some i) f h e =
+        let p = f ∙ ap some (sym (ap (λ (o : Outcome). o .answer .place) e)) in
+        record {
+          ran = ran count (some k) t p (ap (λ (o : Outcome). o .answer .quads) e) (ap (λ (o : Outcome). o .answer .moved) e)
+              (ap (λ (o : Outcome). o .lists) e);
+          inLog = in-log source S log entry Q k t p;
+          noRoom = no-room-there source S log entry Q k t p;
+          before = (λ i. record { answer = record { number = 0; place = 0; quads = e i .answer .quads; moved = e i .answer .moved }; lists = e i .lists })
+              ∙ sym (done-before source S log entry Q k t p);
+        }
+    through (updated.Refused why place) t (some k) f h e = absurd (h (ap (λ (o : Outcome). o .answer .number) e))
+
+    go : (r : Updated) (v : rules.Verdict) → updateVerdict S log entry Q ≡ v → Within UPDATE v → Early v → ByName r
+        → outcomeOf r exit ≡ updateBy v S c entry → UpdateSays S log entry Q r exit
+    go r fine t w y h e = through r t (c .full) refl h e
+    go (updated.Done count) (refuse n p) t w y h e = zero-listed refl w (ap (λ (o : Outcome). o .answer .number) e)
+    go (updated.NoRoom k count) (refuse n p) t w y h e = not-early y (ap (λ (o : Outcome). o .answer .number) e)
+    go (updated.Refused why place) (refuse n p) t w y h e =
+        refuses t w (ap (λ (o : Outcome). o .answer .number) e) (ap (λ (o : Outcome). o .answer .place) e) (ap (λ (o : Outcome). o .lists) e)
+
+-- ---- the check
+
+abbrev pub CheckSays : Scene → List ℕ → List ℕ → Lists → ℕ → Verdict → Type 0
+CheckSays S outer grid B Q Fine = checkVerdict S outer grid B Q ≡ fine
+CheckSays S outer grid B Q (Refuse why place) = Refuses CHECK (checkVerdict S outer grid B Q) (numberOf why) place B B
+
+pub what-a-check-call-says : (S : Scene) (outer grid : List ℕ) (B : Lists) (Q : ℕ) (r : Verdict)
+    → Checks S outer grid B Q r → CheckSays S outer grid B Q r
+what-a-check-call-says S outer grid B Q Fine e = sym e
+what-a-check-call-says S outer grid B Q (Refuse why place) e =
+    refuses (sym e) (subst (Within CHECK) (sym e) (check-numbers S outer grid B Q)) refl refl refl
+
+-- ---- a refusal changes nothing
+
+pub a-refused-cube-changes-nothing : (shape : Shape) (entry : List ℕ) (r : Cubed) (exit : List ℕ) → r ≢ cubed.Done → Cubes shape entry r exit
+    → exit ≡ entry
+a-refused-cube-changes-nothing shape entry cubed.Done exit d e = absurd (d refl)
+a-refused-cube-changes-nothing shape entry cubed.BadNumber exit d e = what-a-cube-call-says shape entry cubed.BadNumber exit e .kept
+a-refused-cube-changes-nothing shape entry cubed.BadAtlas exit d e = what-a-cube-call-says shape entry cubed.BadAtlas exit e .kept
+a-refused-cube-changes-nothing shape entry (cubed.BadFace place) exit d e = what-a-cube-call-says shape entry (cubed.BadFace place) exit e .kept
+a-refused-cube-changes-nothing shape entry cubed.ShortRoom exit d e = what-a-cube-call-says shape entry cubed.ShortRoom exit e .kept
+
+pub a-refused-mesh-changes-nothing : (S : Scene) (outer grid : List ℕ) (culling : Bool) (entry : Lists) (why : Refusal) (place : ℕ) (exit : Lists)
+    → Meshes S outer grid culling entry (meshed.Refused why place) exit → exit ≡ entry
+a-refused-mesh-changes-nothing S outer grid culling entry why place exit e =
+    what-a-mesh-call-says S outer grid culling entry (meshed.Refused why place) exit e .kept
+
+pub a-refused-update-changes-nothing : (S : Scene) (log : List ℕ) (entry : Lists) (Q : ℕ) (why : Refusal) (place : ℕ) (exit : Lists)
+    → numberOf why ≢ 14 → Updates S log entry Q (updated.Refused why place) exit → exit ≡ entry
+a-refused-update-changes-nothing S log entry Q why place exit d e =
+    what-an-update-call-says S log entry Q (updated.Refused why place) exit d e .kept
+
+-- the one exception
+pub out-of-room-keeps-the-entries-before : (S : Scene) (log : List ℕ) (entry : Lists) (Q k : ℕ) (count : Count) (exit : Lists)
+    → Updates S log entry Q (updated.NoRoom k count) exit → Updates S (take (12 * k) log) entry Q (updated.Done count) exit
+out-of-room-keeps-the-entries-before S log entry Q k count exit e = what-an-update-call-says S log entry Q (updated.NoRoom k count) exit tt e .before
+
+-- ---- and nothing is refused without cause
+
+pub made-if-nothing-refuses : (S : Scene) (outer grid : List ℕ) (culling : Bool) (entry : Lists) (r : Meshed) (exit : Lists)
+    → meshVerdict S outer grid culling entry ≡ fine → Meshes S outer grid culling entry r exit
+    → r ≡ meshed.Done (length (freshMesh S outer grid culling))
+made-if-nothing-refuses S outer grid culling entry (meshed.Done quads) exit v e =
+    ap meshed.Done (what-a-mesh-call-says S outer grid culling entry (meshed.Done quads) exit e .counted)
+made-if-nothing-refuses S outer grid culling entry (meshed.Refused why place) exit v e =
+    fine-not-refused (sym v ∙ what-a-mesh-call-says S outer grid culling entry (meshed.Refused why place) exit e .told)
+
+-- an update of a log that is accepted is done, unless an entry finds no room
+pub done-if-nothing-refuses : (S : Scene) (log : List ℕ) (entry : Lists) (Q : ℕ) (r : Updated) (exit : Lists) → ByName r
+    → updateVerdict S log entry Q ≡ fine → (course source S log entry Q) .full ≡ none → Updates S log entry Q r exit
+    → (count : Count) × (r ≡ updated.Done count)
+done-if-nothing-refuses S log entry Q (updated.Done count) exit n v f e = (count, refl)
+done-if-nothing-refuses S log entry Q (updated.NoRoom k count) exit n v f e =
+    none-is-not (sym f ∙ what-an-update-call-says S log entry Q (updated.NoRoom k count) exit n e .ran .ended)
+done-if-nothing-refuses S log entry Q (updated.Refused why place) exit n v f e =
+    fine-not-refused (sym v ∙ what-an-update-call-says S log entry Q (updated.Refused why place) exit n e .told)

@@ -1,0 +1,80 @@
+-- The same promises of the C calls, whose answers are 01's numbers. Assumes nothing.
+use Prim.Native.Nat.{ℕ, _*_}
+use mathlib.Core.Path.{_≡_, refl, sym, ap, _∙_, subst}
+use mathlib.Core.Logic.{_≢_, _↔_}
+use mathlib.Core.Bool.{Bool, true}
+use mathlib.Core.List.{List, []}
+use lib.ListN.{take}
+use Rattle.rules.specs.Cube.{Shape}
+use Rattle.rules.specs.Mesh.{Lists}
+use Rattle.rules.specs.Update.{source}
+use Rattle.rules.specs.Answers.{fine}
+use Rattle.rules.specs.Check.{Right}
+use Rattle.rules.specs.Calls.{Answer, CubeOutcome, generateVoxelMesh, Outcome, Scene, answered, world, span, openVerdict, meshGrid, updateMesh, checkVerdict, checkMesh}
+use Rattle.rules.proofs.Refusals.{CHECK, check-numbers, zero-fine, cube-refused, mesh-refused, update-refused}
+use Rattle.rules.proofs.Demands.{accepts-exactly, fresh-accepted, mended-accepted}
+use Rattle.answers.specs.declared.Verdict.the-variants.{Fine}
+use Rattle.exports.specs.Answers.{answer, cubeOut, outcome}
+use Rattle.demands.specs.Chunks.{gridAfter, HonestLog}
+use Rattle.demands.proofs.Answers.{out-of-room-keeps-the-entries-before}
+use Rattle.demands.proofs.Exact.{the-check-is-exact}
+
+-- a call tells an answer and leaves lists; meshem_check_mesh tells a number and a place
+abbrev pub TellsCube : Shape → List ℕ → Answer → List ℕ → Type 0
+TellsCube shape room a exit = cubeOut a exit ≡ generateVoxelMesh shape room
+
+abbrev pub TellsMesh : Scene → List ℕ → List ℕ → Bool → Lists → Answer → Lists → Type 0
+TellsMesh S outer grid culling B a exit = outcome a exit ≡ meshGrid S outer grid culling B
+
+abbrev pub TellsUpdate : Scene → List ℕ → Lists → ℕ → Answer → Lists → Type 0
+TellsUpdate S log B Q a exit = outcome a exit ≡ updateMesh S log B Q
+
+abbrev pub TellsCheck : Scene → List ℕ → List ℕ → Lists → ℕ → ℕ → ℕ → Type 0
+TellsCheck S outer grid B Q number place = answer number place 0 0 ≡ checkMesh S outer grid B Q
+
+pub a-refused-c-cube-changes-nothing : (shape : Shape) (room : List ℕ) (a : Answer) (exit : List ℕ) → a .number ≢ 0
+    → TellsCube shape room a exit → exit ≡ room
+a-refused-c-cube-changes-nothing shape room a exit d e =
+    ap (λ (o : CubeOutcome). o .out) e ∙ cube-refused shape room (subst (λ (o : CubeOutcome). o .answer .number ≢ 0) e d)
+
+pub a-refused-c-mesh-changes-nothing : (S : Scene) (outer grid : List ℕ) (culling : Bool) (B : Lists) (a : Answer) (exit : Lists) → a .number ≢ 0
+    → TellsMesh S outer grid culling B a exit → exit ≡ B
+a-refused-c-mesh-changes-nothing S outer grid culling B a exit d e =
+    ap (λ (o : Outcome). o .lists) e ∙ mesh-refused S outer grid culling B (subst (λ (o : Outcome). o .answer .number ≢ 0) e d)
+
+pub a-refused-c-update-changes-nothing : (S : Scene) (log : List ℕ) (B : Lists) (Q : ℕ) (a : Answer) (exit : Lists) → a .number ≢ 0
+    → a .number ≢ 14 → TellsUpdate S log B Q a exit → exit ≡ B
+a-refused-c-update-changes-nothing S log B Q a exit d f e =
+    ap (λ (o : Outcome). o .lists) e
+    ∙ update-refused source S log B Q (subst (λ (o : Outcome). o .answer .number ≢ 0) e d) (subst (λ (o : Outcome). o .answer .number ≢ 14) e f)
+
+-- the one exception: what is left is what the call for the entries before it leaves
+pub out-of-room-c-keeps-the-entries-before : (S : Scene) (log : List ℕ) (B : Lists) (Q : ℕ) (a : Answer) (exit : Lists) → a .number ≡ 14
+    → TellsUpdate S log B Q a exit → TellsUpdate S (take (12 * a .place) log) B Q (answer 0 0 (a .quads) (a .moved)) exit
+out-of-room-c-keeps-the-entries-before S log B Q a exit z e =
+    out-of-room-keeps-the-entries-before S log B Q (a .place) (record { quads = a .quads; moved = a .moved }) exit
+    ((λ i. outcome (answer (sym z i) (a .place) (a .quads) (a .moved)) exit) ∙ e)
+
+pub the-c-check-is-exact : (S : Scene) (outer grid : List ℕ) (B : Lists) (Q number place : ℕ) → TellsCheck S outer grid B Q number place
+    → (number ≡ 0) ↔ ((openVerdict S outer grid B Q ≡ fine) × Right (world S) outer grid (span S) B Q)
+the-c-check-is-exact S outer grid B Q number place e = (
+  λ z. let v = zero-fine CHECK refl (checkVerdict S outer grid B Q) (check-numbers S outer grid B Q) (sym (ap (λ (x : Answer). x .number) e) ∙ z) in
+      the-check-is-exact S outer grid B Q Fine (sym v) .0 refl,
+  λ h. ap (λ (x : Answer). x .number) (e ∙ accepts-exactly S outer grid B Q (h .0) .1 (h .1)),
+)
+
+pub a-fresh-c-mesh-passes : (S : Scene) (outer grid : List ℕ) (B : Lists) (a : Answer) (exit : Lists) (number place : ℕ) → a .number ≡ 0
+    → TellsMesh S outer grid true B a exit → TellsCheck S outer grid exit (a .quads) number place → number ≡ 0
+a-fresh-c-mesh-passes S outer grid B a exit number place z e c =
+    let passes = subst (λ (o : Outcome). checkMesh S outer grid (o .lists) (o .answer .quads) ≡ answered 0 0) (sym e)
+    (fresh-accepted S outer grid B (sym (ap (λ (o : Outcome). o .answer .number) e) ∙ z)) in
+    ap (λ (x : Answer). x .number) (c ∙ passes)
+
+pub a-mended-c-mesh-passes : (S : Scene) (log grid : List ℕ) (B : Lists) (Q before : ℕ) (a : Answer) (exit : Lists) (number place : ℕ)
+    → TellsCheck S [] grid B Q 0 before → HonestLog S grid log → a .number ≡ 0 → TellsUpdate S log B Q a exit
+    → TellsCheck S [] (gridAfter S log grid) exit (a .quads) number place → number ≡ 0
+a-mended-c-mesh-passes S log grid B Q before a exit number place p h z e c =
+    let passes = subst (λ (o : Outcome). checkMesh S [] (gridAfter S log grid) (o .lists) (o .answer .quads) ≡ answered 0 0) (sym e)
+    (mended-accepted source S grid log B Q (sym (ap (λ (x : Answer). x .number) p)) (h .honest) (h .mends)
+    (sym (ap (λ (o : Outcome). o .answer .number) e) ∙ z)) in
+    ap (λ (x : Answer). x .number) (c ∙ passes)

@@ -1,0 +1,93 @@
+-- The calls one after the other: what the contracts of each give together. Assumes nothing.
+use Prim.Native.Nat.{ℕ}
+use mathlib.Core.Path.{_≡_, refl, sym, ap, _∙_}
+use mathlib.Core.Bool.{Bool, true, false, cond}
+use mathlib.Core.List.{List, []}
+use lib.Dec.{eqb}
+use borrow.Author.Tests.{eqb-true}
+use Rattle.rules.specs.Mesh.{Lists}
+use Rattle.rules.specs.Answers.{Verdict, fine, refuse, _then_}
+use Rattle.rules.specs.Calls.{Outcome, Scene, meshVerdict, updateMesh, checkVerdict}
+use Rattle.answers.specs.declared.Refusal.{Refusal}
+use Rattle.answers.specs.Verdicts.{numberOf}
+use Rattle.meshem.specs.declared.Meshed.{Meshed}
+use Rattle.meshem.specs.declared.Meshed.the-variants as meshed
+use Rattle.meshem.specs.Outcome as mesh
+use Rattle.mending.specs.declared.Count.{Count}
+use Rattle.update.specs.declared.Updated.{Updated}
+use Rattle.update.specs.declared.Updated.the-variants as updated
+use Rattle.update.specs.Outcome.{outcomeOf}
+use Rattle.demands.specs.Contracts.{Meshes, Updates}
+use Rattle.demands.specs.Chunks.{gridAfter, HonestLog}
+use Rattle.demands.specs.Composed.{verdictBy, mendPromise, mendVerdict}
+use Rattle.demands.proofs.Telling.{numbered}
+use Rattle.demands.proofs.Answers.{what-a-mesh-call-says}
+use Rattle.demands.proofs.Fresh.{fresh-is-fine}
+use Rattle.demands.proofs.Mending.{still-fine}
+
+-- an answer by the name that a `match` found it to have
+pub meshes : {o : Outcome} {exit : Lists} {a b : Meshed} → a ≡ b → mesh.outcome a exit ≡ o → mesh.outcome b exit ≡ o
+meshes {exit = exit} p e = ap (λ (x : Meshed). mesh.outcome x exit) (sym p) ∙ e
+
+pub updates : (exit : Lists) {o : Outcome} {a b : Updated} → a ≡ b → outcomeOf a exit ≡ o → outcomeOf b exit ≡ o
+updates exit p e = ap (λ (x : Updated). outcomeOf x exit) (sym p) ∙ e
+
+-- ---- a mesh made and checked
+
+pub made : (S : Scene) (outer grid : List ℕ) (B exit : Lists) (quads : ℕ) {v : Verdict} → Meshes S outer grid true B (meshed.Done quads) exit
+    → v ≡ checkVerdict S outer grid exit quads → v ≡ meshVerdict S outer grid true B
+made S outer grid B exit quads e c =
+    c ∙ sym (fresh-is-fine S outer grid B exit quads e) ∙ sym (what-a-mesh-call-says S outer grid true B (meshed.Done quads) exit e .accepted)
+
+pub not-made : (S : Scene) (outer grid : List ℕ) (B exit : Lists) (why : Refusal) (place : ℕ)
+    → Meshes S outer grid true B (meshed.Refused why place) exit → refuse (numberOf why) place ≡ meshVerdict S outer grid true B
+not-made S outer grid B exit why place e = sym (what-a-mesh-call-says S outer grid true B (meshed.Refused why place) exit e .told)
+
+-- ---- a mesh mended and checked
+module _ (S : Scene) (grid log left : List ℕ) (B : Lists) (Q : ℕ) where
+  abbrev chain : Verdict → Outcome → Verdict
+  chain v u = v then verdictBy (u .answer) then checkVerdict S [] left (u .lists) (u .answer .quads)
+
+  pub mended : (exit : Lists) (count : Count) {v : Verdict} → checkVerdict S [] grid B Q ≡ fine → Updates S log B Q (updated.Done count) exit
+      → v ≡ checkVerdict S [] left exit (count .quads) → v ≡ mendVerdict S grid log left B Q
+  unfolding _then_
+  mended exit count p e c = c ∙ (λ i. chain (sym p i) (e i))
+
+  pub stopped : (exit : Lists) (place : ℕ) (count : Count) → checkVerdict S [] grid B Q ≡ fine → Updates S log B Q (updated.NoRoom place count) exit
+      → refuse 14 place ≡ mendVerdict S grid log left B Q
+  unfolding _then_
+  stopped exit place count p e = λ i. chain (sym p i) (e i)
+
+  pub refused : (exit : Lists) (why : Refusal) (place : ℕ) → checkVerdict S [] grid B Q ≡ fine → Updates S log B Q (updated.Refused why place) exit
+      → refuse (numberOf why) place ≡ mendVerdict S grid log left B Q
+  unfolding _then_
+  refused exit why place p e =
+      let n : refuse (numberOf why) place ≡ verdictBy (record { number = numberOf why; place = place; quads = 0; moved = 0 }) = rw (numbered why .1) in
+      ap (λ (v : Verdict). v then checkVerdict S [] left exit 0) n ∙ (λ i. chain (sym p i) (e i))
+
+  -- LAW: after an honest log the second check refuses nothing
+  pub second-check-idle : HonestLog S grid log → left ≡ gridAfter S log grid → mendVerdict S grid log left B Q ≡ mendPromise S grid log B Q
+  unfolding _then_
+  second-check-idle h l = first (checkVerdict S [] grid B Q) refl
+    where
+      u : Outcome
+      u = updateMesh S log B Q
+
+      again : Verdict
+      again = checkVerdict S [] left (u .lists) (u .answer .quads)
+
+      second : (b : Bool) → eqb (u .answer .number) 0 ≡ b → checkVerdict S [] grid B Q ≡ fine
+          → (cond b fine (refuse (u .answer .number) (u .answer .place)) then again) ≡ cond b fine (refuse (u .answer .number) (u .answer .place))
+      second true t p =
+          ap (λ (g : List ℕ). checkVerdict S [] g (u .lists) (u .answer .quads)) l
+          ∙ sym (still-fine S log grid B Q (sym p) h (eqb-true (u .answer .number) 0 t))
+      second false t p = refl
+
+      first : (v : Verdict) → checkVerdict S [] grid B Q ≡ v
+          → (v then verdictBy (u .answer) then again) ≡ (v then verdictBy (u .answer))
+      first fine p = second (eqb (u .answer .number) 0) refl p
+      first (refuse n k) p = refl
+
+  pub promised : {v : Verdict} → v ≡ mendVerdict S grid log left B Q
+      → (v ≡ mendVerdict S grid log left B Q) × (HonestLog S grid log → left ≡ gridAfter S log grid → v ≡ mendPromise S grid log B Q)
+  promised e = (e, λ h l. e ∙ second-check-idle h l)

@@ -1,0 +1,35 @@
+-- Promise 2, "that this leaves a single possible outcome is proved": two answers, with the lent lists at exit, that meet a call's contract
+-- for the same input are the same. Assumes nothing.
+use Prim.Native.Nat.{ℕ}
+use mathlib.Core.Path.{_≡_, sym, ap, _∙_}
+use mathlib.Core.Bool.{Bool}
+use mathlib.Core.List.{List}
+use Rattle.rules.specs.Cube.{Shape}
+use Rattle.rules.specs.Mesh.{Lists}
+use Rattle.rules.specs.Calls.{CubeOutcome, Outcome, Scene}
+use Rattle.answers.specs.declared.Verdict.{Verdict}
+use Rattle.voxel_mesh.specs.declared.Cubed.{Cubed}
+use Rattle.meshem.specs.declared.Meshed.{Meshed}
+use Rattle.update.specs.declared.Updated.{Updated}
+use Rattle.update.specs.Outcome.{outcomeOf}
+use Rattle.demands.specs.Contracts.{Cubes, Meshes, Updates, Checks}
+use Rattle.demands.proofs.Telling.{readCube, cube-reads, readMesh, mesh-reads, readUpdate, ByName, update-reads, readVerdict, verdict-reads}
+
+pub one-cube : (shape : Shape) (room : List ℕ) (a b : Cubed) (x y : List ℕ) → Cubes shape room a x → Cubes shape room b y → (a ≡ b) × (x ≡ y)
+one-cube shape room a b x y p q =
+    let e = p ∙ sym q in (sym (cube-reads a x) ∙ ap readCube e ∙ cube-reads b y, ap (λ (o : CubeOutcome). o .out) e)
+
+pub one-mesh : (S : Scene) (outer grid : List ℕ) (culling : Bool) (B : Lists) (a b : Meshed) (x y : Lists)
+    → Meshes S outer grid culling B a x → Meshes S outer grid culling B b y → (a ≡ b) × (x ≡ y)
+one-mesh S outer grid culling B a b x y p q =
+    let e = p ∙ sym q in (sym (mesh-reads a x) ∙ ap readMesh e ∙ mesh-reads b y, ap (λ (o : Outcome). o .lists) e)
+
+-- of an update 01's number and place, Q, `moved` and the lists are the same; and so is the answer, where 14 is told by its own name
+pub one-update : (S : Scene) (log : List ℕ) (B : Lists) (Q : ℕ) (a b : Updated) (x y : Lists)
+    → Updates S log B Q a x → Updates S log B Q b y → (outcomeOf a x ≡ outcomeOf b y) × (ByName a → ByName b → a ≡ b)
+one-update S log B Q a b x y p q =
+    let e = p ∙ sym q in (e, λ h k. sym (update-reads a x h) ∙ ap readUpdate e ∙ update-reads b y k)
+
+pub one-check : (S : Scene) (outer grid : List ℕ) (B : Lists) (Q : ℕ) (a b : Verdict)
+    → Checks S outer grid B Q a → Checks S outer grid B Q b → a ≡ b
+one-check S outer grid B Q a b p q = sym (verdict-reads a) ∙ ap readVerdict (p ∙ sym q) ∙ verdict-reads b

@@ -1,0 +1,177 @@
+-- A log that stops for want of room has done the log of its earlier entries, whole. Assumes nothing.
+use Prim.Native.Nat.{ℕ, zero, suc, _+_, _*_, _/_, _%_, _<_}
+use mathlib.Core.Path.{_≡_, refl, sym, ap, _∙_}
+use mathlib.Core.Bool.{Bool, true, false, cond, not}
+use mathlib.Core.List.{List, _++_}
+use mathlib.Core.Option.{Option, none, some}
+use native.Mathlib.Omega.{arith}
+use lib.Dec.{eqb, leb}
+use lib.ListN.{length, getD, take, drop, take-append-drop, length-drop, List·getD-append}
+use lib.Seq.{length-take-le, drop-append-le, take-append-le}
+use borrow.Author.Tests.{leb-false, eq-eqb}
+use Rattle.rules.specs.Lists.{every, part}
+use Rattle.rules.specs.Cells.{cells}
+use Rattle.rules.specs.Mesh.{Quad, Lists, layout, decode}
+use Rattle.rules.specs.Update.{Entry, Work, Course, Tested, u32At, entryAt, work, ops, run, moves, highest, needed, courseFrom}
+use Rattle.rules.specs.Answers.{Verdict, fine, refuse, _then_, refuseLowest, BAD-SIZE, badNeighbour, badEntry, BAD-ENTRY}
+use Rattle.rules.specs.Calls.{Scene, answered, world, span, faces, room, typesVerdict, lentVerdict, updateVerdict, course, updateBy, updateMeshBy}
+use Rattle.rules.proofs.Checking.{then-fine, fine-then, fine-if, lowest-fine, fine-lowest}
+
+some-is : {a b : ℕ} → _≡_ {A = Option ℕ} (some a) (some b) → a ≡ b
+some-is e = cc
+
+pub none-is-not {ℓ} : {A : Type ℓ} {a : ℕ} → _≡_ {A = Option ℕ} none (some a) → A
+none-is-not {a = a} e = let z : _≡_ {A = ℕ} 0 1 = cc in absurd (omega arith)
+
+-- ---- a course that stops
+
+-- at entry k of n from i on: it has gone through those before, which left what it leaves, and k asks for more than the room
+pub record Stops (room : ℕ) (work : ℕ → Work) (i n : ℕ) (m : List Quad) (v p k : ℕ) : Type 0 where
+  pub before : ℕ
+  pub place : k ≡ i + before
+  pub early : before < n
+  pub through : let c = courseFrom room work i n m v p in
+      courseFrom room work i before m v p ≡ record { full = none; quads = c .quads; moved = c .moved; highest = c .highest }
+  pub tight : room < needed (work k) ((courseFrom room work i n m v p) .quads)
+
+pub stops : (room : ℕ) (work : ℕ → Work) (i n : ℕ) (m : List Quad) (v p k : ℕ) → (courseFrom room work i n m v p) .full ≡ some k
+    → Stops room work i n m v p k
+unfolding courseFrom
+stops room work i zero m v p k e = none-is-not e
+stops room work i (suc n) m v p k e =
+    go (leb (needed (work i) m) room) refl e
+    (stops room work (suc i) n (run (ops (work i)) m) (v + moves (ops (work i)) m) (highest p (ops (work i)) m) k)
+  where
+    after : Course
+    after = courseFrom room work (suc i) n (run (ops (work i)) m) (v + moves (ops (work i)) m) (highest p (ops (work i)) m)
+
+    here : Course
+    here = record { full = some i; quads = m; moved = v; highest = p }
+
+    go : (b : Bool) → leb (needed (work i) m) room ≡ b → (cond b after here) .full ≡ some k
+        → (after .full ≡ some k → Stops room work (suc i) n (run (ops (work i)) m) (v + moves (ops (work i)) m) (highest p (ops (work i)) m) k)
+        → Stops room work i (suc n) m v p k
+    go true t e rest =
+        let s = rest e in
+        record {
+          before = suc (s .before);
+          place = omega (arith, s .place);
+          early = omega (arith, s .early);
+          through = rw t (s .through);
+          tight = rw t (s .tight);
+        }
+    go false t e rest =
+        record {
+          before = 0;
+          place = omega (arith, some-is e);
+          early = omega arith;
+          through = rw t refl;
+          tight = rw (t, sym (some-is e)) (leb-false (needed (work i) m) room t);
+        }
+
+-- a course by works that are alike is the same
+course-alike : (room : ℕ) (a b : ℕ → Work) (i n : ℕ) (m : List Quad) (v p : ℕ) → ((j : ℕ) → j < i + n → a j ≡ b j)
+    → courseFrom room a i n m v p ≡ courseFrom room b i n m v p
+unfolding courseFrom
+course-alike room a b i zero m v p h = refl
+course-alike room a b i (suc n) m v p h =
+    let e = h i (omega arith) in
+    rw e (ap (λ (c : Course). cond (leb (needed (b i) m) room) c (record { full = some i; quads = m; moved = v; highest = p }))
+    (course-alike room a b (suc i) n (run (ops (b i)) m) (v + moves (ops (b i)) m) (highest p (ops (b i)) m) (λ j l. h j (omega arith))))
+
+-- ---- the first entries of a log
+module _ (k : ℕ) (first rest : List ℕ) (whole : length first ≡ 12 * k) where
+  byte : (i : ℕ) → i < 12 * k → getD (first ++ rest) i 0 ≡ getD first i 0
+  byte i h = List·getD-append first rest 0 i (omega (arith, whole))
+
+  word : (j : ℕ) → j < k → u32At (first ++ rest) (12 * j) ≡ u32At first (12 * j)
+  word j h =
+      rw (byte (12 * j) (omega arith), byte (12 * j + 1) (omega arith), byte (12 * j + 2) (omega arith), byte (12 * j + 3) (omega arith))
+
+  pub entry-stays : (j : ℕ) → j < k → entryAt (first ++ rest) j ≡ entryAt first j
+  unfolding entryAt
+  entry-stays j h =
+      let given : part (12 * j + 6) 6 (first ++ rest) ≡ part (12 * j + 6) 6 first =
+      ap (take 6) (drop-append-le (12 * j + 6) first rest (omega (arith, whole)))
+      ∙ take-append-le 6 (drop (12 * j + 6) first) rest (rw (length-drop, whole) (omega arith)) in
+      rw (word j h, byte (12 * j + 4) (omega arith), byte (12 * j + 5) (omega arith), given)
+
+  every-alike : (n : ℕ) (p q : ℕ → Bool) → ((i : ℕ) → i < n → p i ≡ q i) → every n p ≡ every n q
+  unfolding every
+  every-alike zero p q h = refl
+  every-alike (suc n) p q h = rw (h n (omega arith), every-alike n p q (λ i l. h i (omega arith)))
+
+  bad-stays : (cells types j : ℕ) → j < k → badEntry cells types (first ++ rest) j ≡ badEntry cells types first j
+  unfolding badEntry
+  bad-stays cells types j h =
+      rw (
+        word j h,
+        byte (12 * j + 4) (omega arith),
+        byte (12 * j + 5) (omega arith),
+        every-alike 6 (λ f. not (badNeighbour types (getD (first ++ rest) (12 * j + (6 + f)) 0)))
+            (λ f. not (badNeighbour types (getD first (12 * j + (6 + f)) 0)))
+            (λ f l. ap (λ (t : ℕ). not (badNeighbour types t)) (byte (12 * j + (6 + f)) (omega arith))),
+      )
+
+-- ---- an update that stops at entry k
+module _ (tested : Tested) (S : Scene) (log : List ℕ) (B : Lists) (Q k : ℕ) (accepted : updateVerdict S log B Q ≡ fine)
+    (full : (course tested S log B Q) .full ≡ some k) where
+  abbrev workOf : List ℕ → ℕ → Work
+  workOf l j = work tested (world S) (entryAt l j)
+
+  stopped : Stops (room S B) (workOf log) 0 (length log / 12) (decode (span S) Q B) 0 Q k
+  stopped = stops (room S B) (workOf log) 0 (length log / 12) (decode (span S) Q B) 0 Q k full
+
+  pub in-log : k < length log / 12
+  in-log = omega (arith, stopped .place, stopped .early)
+
+  -- the entry asks for more quads than there is room
+  pub no-room-there : room S B < needed (work tested (world S) (entryAt log k)) ((course tested S log B Q) .quads)
+  no-room-there = stopped .tight
+
+  abbrev first : List ℕ
+  first = take (12 * k) log
+
+  whole : length first ≡ 12 * k
+  whole = length-take-le (12 * k) log (omega (arith, in-log))
+
+  joined : first ++ drop (12 * k) log ≡ log
+  joined = take-append-drop (12 * k) log
+
+  entry-first : (j : ℕ) → j < k → entryAt log j ≡ entryAt first j
+  entry-first j h = ap (λ (l : List ℕ). entryAt l j) (sym joined) ∙ entry-stays k first (drop (12 * k) log) whole j h
+
+  bad-first : (n types j : ℕ) → j < k → badEntry n types log j ≡ badEntry n types first j
+  bad-first n types j h = ap (λ (l : List ℕ). badEntry n types l j) (sym joined) ∙ bad-stays k first (drop (12 * k) log) whole n types j h
+
+  entries-first : length first / 12 ≡ k
+  entries-first = omega (arith, whole)
+
+  first-accepted : updateVerdict S first B Q ≡ fine
+  unfolding BAD-ENTRY
+  first-accepted =
+      let n = cells (S .size) in
+      let types = length (S .types .kinds) in
+      let a = then-fine (BAD-SIZE (S .size)) _ accepted in
+      let b = then-fine (typesVerdict S) _ (a .1) in
+      let d = then-fine (lentVerdict S B Q) (BAD-ENTRY n types log) (b .1) in
+      let e = then-fine (refuseLowest 13 (length log / 12) (badEntry n types log)) _ (d .1) in
+      let good : (j : ℕ) → j < length first / 12 → badEntry n types first j ≡ false =
+      λ j l. sym (bad-first n types j (omega (arith, entries-first)))
+      ∙ lowest-fine 13 (length log / 12) (badEntry n types log) (e .0) j (omega (arith, entries-first, in-log)) in
+      let even : not (eqb (length first % 12) 0) ≡ false = rw (eq-eqb (length first % 12) 0 (omega (arith, whole))) in
+      fine-then (a .0) (fine-then (b .0) (fine-then (d .0)
+      (fine-then (fine-lowest 13 (length first / 12) (badEntry n types first) good)
+      (fine-if (not (eqb (length first % 12) 0)) 13 (length first / 12) even))))
+
+  -- LAW: the call for the entries before it alone comes through, with the same quads, moves and lists
+  pub done-before : let c = course tested S log B Q in
+      updateMeshBy tested S (take (12 * k) log) B Q
+      ≡ record { answer = answered (length (c .quads)) (c .moved); lists = layout (faces S) (span S) (c .highest) (c .quads) B }
+  done-before =
+      let from = decode (span S) Q B in
+      let n : stopped .before ≡ k = omega (arith, stopped .place) in
+      let same =
+      course-alike (room S B) (workOf first) (workOf log) 0 k from 0 Q (λ j l. ap (work tested (world S)) (sym (entry-first j (omega arith))))
+      ∙ ap (λ (n : ℕ). courseFrom (room S B) (workOf log) 0 n from 0 Q) (sym n) ∙ stopped .through in
+      rw (first-accepted, entries-first) (ap (λ (c : Course). updateBy fine S c B) same)

@@ -1,0 +1,170 @@
+-- `demands::mend_and_check` meets its contract: after an honest log the second check refuses nothing. Assumes nothing.
+use mathlib.Core.Path.{_≡_, sym, _∙_}
+use mathlib.Core.List.{[]}
+use Rattle.rules.specs.Mesh.{Lists, listsOf}
+use Rattle.rules.specs.Answers.{fine}
+use Rattle.rules.specs.Calls.{Scene, checkVerdict}
+use Rattle.admit.specs.Scenes.{sceneOf}
+use Rattle.answers.proofs.Chains.{stops, passes}
+use Rattle.demands.proofs.Composed.{updates, mended, stopped, refused, promised}
+use borrow.Author.Needs.{needs}
+use Rattle.demands.proofs.mend_and_check.Statement.{statement}
+use Rattle.demands.proofs.mend_and_check.Tie as tie
+
+abbrev scene : tie.Start → Scene
+scene t = let a = t .args in sceneOf (a .scene) (a .kinds .now) (a .covers .now) (a .cubes .now)
+
+abbrev lists : tie.Start → Lists
+lists t = let a = t .args in listsOf (a .vertices .now) (a .triangles .now) (a .links .now) (a .slots .now)
+
+abbrev start : tie.After-check-mesh → tie.Start
+start c = c .before .before .before .before .before .before .before .before .before .before .before .before .before .before .before .before
+
+first-fine : (c : tie.Else1) → let t = start (c .before .before) in checkVerdict (scene t) [] (t .args .grid .now) (lists t) (t .args .quads) ≡ fine
+first-fine c = passes _ _ (c .before .before .check-mesh .ensures) (sym (c .before .is-refusal .ensures) ∙ c .if1 .left)
+
+abbrev exit : tie.After-update-mesh → Lists
+exit u = let l = u .update-mesh .last in listsOf (l .0) (l .1 .0) (l .1 .1 .0) (l .1 .1 .1 .0)
+
+slice-aggregate-no-face : tie.Need-slice-aggregate-no-face
+slice-aggregate-no-face c = search needs
+
+check-mesh-requires : tie.Need-check-mesh-requires
+check-mesh-requires c κs = search needs
+
+is-refusal-requires : tie.Need-is-refusal-requires
+is-refusal-requires c κs = search needs
+
+same-length : tie.Need-same-length
+same-length c = search needs
+
+same-length-2 : tie.Need-same-length-2
+same-length-2 c = search needs
+
+same-length-3 : tie.Need-same-length-3
+same-length-3 c = search needs
+
+same-length-4 : tie.Need-same-length-4
+same-length-4 c = search needs
+
+returns : tie.Need-returns
+returns c =
+    let k = c .before .before in
+    let t = start k in
+    promised (scene t) (t .args .grid .now) (t .args .log .now) (t .args .left .now) (lists t) (t .args .quads)
+    (stops _ _ _ (k .check-mesh .ensures) (sym (c .before .is-refusal .ensures) ∙ c .if1 .taken))
+
+update-mesh-requires : tie.Need-update-mesh-requires
+update-mesh-requires c κs = search needs
+
+enum-known-mended : tie.Need-enum-known-mended
+enum-known-mended c = search needs
+
+check-mesh-requires-2 : tie.Need-check-mesh-requires-2
+check-mesh-requires-2 c κs = search needs
+
+enum-known-mended-2 : tie.Need-enum-known-mended-2
+enum-known-mended-2 c = search needs
+
+enum-known-mended-3 : tie.Need-enum-known-mended-3
+enum-known-mended-3 c = search needs
+
+same-length-5 : tie.Need-same-length-5
+same-length-5 c = search needs
+
+same-length-6 : tie.Need-same-length-6
+same-length-6 c = search needs
+
+same-length-7 : tie.Need-same-length-7
+same-length-7 c = search needs
+
+same-length-8 : tie.Need-same-length-8
+same-length-8 c = search needs
+
+returns-2 : tie.Need-returns-2
+returns-2 c =
+    let told = c .before .before .before .before .before in
+    let u = told .before .before .before .before .before .before .before .before .before .before .before in
+    let o = u .before .before .before .before .before in
+    let t = start (o .before .before) in
+    promised (scene t) (t .args .grid .now) (t .args .log .now) (t .args .left .now) (lists t) (t .args .quads)
+    (mended (scene t) (t .args .grid .now) (t .args .log .now) (t .args .left .now) (lists t) (t .args .quads) (exit u)
+    (told .before .mended .given .0 .0) (first-fine o)
+    (updates (exit u) (told .before .mended .given .1) (u .update-mesh .ensures)) (c .check-mesh2 .ensures))
+
+same-length-9 : tie.Need-same-length-9
+same-length-9 c = search needs
+
+same-length-10 : tie.Need-same-length-10
+same-length-10 c = search needs
+
+same-length-11 : tie.Need-same-length-11
+same-length-11 c = search needs
+
+same-length-12 : tie.Need-same-length-12
+same-length-12 c = search needs
+
+returns-3 : tie.Need-returns-3
+returns-3 c =
+    let u = c .before .before .before .before .before .before .before .before .before .before .before in
+    let o = u .before .before .before .before .before in
+    let t = start (o .before .before) in
+    promised (scene t) (t .args .grid .now) (t .args .log .now) (t .args .left .now) (lists t) (t .args .quads)
+    (stopped (scene t) (t .args .grid .now) (t .args .log .now) (t .args .left .now) (lists t) (t .args .quads) (exit u)
+    (c .before .mended2 .given .0 .0) (c .before .mended2 .given .0 .1 .0) (first-fine o)
+    (updates (exit u) (c .before .mended2 .given .1) (u .update-mesh .ensures)))
+
+same-length-13 : tie.Need-same-length-13
+same-length-13 c = search needs
+
+same-length-14 : tie.Need-same-length-14
+same-length-14 c = search needs
+
+same-length-15 : tie.Need-same-length-15
+same-length-15 c = search needs
+
+same-length-16 : tie.Need-same-length-16
+same-length-16 c = search needs
+
+returns-4 : tie.Need-returns-4
+returns-4 c =
+    let u = c .before .before .before .before .before .before .before .before .before .before .before in
+    let o = u .before .before .before .before .before in
+    let t = start (o .before .before) in
+    promised (scene t) (t .args .grid .now) (t .args .log .now) (t .args .left .now) (lists t) (t .args .quads)
+    (refused (scene t) (t .args .grid .now) (t .args .log .now) (t .args .left .now) (lists t) (t .args .quads) (exit u)
+    (c .before .mended3 .given .0 .0) (c .before .mended3 .given .0 .1 .0) (first-fine o)
+    (updates (exit u) (c .before .mended3 .given .1) (u .update-mesh .ensures)))
+
+pub mend-and-check-spec : {M : Type 1} → statement M
+mend-and-check-spec =
+    tie.close
+    (tie.spec
+    slice-aggregate-no-face
+    check-mesh-requires
+    is-refusal-requires
+    same-length
+    same-length-2
+    same-length-3
+    same-length-4
+    returns
+    update-mesh-requires
+    enum-known-mended
+    check-mesh-requires-2
+    enum-known-mended-2
+    enum-known-mended-3
+    same-length-5
+    same-length-6
+    same-length-7
+    same-length-8
+    returns-2
+    same-length-9
+    same-length-10
+    same-length-11
+    same-length-12
+    returns-3
+    same-length-13
+    same-length-14
+    same-length-15
+    same-length-16
+    returns-4)

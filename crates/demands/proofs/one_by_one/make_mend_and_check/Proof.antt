@@ -1,0 +1,95 @@
+-- `demands::one_by_one::make_mend_and_check` meets its contract: after an honest log the check refuses nothing. Assumes nothing.
+use Rattle.rules.specs.Mesh.{Lists, listsOf}
+use Rattle.rules.specs.Calls.{Scene}
+use Rattle.admit.specs.Scenes.{sceneOf}
+use Rattle.demands.proofs.Composed.{meshes}
+use Rattle.demands.proofs.OneByOne.{chained, unmade}
+use borrow.Author.Needs.{needs}
+use Rattle.demands.proofs.one_by_one.make_mend_and_check.Statement.{statement}
+use Rattle.demands.proofs.one_by_one.make_mend_and_check.Tie as tie
+
+abbrev start : tie.After-mesh-grid → tie.Start
+start m = m .before .before .before .before .before .before .before .before .before .before .before .before .before .before .before .before
+
+abbrev scene : tie.Start → Scene
+scene t = let a = t .args in sceneOf (a .scene) (a .kinds .now) (a .covers .now) (a .cubes .now)
+
+abbrev lists : tie.Start → Lists
+lists t = let a = t .args in listsOf (a .vertices .now) (a .triangles .now) (a .links .now) (a .slots .now)
+
+slice-aggregate-mesh-grid : tie.Need-slice-aggregate-mesh-grid
+slice-aggregate-mesh-grid c = search needs
+
+mesh-grid-requires : tie.Need-mesh-grid-requires
+mesh-grid-requires c κs = search needs
+
+enum-known-made : tie.Need-enum-known-made
+enum-known-made c = search needs
+
+mend-each-and-check-requires : tie.Need-mend-each-and-check-requires
+mend-each-and-check-requires c κs = search needs
+
+enum-known-made-2 : tie.Need-enum-known-made-2
+enum-known-made-2 c = search needs
+
+same-length : tie.Need-same-length
+same-length c = search needs
+
+same-length-2 : tie.Need-same-length-2
+same-length-2 c = search needs
+
+same-length-3 : tie.Need-same-length-3
+same-length-3 c = search needs
+
+same-length-4 : tie.Need-same-length-4
+same-length-4 c = search needs
+
+returns : tie.Need-returns
+returns c =
+    let call = c .before .before .before .before .before .before .before .before in
+    let told = call .before .before .before .before .before in
+    let m = told .before .before .before .before .before .before .before .before .before .before .before in
+    let t = start m in
+    chained (scene t) (t .args .grid .now) (t .args .log .now) (t .args .left .now) (lists t) _
+    (told .before .made .given .0 .0) (meshes (told .before .made .given .1) (m .mesh-grid .ensures))
+    (call .mend-each-and-check .ensures)
+
+same-length-5 : tie.Need-same-length-5
+same-length-5 c = search needs
+
+same-length-6 : tie.Need-same-length-6
+same-length-6 c = search needs
+
+same-length-7 : tie.Need-same-length-7
+same-length-7 c = search needs
+
+same-length-8 : tie.Need-same-length-8
+same-length-8 c = search needs
+
+returns-2 : tie.Need-returns-2
+returns-2 c =
+    let m = c .before .before .before .before .before .before .before .before .before .before .before in
+    let t = start m in
+    unmade (scene t) (t .args .grid .now) (t .args .log .now) (t .args .left .now) (lists t) _
+    (c .before .made2 .given .0 .0) (c .before .made2 .given .0 .1 .0)
+    (meshes (c .before .made2 .given .1) (m .mesh-grid .ensures))
+
+pub make-mend-and-check-spec : {M : Type 1} → statement M
+make-mend-and-check-spec =
+    tie.close
+    (tie.spec
+    slice-aggregate-mesh-grid
+    mesh-grid-requires
+    enum-known-made
+    mend-each-and-check-requires
+    enum-known-made-2
+    same-length
+    same-length-2
+    same-length-3
+    same-length-4
+    returns
+    same-length-5
+    same-length-6
+    same-length-7
+    same-length-8
+    returns-2)

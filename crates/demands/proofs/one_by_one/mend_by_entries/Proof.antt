@@ -1,0 +1,204 @@
+-- `demands::one_by_one::mend_by_entries` meets its contract: a call for each entry. Assumes nothing.
+use mathlib.Core.Path.{_≡_, ap, _∙_}
+use mathlib.Core.List.{List}
+use Prim.Native.Nat.{ℕ, _-_, _*_, _/_}
+use native.Mathlib.Omega.{arith}
+use lib.ListN.{length}
+use Rattle.rules.specs.Mesh.{Lists, listsOf}
+use Rattle.rules.specs.Calls.{Scene, updateMesh}
+use Rattle.vav.proofs.Laws.{part-lent}
+use Rattle.admit.specs.Scenes.{sceneOf}
+use Rattle.update.specs.Outcome.{outcomeOf}
+use Rattle.demands.specs.OneByOne.{entryLog}
+use Rattle.demands.proofs.Composed.{updates}
+use Rattle.demands.proofs.OneByOne.{Calling, starts, goes-on, no-room, refuses, ends}
+use borrow.Author.Needs.{needs}
+use Rattle.demands.proofs.one_by_one.mend_by_entries.Statement.{statement}
+use Rattle.demands.proofs.one_by_one.mend_by_entries.Tie as tie
+
+abbrev Inv-loop : tie.InvT-loop
+Inv-loop vertices₀ triangles₀ links₀ slots₀ scene kinds covers cubes log quads entries left₀ k₀ vertices triangles links slots left k =
+    Calling (sceneOf scene kinds covers cubes) log (length log / 12) (listsOf vertices₀ triangles₀ links₀ slots₀) left₀ k
+    (listsOf vertices triangles links slots) left
+
+abbrev μ-loop : tie.MeasureT-loop
+μ-loop vertices₀ triangles₀ links₀ slots₀ scene kinds covers cubes log quads entries left₀ k₀ vertices triangles links slots left k =
+    length log / 12 - k
+
+abbrev test : tie.After-update-mesh Inv-loop μ-loop → tie.In-loop Inv-loop μ-loop
+test u = u .before .before .before .before .before .before
+
+abbrev start : tie.In-loop Inv-loop μ-loop → tie.Start Inv-loop μ-loop
+start i = i .before .before .before .before .before .before .before .before .before .before
+
+abbrev scene : tie.Start Inv-loop μ-loop → Scene
+scene t = let a = t .args in sceneOf (a .scene) (a .kinds .now) (a .covers .now) (a .cubes .now)
+
+abbrev lists : tie.Start Inv-loop μ-loop → Lists
+lists t = let a = t .args in listsOf (a .vertices .now) (a .triangles .now) (a .links .now) (a .slots .now)
+
+abbrev here : tie.In-loop Inv-loop μ-loop → Lists
+here i = let l = i .before .loop in listsOf (l .vertices) (l .triangles) (l .links) (l .slots)
+
+abbrev exit : tie.After-update-mesh Inv-loop μ-loop → Lists
+exit u = let l = u .update-mesh .last in listsOf (l .0) (l .1 .0) (l .1 .1 .0) (l .1 .1 .1 .0)
+
+called : (u : tie.After-update-mesh Inv-loop μ-loop) → let i = test u in
+    outcomeOf (u .update-mesh .result) (exit u)
+    ≡ updateMesh (scene (start i)) (entryLog (start i .args .log .now) (i .before .loop .k)) (here i) (i .before .loop .left)
+called u =
+    let i = test u in
+    let l = i .before .loop in
+    let log = start i .args .log .now in
+    u .update-mesh .ensures
+    ∙ ap (λ (one : List ℕ). updateMesh (scene (start i)) one (here i) (l .left)) (part-lent (12 * l .k) 12 log)
+
+loop-holds : tie.Need-loop-holds Inv-loop μ-loop
+loop-holds c =
+    let t = c .before .before .before .before .before .before .before .before in
+    starts (scene t) (t .args .log .now) (length (t .args .log .now) / 12) (lists t) (t .args .quads)
+
+mul-at : tie.Need-mul-at Inv-loop μ-loop
+mul-at c = search needs
+
+add-end : tie.Need-add-end Inv-loop μ-loop
+add-end c = search needs
+
+sub-update-mesh : tie.Need-sub-update-mesh Inv-loop μ-loop
+sub-update-mesh c = search needs
+
+part-update-mesh-start : tie.Need-part-update-mesh-start Inv-loop μ-loop
+part-update-mesh-start c = search needs
+
+part-update-mesh-end : tie.Need-part-update-mesh-end Inv-loop μ-loop
+part-update-mesh-end c = search needs
+
+update-mesh-requires : tie.Need-update-mesh-requires Inv-loop μ-loop
+update-mesh-requires c κs = search needs
+
+enum-known-mended : tie.Need-enum-known-mended Inv-loop μ-loop
+enum-known-mended c = search needs
+
+enum-known-mended-2 : tie.Need-enum-known-mended-2 Inv-loop μ-loop
+enum-known-mended-2 c = search needs
+
+same-length : tie.Need-same-length Inv-loop μ-loop
+same-length c = search needs
+
+same-length-2 : tie.Need-same-length-2 Inv-loop μ-loop
+same-length-2 c = search needs
+
+same-length-3 : tie.Need-same-length-3 Inv-loop μ-loop
+same-length-3 c = search needs
+
+same-length-4 : tie.Need-same-length-4 Inv-loop μ-loop
+same-length-4 c = search needs
+
+returns : tie.Need-returns Inv-loop μ-loop
+returns c =
+    let u = c .before .before .before .before .before .before .before .before .before .before .before in
+    let i = test u in
+    let t = start i in
+    let l = i .before .loop in
+    no-room (scene t) (t .args .log .now) (length (t .args .log .now) / 12) (lists t) (t .args .quads) (l .k) (here i) (l .left) (exit u)
+    (c .before .mended2 .given .0 .0) (c .before .mended2 .given .0 .1 .0)
+    (i .loop-test .taken) (l .inv) (updates (exit u) (c .before .mended2 .given .1) (called u))
+
+enum-known-mended-3 : tie.Need-enum-known-mended-3 Inv-loop μ-loop
+enum-known-mended-3 c = search needs
+
+same-length-5 : tie.Need-same-length-5 Inv-loop μ-loop
+same-length-5 c = search needs
+
+same-length-6 : tie.Need-same-length-6 Inv-loop μ-loop
+same-length-6 c = search needs
+
+same-length-7 : tie.Need-same-length-7 Inv-loop μ-loop
+same-length-7 c = search needs
+
+same-length-8 : tie.Need-same-length-8 Inv-loop μ-loop
+same-length-8 c = search needs
+
+returns-2 : tie.Need-returns-2 Inv-loop μ-loop
+returns-2 c =
+    let u = c .before .before .before .before .before .before .before .before .before .before .before in
+    let i = test u in
+    let t = start i in
+    let l = i .before .loop in
+    refuses (scene t) (t .args .log .now) (length (t .args .log .now) / 12) (lists t) (t .args .quads) (l .k) (here i) (l .left) (exit u)
+    (c .before .mended3 .given .0 .0) (c .before .mended3 .given .0 .1 .0)
+    (i .loop-test .taken) (l .inv) (updates (exit u) (c .before .mended3 .given .1) (called u))
+
+add-k : tie.Need-add-k Inv-loop μ-loop
+add-k c =
+    let i = test (c .before .before .before .before .before .before .before .before .before .before .before) in
+    omega (arith, i .loop-test .taken, start i .good .1 .1 .1 .1 .1 .1 .1 .1 .0 .0)
+
+loop-less : tie.Need-loop-less Inv-loop μ-loop
+loop-less c = let h = test (c .before .before .before .before .before .before .before .before .before .before .before) .loop-test .taken in omega arith
+
+loop-again : tie.Need-loop-again Inv-loop μ-loop
+loop-again c =
+    let u = c .before .before .before .before .before .before .before .before .before .before .before in
+    let i = test u in
+    let t = start i in
+    let l = i .before .loop in
+    goes-on (scene t) (t .args .log .now) (length (t .args .log .now) / 12) (lists t) (t .args .quads) (l .k) (here i) (l .left) (exit u)
+    (c .before .mended .given .0 .0) (i .loop-test .taken) (l .inv)
+    (let k = u .update-mesh .kept in record { vertices = k .0; triangles = k .1 .0; links = k .1 .1 .0; slots = k .1 .1 .1 .0 })
+    (updates (exit u) (c .before .mended .given .1) (called u))
+
+same-length-9 : tie.Need-same-length-9 Inv-loop μ-loop
+same-length-9 c = search needs
+
+same-length-10 : tie.Need-same-length-10 Inv-loop μ-loop
+same-length-10 c = search needs
+
+same-length-11 : tie.Need-same-length-11 Inv-loop μ-loop
+same-length-11 c = search needs
+
+same-length-12 : tie.Need-same-length-12 Inv-loop μ-loop
+same-length-12 c = search needs
+
+returns-3 : tie.Need-returns-3 Inv-loop μ-loop
+returns-3 c =
+    let t = c .before .before .before .before .before .before .before .before .before .before in
+    let l = c .before .loop in
+    ends (scene t) (t .args .log .now) (length (t .args .log .now) / 12) (lists t) (t .args .quads) (l .k)
+    (listsOf (l .vertices) (l .triangles) (l .links) (l .slots)) (l .left)
+    (let h = c .loop-test .left in omega arith) (l .inv)
+
+pub mend-by-entries-spec : {M : Type 1} → statement M
+mend-by-entries-spec =
+    tie.close
+    (tie.spec
+    Inv-loop
+    μ-loop
+    loop-holds
+    mul-at
+    add-end
+    sub-update-mesh
+    part-update-mesh-start
+    part-update-mesh-end
+    update-mesh-requires
+    enum-known-mended
+    enum-known-mended-2
+    same-length
+    same-length-2
+    same-length-3
+    same-length-4
+    returns
+    enum-known-mended-3
+    same-length-5
+    same-length-6
+    same-length-7
+    same-length-8
+    returns-2
+    add-k
+    loop-less
+    loop-again
+    same-length-9
+    same-length-10
+    same-length-11
+    same-length-12
+    returns-3)

@@ -1,0 +1,4 @@
+pub mod Contracts
+pub mod Chunks
+pub mod Composed
+pub mod OneByOne

@@ -1,0 +1,55 @@
+-- A call for each entry of a log. Definitions only.
+use Prim.Native.Nat.{ℕ, zero, suc, _*_, _/_}
+use mathlib.Core.Bool.{true, cond}
+use mathlib.Core.List.{List, []}
+use lib.Dec.{eqb}
+use lib.ListN.{length}
+use Rattle.rules.specs.Lists.{part}
+use Rattle.rules.specs.Mesh.{Lists}
+use Rattle.rules.specs.Answers.{Verdict, fine, refuse, _then_}
+use Rattle.rules.specs.Calls.{Outcome, Scene, meshVerdict, meshGrid, updateMesh, checkVerdict}
+use Rattle.answers.specs.Verdicts.{numberOf}
+use Rattle.demands.specs.declared.one_by_one.Went.{Went}
+use Rattle.demands.specs.declared.one_by_one.Went.the-variants.{Through, Halted}
+
+-- through all the calls, with these lists and so many quads; or halted by a refusal with its number and place
+pub data Course : Type 0 where
+  through : Lists → ℕ → Course
+  halted : ℕ → ℕ → Lists → Course
+
+abbrev pub wentOf : Went → Lists → Course
+wentOf (Through quads) B = through B quads
+wentOf (Halted why place) B = halted (numberOf why) place B
+
+-- after a call that was answered, the rest; after one that was refused, nothing
+abbrev pub onward : Outcome → (Lists → ℕ → Course) → Course
+onward u rest = cond (eqb (u .answer .number) 0) (rest (u .lists) (u .answer .quads)) (halted (u .answer .number) (u .answer .place) (u .lists))
+
+-- the log of entry i alone
+abbrev pub entryLog : List ℕ → ℕ → List ℕ
+entryLog log i = part (12 * i) 12 log
+
+-- a call for each of entries i, i + 1, .., n of them
+unfoldable pub calls : Scene → List ℕ → ℕ → ℕ → Lists → ℕ → Course
+calls S log i zero B Q = through B Q
+calls S log i (suc n) B Q = onward (updateMesh S (entryLog log i) B Q) (calls S log (suc i) n)
+
+-- what refuses the calls, if anything does
+abbrev pub verdictOn : Course → Verdict
+verdictOn (through B Q) = fine
+verdictOn (halted number place B) = refuse number place
+
+-- and the check of what they left, with no outer face named
+abbrev pub checkedOn : Scene → List ℕ → Course → Verdict
+checkedOn S left (through B Q) = checkVerdict S [] left B Q
+checkedOn S left (halted number place B) = refuse number place
+
+-- a fresh mesh by Culling with no outer face named, then a call for each entry
+abbrev pub chain : Scene → List ℕ → List ℕ → Lists → Course
+chain S grid log B = let m = meshGrid S [] grid true B in calls S log 0 (length log / 12) (m .lists) (m .answer .quads)
+
+abbrev pub chainPromise : Scene → List ℕ → List ℕ → Lists → Verdict
+chainPromise S grid log B = meshVerdict S [] grid true B then verdictOn (chain S grid log B)
+
+abbrev pub chainVerdict : Scene → List ℕ → List ℕ → List ℕ → Lists → Verdict
+chainVerdict S grid log left B = meshVerdict S [] grid true B then checkedOn S left (chain S grid log B)
