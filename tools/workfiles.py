@@ -18,7 +18,7 @@ def type_bytes(kind, sides, tile=0):
 
 ONE = 0x3F800000
 NULL, CUBE = type_bytes(0, 0), type_bytes(1, 63)
-BROKEN = words(0) + bytes([1, 1, 255, 255, 1, 255, 255, 255])
+BROKEN = words(0) + bytes([0, 1, 255, 255, 1, 255, 255, 255])
 
 
 def trailer(types, grid, log, size, **other):

@@ -1,0 +1,4 @@
+pub mod Rooms
+pub mod Reading
+pub mod Cubing
+pub mod Printing

@@ -1,0 +1,32 @@
+-- `chunk::answer_file` meets its contract. Assumes nothing.
+use mathlib.Core.Path.{_≡_, sym, ap, _∙_}
+use mathlib.Core.Bool.{Bool, true, false}
+use native.Mathlib.Omega.{arith}
+use denote.Ref.{now}
+use Rattle.workfile.proofs.Files.{good}
+use Rattle.workfile.proofs.Writing.{wrote-as}
+use Rattle.workfile.proofs.Lining.{refused-room}
+use Rattle.chunk.proofs.Printing.{bad-printed, good-printed}
+use borrow.Author.Needs.{needs}
+use Rattle.chunk.proofs.answer_file.Statement.{statement}
+use Rattle.chunk.proofs.answer_file.Tie as tie
+
+is-bad-file-requires : tie.Need-is-bad-file-requires
+is-bad-file-requires c κs = search needs
+
+write-refused-requires : tie.Need-write-refused-requires
+write-refused-requires c κs = refused-room _ _ (omega arith) (omega arith) (omega arith)
+
+returns : tie.Need-returns
+returns c = wrote-as (bad-printed _ (sym (c .before .before .before .is-bad-file .ensures) ∙ c .before .before .if1 .taken)) (c .write-refused .ensures)
+
+answer-good-requires : tie.Need-answer-good-requires
+answer-good-requires c κs = (good _ (sym (c .before .before .is-bad-file .ensures) ∙ c .before .if1 .left), omega arith)
+
+returns-2 : tie.Need-returns-2
+returns-2 c = wrote-as (good-printed _ (sym (c .before .before .before .is-bad-file .ensures) ∙ c .before .before .if1 .left)) (c .answer-good .ensures)
+
+pub answer-file-spec : {M : Type 1} → statement M
+answer-file-spec =
+    tie.close
+    (tie.spec is-bad-file-requires write-refused-requires returns answer-good-requires returns-2)

@@ -1,0 +1,58 @@
+-- `chunk::update_lists` meets its contract. Assumes nothing.
+use mathlib.Core.Path.{_∙_}
+use denote.Ref.{now}
+use Rattle.rules.specs.Calls.{updateMesh}
+use Rattle.admit.specs.Scenes.{listsOf}
+use Rattle.chunk.proofs.Reading.{scene-read}
+use borrow.Author.Needs.{needs}
+use Rattle.chunk.proofs.update_lists.Statement.{statement}
+use Rattle.chunk.proofs.update_lists.Tie as tie
+
+read-work-requires : tie.Need-read-work-requires
+read-work-requires c κs = search needs
+
+log-of-requires : tie.Need-log-of-requires
+log-of-requires c κs = search needs
+
+flag-requires : tie.Need-flag-requires
+flag-requires c κs = search needs
+
+meshem-update-mesh-requires : tie.Need-meshem-update-mesh-requires
+meshem-update-mesh-requires c κs = search needs
+
+same-length : tie.Need-same-length
+same-length c = search needs
+
+same-length-2 : tie.Need-same-length-2
+same-length-2 c = search needs
+
+same-length-3 : tie.Need-same-length-3
+same-length-3 c = search needs
+
+same-length-4 : tie.Need-same-length-4
+same-length-4 c = search needs
+
+returns : tie.Need-returns
+returns c =
+    let a = c .before .before .before .before .before .before .before .before .before .before .before .before .before .before .before .before .before .before .before .before .before .before .before .before .before .before .before .before .before .before .args in
+    let read = c .before .before .before .before .before .before .before .before .before .before .before .before .before .before .before .before .before .before .before .before .before .read-work in
+    let log = c .before .before .before .before .before .before .before .before .before .before .before .before .before .log-of .ensures in
+    let coloured = c .before .before .before .before .before .before .before .before .before .before .before .before .flag in
+    let scene = scene-read (now (a .file)) (read .result) (coloured .result) (read .ensures) (coloured .ensures)
+    (now (a .kinds)) (now (a .covers)) (now (a .cubes)) in
+    let lists = listsOf (now (a .vertices)) (now (a .triangles)) (now (a .links)) (now (a .slots)) in
+    c .before .before .before .before .before .before .before .before .meshem-update-mesh .ensures ∙ (λ i. updateMesh (scene i) (log i) lists (a .count))
+
+pub update-lists-spec : {M : Type 1} → statement M
+update-lists-spec =
+    tie.close
+    (tie.spec
+    read-work-requires
+    log-of-requires
+    flag-requires
+    meshem-update-mesh-requires
+    same-length
+    same-length-2
+    same-length-3
+    same-length-4
+    returns)
