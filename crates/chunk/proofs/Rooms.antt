@@ -10,7 +10,7 @@ use lib.Seq.{take-at, length-take-le}
 use Rattle.rules.specs.Lists.{table}
 use Rattle.rules.specs.Cells.{cells}
 use Rattle.rules.specs.Cube.{floatsOf}
-use Rattle.rules.specs.Program.{word, sizeIn, gridStart, gridIn}
+use Rattle.rules.specs.Program.{word, typeCount, sizeIn, colouredIn, gridStart, gridIn}
 use Rattle.rules.proofs.ListLaws.{length-table}
 use Rattle.workfile.specs.Work.{Good, filled}
 use Rattle.workfile.specs.Written.{put, Wrote}
@@ -39,8 +39,8 @@ module _ {room : List ℕ} (is : room ≡ zeros 6144) where
   room-lent n h = sym (length-take-le n room (omega (arith, room-long)))
 
   -- its first words
-  pub room-first : {n : ℕ} (k : ℕ) → n ≡ k → k ≤ 6144 → take n room ≡ replicate k 0
-  room-first k e h = rw (is, e) (take-zeros k 6144 h)
+  pub room-first : {n k : ℕ} → n ≡ k → n ≤ 6144 → take n room ≡ replicate k 0
+  room-first {n} {k} e h = rw (is, e) (take-zeros k 6144 (omega arith))
 
 -- ---- how much is asked of it
 
@@ -48,18 +48,35 @@ pub few-floats : (coloured : Bool) → floatsOf coloured ≤ 12
 few-floats true = omega arith
 few-floats false = omega arith
 
--- the registry of few types
-pub few-words : (w n : ℕ) → w ≤ 288 → n ≤ 8 → w * n ≤ 2304
-few-words w n h l = mul-le-mul {n₂ = 288} {m₂ = 8} h l
+module _ (file : List ℕ) where
+  abbrev floats : ℕ
+  floats = floatsOf (colouredIn file)
 
--- the grid has as many bytes as cells
-pub grid-long : (file : List ℕ) → Good file → length (gridIn file) ≡ cells (sizeIn file)
-grid-long file g =
-    length-take-le (cells (sizeIn file)) (drop (gridStart file) file)
-    (rw length-drop (left (12 * word file 4) (gridStart file) (cells (sizeIn file)) (length file) (g .fills) (g .least)))
-  where
-    left : (log start n m : ℕ) → log + (start + n) ≡ m - 92 → 92 ≤ m → n ≤ m - start
-    left log start n m e h = omega arith
+  pub vertices-are : {n : ℕ} → n ≡ floats → (512 * n ≡ 128 * (4 * floats)) × (512 * n ≤ 6144)
+  vertices-are e = (omega arith, omega (arith, few-floats (colouredIn file)))
+
+  module _ (g : Good file) where
+    pub registry-few : 24 * floats * typeCount file ≤ 2304
+    registry-few = mul-le-mul {n₂ = 288} {m₂ = 8} (omega (arith, few-floats (colouredIn file))) (g .types)
+
+    pub registry-is : {words types : ℕ} → words ≡ 24 * floats → types ≡ typeCount file
+        → (words * types ≡ 24 * floats * typeCount file) × (words * types ≤ 2304)
+    registry-is {words} {types} e t = let p : words * types ≡ 24 * floats * typeCount file = λ i. e i * t i in (p, rw p registry-few)
+
+    -- the grid has as many bytes as cells
+    grid-long : length (gridIn file) ≡ cells (sizeIn file)
+    grid-long =
+        length-take-le (cells (sizeIn file)) (drop (gridStart file) file)
+        (rw length-drop (left (12 * word file 4) (gridStart file) (cells (sizeIn file)) (length file) (g .fills) (g .least)))
+      where
+        left : (log start n m : ℕ) → log + (start + n) ≡ m - 92 → 92 ≤ m → n ≤ m - start
+        left log start n m e h = omega arith
+
+    pub slots-are : {grid : List ℕ} → grid ≡ gridIn file → (6 * length grid ≡ 6 * cells (sizeIn file)) × (6 * length grid ≤ 3072)
+    slots-are {grid} e = let p : length grid ≡ cells (sizeIn file) = ap length e ∙ grid-long in (ap (λ (k : ℕ). 6 * k) p, few p (g .cells))
+      where
+        few : {n m : ℕ} → n ≡ m → m ≤ 512 → 6 * n ≤ 3072
+        few e h = omega arith
 
 -- ---- the first words of what was written
 
@@ -70,6 +87,9 @@ pub first-wrote : {bytes xs out : List ℕ} {end : ℕ} → Wrote bytes 0 xs out
 first-wrote {bytes} {xs} {out} {end} w =
     let e : end ≡ length bytes = omega (arith, w .end) in
     ap (take end) (w .is) ∙ take-at bytes (drop (0 + length bytes) xs) end (sym e)
+
+pub part-inside : (a b : List ℕ) {n : ℕ} → length a ≡ n → n ≤ length (a ++ b)
+part-inside a b e = omega (arith, length-append a b)
 
 pub wrote-inside : {bytes xs out : List ℕ} {end : ℕ} → Wrote bytes 0 xs out end → end ≤ length out
 wrote-inside {bytes} {xs} w = omega (arith, w .end, ap length (w .is), length-append bytes (drop (0 + length bytes) xs))

@@ -48,6 +48,30 @@ fn cube_words(file: &[u8]) -> usize
     24 * floats_of(read_work(file).coloured)
 }
 
+// The words of the cubes of all types.
+fn registry_words(file: &[u8]) -> usize
+    requires { ⌜ Good (now file) ⌝ }
+    ensures { λ r. ⌜ (r ≡ 24 * floatsOf (colouredIn (now (file .entry))) * typeCount (now (file .entry))) × (r ≤ 2304) ⌝ }
+{
+    cube_words(file) * read_work(file).types
+}
+
+// The words of the vertices of 128 quads.
+fn vertex_words(file: &[u8]) -> usize
+    requires { ⌜ Good (now file) ⌝ }
+    ensures { λ r. ⌜ (r ≡ 128 * (4 * floatsOf (colouredIn (now (file .entry))))) × (r ≤ 6144) ⌝ }
+{
+    512 * floats_of(read_work(file).coloured)
+}
+
+// Six slots a cell.
+fn slot_count(file: &[u8]) -> usize
+    requires { ⌜ Good (now file) ⌝ }
+    ensures { λ r. ⌜ (r ≡ 6 * cells (sizeIn (now (file .entry)))) × (r ≤ 3072) ⌝ }
+{
+    6 * grid_of(file).len()
+}
+
 // Room for the longest list: the vertices of 128 quads with colour.
 fn empty_room() -> [u32; 6144]
     ensures { λ r. ⌜ r ≡ zeros 6144 ⌝ }
@@ -332,8 +356,8 @@ fn answer_typed(
     let mut triangles = empty_room();
     let mut links = empty_room();
     let mut slots = empty_room();
-    let words = 512 * floats_of(read_work(file).coloured);
-    let six = 6 * grid_of(file).len();
+    let words = vertex_words(file);
+    let six = slot_count(file);
     answer_in_room(
         file,
         outer,
@@ -377,7 +401,7 @@ fn answer_good(file: &[u8], out: &mut [u8]) -> usize
         (now (out .entry)) (now (out .exit)) r ⌝ }
 {
     let mut registry = empty_room();
-    let words = cube_words(file) * read_work(file).types;
+    let words = registry_words(file);
     let told = build_cubes(file, &mut registry[..words]);
     if told.number != 0 {
         return write_refused(told.number, told.place, out, 0);

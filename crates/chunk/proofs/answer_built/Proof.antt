@@ -47,16 +47,16 @@ slice-aggregate-answer-typed : tie.Need-slice-aggregate-answer-typed
 slice-aggregate-answer-typed c = sym (length-take-le _ _ (end-inside (c .before .before .outer-of .ensures) (faces-room _ 6 _ (omega arith) (omega arith))))
 
 array-share-prefix-kinds : tie.Need-array-share-prefix-kinds
-array-share-prefix-kinds c = omega (arith, few-types (c .before .before .before .before .before .before .before .before .before .before), c .before .before .before .before .before .before .before .before .kinds-of .kept .1 .0)
+array-share-prefix-kinds c = let made = c .before .before .before .before .before .before .before .before in omega (arith, few-types (made .before .before), made .kinds-of .kept .1 .0)
 
 slice-aggregate-answer-typed-2 : tie.Need-slice-aggregate-answer-typed-2
-slice-aggregate-answer-typed-2 c = sym (length-take-le _ _ (omega (arith, few-types (c .before .before .before .before .before .before .before .before .before .before .before), c .before .before .before .before .before .before .before .before .before .kinds-of .kept .1 .0)))
+slice-aggregate-answer-typed-2 c = let made = c .before .before .before .before .before .before .before .before .before in sym (length-take-le _ _ (omega (arith, few-types (made .before .before), made .kinds-of .kept .1 .0)))
 
 array-share-prefix-covers : tie.Need-array-share-prefix-covers
-array-share-prefix-covers c = omega (arith, few-types (c .before .before .before .before .before .before .before .before .before .before .before), c .before .before .before .before .before .before .covers-of .kept .1 .0)
+array-share-prefix-covers c = let made = c .before .before .before .before .before .before in omega (arith, few-types (made .before .before .before .before .before), made .covers-of .kept .1 .0)
 
 slice-aggregate-answer-typed-3 : tie.Need-slice-aggregate-answer-typed-3
-slice-aggregate-answer-typed-3 c = sym (length-take-le _ _ (omega (arith, few-types (c .before .before .before .before .before .before .before .before .before .before .before .before), c .before .before .before .before .before .before .before .covers-of .kept .1 .0)))
+slice-aggregate-answer-typed-3 c = let made = c .before .before .before .before .before .before .before in sym (length-take-le _ _ (omega (arith, few-types (made .before .before .before .before .before), made .covers-of .kept .1 .0)))
 
 answer-typed-requires : tie.Need-answer-typed-requires
 answer-typed-requires c κs = search needs
@@ -66,17 +66,21 @@ same-length c = search needs
 
 returns : tie.Need-returns
 returns c =
-    let a = c .before .before .before .before .before .before .before .before .before .before .before .before .before .before .before .before .before .before .before .before .args in
-    let file = now (a .file) in
-    let read = c .before .before .before .before .before .before .before .before .before .before .before .before .before .before .before .before .read-work in
-    let types = types-are file (c .before .before .before .before .before .before .before .before .before .before .before .before .before .before .before .before .before .before .before .before .pre .0) (read .ensures) in
-    let kinds = first-filled (λ t. typeByte file t 0) (typeCount file) (read .result .types) _ _ types (c .before .before .before .before .before .before .before .before .before .before .before .before .before .before .kinds-of .ensures) in
-    let covers = first-filled (λ t. typeByte file t 1) (typeCount file) (read .result .types) _ _ types (c .before .before .before .before .before .before .before .before .before .before .before .covers-of .ensures) in
-    let outer = first-wrote (c .before .before .before .before .before .before .before .before .outer-of .ensures) ∙ ap (λ (w : Work). facesOf (w .outer)) (read .ensures) in
+    let called = c .before .before in
+    let faces = called .before .before .before .before .before .before in
+    let covered = faces .before .before .before in
+    let kinded = covered .before .before .before in
+    let read = kinded .before .before .read-work in
+    let s = kinded .before .before .before .before .before .before in
+    let file = now (s .args .file) in
+    let cubes = now (s .args .cubes) in
+    let types = types-are file (s .pre .0) (read .ensures) in
+    let kinds = first-filled (λ t. typeByte file t 0) (typeCount file) (read .result .types) _ _ types (kinded .kinds-of .ensures) in
+    let covers = first-filled (λ t. typeByte file t 1) (typeCount file) (read .result .types) _ _ types (covered .covers-of .ensures) in
+    let outer = first-wrote (faces .outer-of .ensures) ∙ ap (λ (w : Work). facesOf (w .outer)) (read .ensures) in
     wrote-as
-    (λ i. linesOf (sceneWith file (kinds i) (covers i) (now (a .cubes)))
-    (workedOn file (sceneWith file (kinds i) (covers i) (now (a .cubes))) (outer i) (roomIn file)))
-    (c .before .before .answer-typed .ensures)
+    (λ i. linesOf (sceneWith file (kinds i) (covers i) cubes) (workedOn file (sceneWith file (kinds i) (covers i) cubes) (outer i) (roomIn file)))
+    (called .answer-typed .ensures)
 
 pub answer-built-spec : {M : Type 1} → statement M
 answer-built-spec =

@@ -16,13 +16,14 @@ work-lists-requires c κs = search needs
 
 write-answer-requires : tie.Need-write-answer-requires
 write-answer-requires c κs =
-    let s = c .before .before .before .before .before .before .before .before .before .before .before .before .before .before .before .before .before .before .before .before .before .before .before .before .before in
+    let worked = c .before .before .before .before .before .before .before .before .before .before in
+    let s = worked .before .before .before .before .before .before .before .before .before .before .before .before .before .before .before in
     let a = s .args in
-    let w = c .before .before .before .before .before .before .before .before .before .before .work-lists in (
+    let w = worked .work-lists in (
       omega arith,
       λ e. worked-shown (now (a .file)) (sceneWith (now (a .file)) (now (a .kinds)) (now (a .covers)) (now (a .cubes))) (now (a .outer))
           (listsOf (now (a .vertices)) (now (a .triangles)) (now (a .links)) (now (a .slots))) (mendedOf (w .result)) _ (w .ensures)
-          _ (s .pre .0 .cells) (s .pre .1) (omega arith) (s .pre .2) e,
+          _ (s .pre .0 .cells) (s .pre .1) (omega (arith, w .ok .1 .1 .1)) (s .pre .2) e,
     )
 
 same-length : tie.Need-same-length
@@ -42,16 +43,18 @@ same-length-5 c = search needs
 
 returns : tie.Need-returns
 returns c =
-    let s = c .before .before .before .before .before .before .before .before .before .before .before .before .before .before .before .before .before .before .before .before .before .before .before .before .before .before .before .before in
+    let wrote = c .before .before in
+    let worked = wrote .before .before .before .before .before .before .before .before .before .before .before in
+    let s = worked .before .before .before .before .before .before .before .before .before .before .before .before .before .before .before in
     let a = s .args in
-    let w = c .before .before .before .before .before .before .before .before .before .before .before .before .before .work-lists in
+    let w = worked .work-lists in
     let S = sceneWith (now (a .file)) (now (a .kinds)) (now (a .covers)) (now (a .cubes)) in
     let lists = listsOf (now (a .vertices)) (now (a .triangles)) (now (a .links)) (now (a .slots)) in
     wrote-as
     (worked-lines (now (a .file)) S (now (a .outer)) lists (mendedOf (w .result)) _ (w .ensures)
     (λ e. worked-shown (now (a .file)) S (now (a .outer)) lists (mendedOf (w .result)) _ (w .ensures)
-    (now (a .out)) (s .pre .0 .cells) (s .pre .1) (omega arith) (s .pre .2) e .most))
-    (c .before .before .write-answer .ensures)
+    (now (a .out)) (s .pre .0 .cells) (s .pre .1) (omega (arith, w .ok .1 .1 .1)) (s .pre .2) e .most))
+    (wrote .write-answer .ensures)
 
 pub answer-in-room-spec : {M : Type 1} → statement M
 answer-in-room-spec =

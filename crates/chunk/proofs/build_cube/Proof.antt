@@ -31,11 +31,15 @@ same-length c = search needs
 
 returns : tie.Need-returns
 returns c =
-    let a = c .before .before .before .before .before .before .before .before .before .before .before .before .before .before .before .args in
-    let read = c .before .before .before .before .before .before .before .before .before .before .before .before .read-work in
-    c .before .before .meshem-generate-voxel-mesh .ensures
+    let called = c .before .before in
+    let coloured = called .before .before .before in
+    let textured = coloured .before .before .before in
+    let read = textured .before .before .before .before in
+    let a = read .before .before .before .args in
+    called .meshem-generate-voxel-mesh .ensures
     ∙ ap (λ (q : Shape). generateVoxelMesh q (now (a .out)))
-    (shape-read (now (a .file)) (read .result) (c .before .before .before .before .before .flag .result) (read .ensures) (c .before .before .before .before .before .flag .ensures) (a .t) (c .before .before .before .before .before .before .before .before .texture-of .ensures))
+    (shape-read (now (a .file)) (read .read-work .result) (coloured .flag .result) (read .read-work .ensures) (coloured .flag .ensures) (a .t)
+    (textured .texture-of .ensures))
 
 pub build-cube-spec : {M : Type 1} → statement M
 build-cube-spec =

@@ -5,11 +5,10 @@ use native.Mathlib.Omega.{arith}
 use denote.Ref.{now}
 use lib.ListN.{length}
 use borrow.Rule.Slice.PartMut.{same-len-mid}
-use Rattle.rules.specs.Cube.{floatsOf}
-use Rattle.rules.specs.Program.{typeCount, colouredIn}
+use Rattle.rules.specs.Program.{typeCount}
 use Rattle.workfile.proofs.Files.{types-are}
 use Rattle.exports.specs.Answers.{toldOf}
-use Rattle.chunk.proofs.Rooms.{few-floats, few-words}
+use Rattle.chunk.proofs.Rooms.{registry-few}
 use Rattle.chunk.proofs.Cubing.{Building, building-none, building-all, stretch-inside, turn-stop, turn-more}
 use borrow.Author.Needs.{needs}
 use Rattle.chunk.proofs.build_cubes.Statement.{statement}
@@ -32,10 +31,7 @@ inside : (c : tie.In-loop Inv-loop μ-loop)
 inside c = rw (c .before .before .cube-words .ensures) (stretch-inside _ _ _ (c .before .loop .inv) (more c))
 
 few : (c : tie.In-loop Inv-loop μ-loop) → length (c .before .loop .registry) ≤ 2304
-few c =
-    let file = now (c .before .before .before .before .before .before .args .file) in
-    rw (c .before .loop .inv .long)
-    (few-words (24 * floatsOf (colouredIn file)) (typeCount file) (omega (arith, few-floats (colouredIn file))) (c .before .before .before .before .before .before .pre .0 .types))
+few c = rw (c .before .loop .inv .long) (registry-few _ (c .before .before .before .before .before .before .pre .0))
 
 read-work-requires : tie.Need-read-work-requires Inv-loop μ-loop
 read-work-requires c κs = c .before .before .pre .0
@@ -69,28 +65,36 @@ build-cube-requires c κs = (c .before .before .before .before .before .before .
 
 same-length : tie.Need-same-length Inv-loop μ-loop
 same-length c =
-    let loop = c .before .before .before .before .before .before .before .loop in
-    let words = c .before .before .before .before .before .before .before .before .cube-words .result in
-    let start = words * loop .t in
-    let built = c .before .before .before .before .build-cube in
-    same-len-mid start (start + words - start) (loop .registry) (built .last .1 .1 .0) (built .kept .1 .1 .0)
-    ∙ loop .inv .long ∙ sym (c .before .before .before .before .before .before .before .before .before .before .before .before .pre .1)
+    let told = c .before .before .before .before in
+    let loop = told .before .before .before in
+    let words = loop .before .cube-words .result in
+    let start = words * loop .loop .t in
+    same-len-mid start (start + words - start) (loop .loop .registry) (told .build-cube .last .1 .1 .0) (told .build-cube .kept .1 .1 .0)
+    ∙ loop .loop .inv .long ∙ sym (loop .before .before .before .before .before .pre .1)
 
 returns : tie.Need-returns Inv-loop μ-loop
 returns c =
-    turn-stop _ _ _ (c .before .before .before .before .before .before .before .loop .inv) (more (c .before .before .before .before .before .before)) (toldOf (c .before .before .before .before .build-cube .result)) _
-    (c .before .before .before .before .before .before .before .before .cube-words .result) (c .before .before .before .before .before .before .before .before .cube-words .ensures) (c .before .before .before .before .build-cube .ensures, c .before .before .before .before .build-cube .kept .1 .1 .0) _ (c .if1 .taken)
+    let told = c .before .before .before .before in
+    let turn = told .before .before in
+    let loop = turn .before in
+    let words = loop .before .cube-words in
+    turn-stop _ _ _ (loop .loop .inv) (more turn) (toldOf (told .build-cube .result)) _
+    (words .result) (words .ensures) (told .build-cube .ensures, told .build-cube .kept .1 .1 .0) _ (c .if1 .taken)
 
 add-t : tie.Need-add-t Inv-loop μ-loop
-add-t c = omega (arith, more (c .before .before .before .before .before .before), c .before .before .before .before .before .before .before .before .before .before .before .before .pre .0 .types)
+add-t c = let turn = c .before .before .before .before .before .before in omega (arith, more turn, turn .before .before .before .before .before .before .pre .0 .types)
 
 loop-less : tie.Need-loop-less Inv-loop μ-loop
 loop-less c = omega (arith, c .before .before .before .before .before .before .loop-test .taken)
 
 loop-again : tie.Need-loop-again Inv-loop μ-loop
 loop-again c =
-    turn-more _ _ _ (c .before .before .before .before .before .before .before .loop .inv) (more (c .before .before .before .before .before .before)) (toldOf (c .before .before .before .before .build-cube .result)) _
-    (c .before .before .before .before .before .before .before .before .cube-words .result) (c .before .before .before .before .before .before .before .before .cube-words .ensures) (c .before .before .before .before .build-cube .ensures, c .before .before .before .before .build-cube .kept .1 .1 .0) (c .if1 .left)
+    let told = c .before .before .before .before in
+    let turn = told .before .before in
+    let loop = turn .before in
+    let words = loop .before .cube-words in
+    turn-more _ _ _ (loop .loop .inv) (more turn) (toldOf (told .build-cube .result)) _
+    (words .result) (words .ensures) (told .build-cube .ensures, told .build-cube .kept .1 .1 .0) (c .if1 .left)
 
 same-length-2 : tie.Need-same-length-2 Inv-loop μ-loop
 same-length-2 c = c .before .loop .inv .long ∙ sym (c .before .before .before .before .before .before .pre .1)

@@ -38,15 +38,17 @@ same-length-4 c = search needs
 
 returns : tie.Need-returns
 returns c =
-    let a = c .before .before .before .before .before .before .before .before .before .before .before .before .before .before .before .before .before .before .before .before .before .before .before .before .before .before .before .before .before .before .before .args in
-    let read = c .before .before .before .before .before .before .before .before .before .before .before .before .before .before .before .before .before .before .before .before .before .read-work in
-    let grid = c .before .before .before .before .before .before .before .before .before .before .before .before .before .before .before .before .before .grid-of .ensures in
-    let coloured = c .before .before .before .before .before .before .before .before .before .before .before .before .before .before .before .before .flag in
-    let culling = c .before .before .before .before .before .before .before .before .before .before .before .before .before .before .before .flag2 .ensures ∙ ap (λ (w : Work). w .culling) (read .ensures) in
-    let scene = scene-read (now (a .file)) (read .result) (coloured .result) (read .ensures) (coloured .ensures)
+    let called = c .before .before .before .before .before .before .before .before in
+    let by = called .before .before .before .before .before .before .before in
+    let coloured = by .before in
+    let grid = coloured .before in
+    let read = grid .before .before .before .before in
+    let a = read .before .before .before .before .before .before .before .before .before .before .args in
+    let culling = by .flag2 .ensures ∙ ap (λ (w : Work). w .culling) (read .read-work .ensures) in
+    let scene = scene-read (now (a .file)) (read .read-work .result) (coloured .flag .result) (read .read-work .ensures) (coloured .flag .ensures)
     (now (a .kinds)) (now (a .covers)) (now (a .cubes)) in
     let lists = listsOf (now (a .vertices)) (now (a .triangles)) (now (a .links)) (now (a .slots)) in
-    c .before .before .before .before .before .before .before .before .meshem-mesh-grid .ensures ∙ (λ i. meshGrid (scene i) (now (a .outer)) (grid i) (culling i) lists)
+    called .meshem-mesh-grid .ensures ∙ (λ i. meshGrid (scene i) (now (a .outer)) (grid .grid-of .ensures i) (culling i) lists)
 
 pub mesh-lists-spec : {M : Type 1} → statement M
 mesh-lists-spec =

@@ -34,14 +34,15 @@ same-length-4 c = search needs
 
 returns : tie.Need-returns
 returns c =
-    let a = c .before .before .before .before .before .before .before .before .before .before .before .before .before .before .before .before .before .before .before .before .before .before .before .before .before .before .before .before .before .before .args in
-    let read = c .before .before .before .before .before .before .before .before .before .before .before .before .before .before .before .before .before .before .before .before .before .read-work in
-    let log = c .before .before .before .before .before .before .before .before .before .before .before .before .before .log-of .ensures in
-    let coloured = c .before .before .before .before .before .before .before .before .before .before .before .before .flag in
-    let scene = scene-read (now (a .file)) (read .result) (coloured .result) (read .ensures) (coloured .ensures)
+    let called = c .before .before .before .before .before .before .before .before in
+    let coloured = called .before .before .before .before in
+    let log = coloured .before in
+    let read = log .before .before .before .before .before .before .before .before in
+    let a = read .before .before .before .before .before .before .before .before .before .args in
+    let scene = scene-read (now (a .file)) (read .read-work .result) (coloured .flag .result) (read .read-work .ensures) (coloured .flag .ensures)
     (now (a .kinds)) (now (a .covers)) (now (a .cubes)) in
     let lists = listsOf (now (a .vertices)) (now (a .triangles)) (now (a .links)) (now (a .slots)) in
-    c .before .before .before .before .before .before .before .before .meshem-update-mesh .ensures ∙ (λ i. updateMesh (scene i) (log i) lists (a .count))
+    called .meshem-update-mesh .ensures ∙ (λ i. updateMesh (scene i) (log .log-of .ensures i) lists (a .count))
 
 pub update-lists-spec : {M : Type 1} → statement M
 update-lists-spec =

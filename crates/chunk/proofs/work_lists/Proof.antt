@@ -24,9 +24,10 @@ same-length-4 c = search needs
 
 returns : tie.Need-returns
 returns c =
-    let a = c .before .before .before .before .before .before .before .before .before .before .before .before .before .before .before .before .before .before .before .before .before .before .before .before .args in
+    let meshed = c .before .before .before .before .before .before .before .before .before .before in
+    let a = meshed .before .before .before .before .before .before .before .before .before .before .before .before .before .before .args in
     mesh-stops (sceneWith (now (a .file)) (now (a .kinds)) (now (a .covers)) (now (a .cubes))) (logIn (now (a .file)))
-    (c .before .before .before .before .before .before .before .before .before .before .mesh-lists .ensures) (c .if1 .taken)
+    (meshed .mesh-lists .ensures) (c .if1 .taken)
 
 update-lists-requires : tie.Need-update-lists-requires
 update-lists-requires c κs = search needs
@@ -45,9 +46,12 @@ same-length-8 c = search needs
 
 returns-2 : tie.Need-returns-2
 returns-2 c =
-    let a = c .before .before .before .before .before .before .before .before .before .before .before .before .before .before .before .before .before .before .before .before .before .before .before .before .before .before .before .before .before .before .before .before .before .before .before .before .before .args in
+    let updated = c .before .before .before .before .before .before .before .before in
+    let unless = updated .before .before .before .before .before in
+    let meshed = unless .before .before .before .before .before .before .before .before .before .before in
+    let a = meshed .before .before .before .before .before .before .before .before .before .before .before .before .before .before .args in
     update-follows (sceneWith (now (a .file)) (now (a .kinds)) (now (a .covers)) (now (a .cubes))) (logIn (now (a .file)))
-    (c .before .before .before .before .before .before .before .before .before .before .before .before .before .before .before .before .before .before .before .before .before .before .before .mesh-lists .ensures) (c .before .before .before .before .before .before .before .before .before .before .before .before .before .if1 .left) (c .before .before .before .before .before .before .before .before .update-lists .ensures)
+    (meshed .mesh-lists .ensures) (unless .if1 .left) (updated .update-lists .ensures)
 
 pub work-lists-spec : {M : Type 1} → statement M
 work-lists-spec =
