@@ -4,27 +4,27 @@ use mathlib.Core.Logic.{_≢_}
 use mathlib.Core.Bool.{Bool, true, false}
 use mathlib.Core.List.{List, [], _∷_}
 use mathlib.Core.Option.{Option, none, some}
-use Prim.Native.Nat.{ℕ, zero, suc, _*_, _/_, _≤_, _<_, min}
+use Prim.Native.Nat.{ℕ, zero, suc, _/_, _≤_, _<_}
 use native.Mathlib.Omega.{arith}
-use lib.ListN.{length, getD, take}
+use lib.ListN.{length, take}
 use lib.Seq.{getD-take, length-take-le}
 use lib.Dec.{eqb, ltb}
 use borrow.Author.Tests.{ltb-false}
-use Rattle.rules.specs.Cells.{cells, linkOf, codeIn}
+use Rattle.rules.specs.Cells.{cells, linkOf}
 use Rattle.rules.specs.Types.{floats}
 use Rattle.rules.specs.Mesh.{Quad, Lists, decode, layout}
 use Rattle.rules.specs.Update.{source, Course, entryAt, work, blank}
-use Rattle.rules.specs.Answers.{Verdict, fine, refuse, _then_, BAD-SIZE, BAD-GRID, BAD-OUTER, BAD-CELL, SHORT-SLOTS, BAD-COUNT, BAD-ENTRY, NO-ROOM, roomOf}
+use Rattle.rules.specs.Answers.{Verdict, fine, refuse, BAD-SIZE, BAD-GRID, BAD-OUTER, BAD-CELL, SHORT-SLOTS, BAD-COUNT, BAD-ENTRY, NO-ROOM}
 use Rattle.rules.specs.Calls.{Answer, answered, refused, Scene, Outcome, world, span, faces, room, typesVerdict, freshMesh, meshVerdict, meshBy, meshGrid, lentVerdict, bookVerdict, updateVerdict, course, courseAnswer, updateBy, updateMesh}
 use Rattle.rules.specs.Program as rules
 use Rattle.rules.specs.Program.{word, gridIn, logIn, updateAfter, meshLines, refusedLine, linesOf, badFile, typeCount, buildFrom, builtLines, printed}
-use Rattle.rules.proofs.ListLaws.{All, all-at, all-of}
+use Rattle.rules.proofs.ListLaws.{all-at, all-of}
 use Rattle.rules.proofs.Laying.{Fits, Sized, keyAt, link-inside, length-laid, links-at, decode-layout, length-links}
 use Rattle.rules.proofs.Checking.{then-fine, if-fine}
 use Rattle.rules.proofs.Courses.{Sane, course-sane, fits-new}
 use Rattle.rules.proofs.Demands.{words-sized, limits, sound, room-for, lent-sane, entry-inside}
 use Rattle.rules.proofs.Refusals.{Within, UPDATE, update-numbers, zero-fine}
-use Rattle.workfile.specs.Written.{Room, OfFaces, quadsOf}
+use Rattle.workfile.specs.Written.{OfFaces, quadsOf}
 use Rattle.workfile.proofs.Files.{too-long}
 use Rattle.workfile.proofs.Writing.{room-as}
 use Rattle.workfile.proofs.Lining.{lines-decoded, lines-room}

@@ -3,7 +3,6 @@ use mathlib.Core.Path.{_≡_, ap, _∙_}
 use mathlib.Core.List.{List}
 use Prim.Native.Nat.{ℕ}
 use Rattle.rules.specs.Cube as rules
-use Rattle.rules.specs.Calls.{Scene}
 use Rattle.rules.specs.Program.{shapeIn, colouredIn}
 use Rattle.workfile.specs.declared.Work.{Work}
 use Rattle.workfile.specs.Work.{workIn}

@@ -13,12 +13,12 @@ use Rattle.rules.specs.Cube.{floatsOf}
 use Rattle.rules.specs.Program.{word, typeCount, sizeIn, colouredIn, gridStart, gridIn}
 use Rattle.rules.proofs.ListLaws.{length-table}
 use Rattle.workfile.specs.Work.{Good, filled}
-use Rattle.workfile.specs.Written.{put, Wrote}
+use Rattle.workfile.specs.Written.{Wrote}
 use Rattle.chunk.specs.Steps.{zeros}
 
 -- ---- empty room
 
-pub length-zeros : (n : ℕ) → length (zeros n) ≡ n
+length-zeros : (n : ℕ) → length (zeros n) ≡ n
 unfolding zeros
 length-zeros n = length-replicate n 0
 
@@ -32,7 +32,7 @@ take-zeros n m h = go n m h
     go (suc n) (suc m) h = ap (λ (l : List ℕ). 0 ∷ l) (go n m (omega arith))
 
 module _ {room : List ℕ} (is : room ≡ zeros 6144) where
-  pub room-long : length room ≡ 6144
+  room-long : length room ≡ 6144
   room-long = ap length is ∙ length-zeros 6144
 
   pub room-lent : (n : ℕ) → n ≤ 6144 → n ≡ length (take n room)

@@ -1,12 +1,11 @@
 -- The program's steps on what is lent to them, as the rules see them. Definitions only.
 use Prim.Native.Nat.{ℕ, zero, suc, _≤_}
-use mathlib.Core.Path.{_≡_}
 use mathlib.Core.List.{List}
 use lib.Dec.{eqb}
 use lib.ListN.{length, take, replicate}
 use Rattle.rules.specs.Mesh.{Lists}
 use Rattle.rules.specs.Calls.{Answer, answered, Scene, Outcome, meshGrid}
-use Rattle.rules.specs.Program.{word, sizeIn, tripleIn, colouredIn, gridIn, logIn, Built, stopped, built, updateAfter, meshLines, refusedLine}
+use Rattle.rules.specs.Program.{word, sizeIn, tripleIn, colouredIn, gridIn, logIn, Built, stopped, built, updateAfter, meshLines, refusedLine, linesOf}
 use Rattle.workfile.specs.Written.{Room, OfFaces, quadsOf}
 
 -- what the file says, with types as they are lent
@@ -31,6 +30,11 @@ builtOf a cubes = builtBy (a .number) a cubes
 abbrev pub workedOn : List ℕ → Scene → List ℕ → Lists → Outcome
 workedOn file S outer B =
     let o = meshGrid S outer (gridIn file) (eqb (word file 9) 1) B in updateAfter S (logIn file) o (o .answer .number)
+
+-- and what it prints
+abbrev pub linesIn : List ℕ → List ℕ → List ℕ → List ℕ → List ℕ → Lists → List ℕ
+linesIn file outer kinds covers cubes B =
+    let S = sceneWith file kinds covers cubes in linesOf S (workedOn file S outer B)
 
 -- room that holds nothing yet
 unfoldable pub zeros : ℕ → List ℕ

@@ -23,12 +23,13 @@ ghost use lib.ListN.{length};
 ghost use Rattle.rules.specs.Cells.{cells};
 ghost use Rattle.rules.specs.Cube.{floatsOf};
 ghost use Rattle.rules.specs.Calls.{generateVoxelMesh, meshGrid, updateMesh};
-ghost use Rattle.rules.specs.Program.{word, typeCount, sizeIn, colouredIn, shapeIn, sceneIn, gridIn, logIn, roomIn, buildFrom, worked, linesOf, builtLines, printed};
+ghost use Rattle.rules.specs.Program.{word, typeCount, sizeIn, colouredIn, shapeIn, sceneIn, gridIn, logIn, roomIn};
+ghost use Rattle.rules.specs.Program.{buildFrom, worked, linesOf, builtLines, printed};
 ghost use Rattle.admit.specs.Scenes.{listsOf};
 ghost use Rattle.exports.specs.Answers.{isYes, toldOf, mendedOf, cubeOut, outcome};
 ghost use Rattle.workfile.specs.Work.{Good};
 ghost use Rattle.workfile.specs.Written.{Wrote};
-ghost use Rattle.chunk.specs.Steps.{sceneWith, builtOf, workedOn, zeros, linesWith, Shown};
+ghost use Rattle.chunk.specs.Steps.{sceneWith, builtOf, workedOn, linesIn, zeros, linesWith, Shown};
 
 // What the lines of 128 quads take at most.
 pub const ANSWER_BYTES: usize = 1_317;
@@ -154,8 +155,9 @@ fn mesh_lists(
 ) -> Mended
     requires { ⌜ Good (now file) ⌝ }
     ensures { λ r. ⌜ outcome (mendedOf r) (listsOf (now (vertices .exit)) (now (triangles .exit)) (now (links .exit)) (now (slots .exit)))
-        ≡ meshGrid (sceneWith (now (file .entry)) (now (kinds .entry)) (now (covers .entry)) (now (cubes .entry))) (now (outer .entry)) (gridIn (now (file .entry)))
-        (eqb (word (now (file .entry)) 9) 1) (listsOf (now (vertices .entry)) (now (triangles .entry)) (now (links .entry)) (now (slots .entry))) ⌝ }
+        ≡ meshGrid (sceneWith (now (file .entry)) (now (kinds .entry)) (now (covers .entry)) (now (cubes .entry)))
+        (now (outer .entry)) (gridIn (now (file .entry))) (eqb (word (now (file .entry)) 9) 1)
+        (listsOf (now (vertices .entry)) (now (triangles .entry)) (now (links .entry)) (now (slots .entry))) ⌝ }
 {
     let work = read_work(file);
     let dims = work.dims;
@@ -264,8 +266,8 @@ fn work_lists(
 ) -> Mended
     requires { ⌜ Good (now file) ⌝ }
     ensures { λ r. ⌜ outcome (mendedOf r) (listsOf (now (vertices .exit)) (now (triangles .exit)) (now (links .exit)) (now (slots .exit)))
-        ≡ workedOn (now (file .entry)) (sceneWith (now (file .entry)) (now (kinds .entry)) (now (covers .entry)) (now (cubes .entry))) (now (outer .entry))
-        (listsOf (now (vertices .entry)) (now (triangles .entry)) (now (links .entry)) (now (slots .entry))) ⌝ }
+        ≡ workedOn (now (file .entry)) (sceneWith (now (file .entry)) (now (kinds .entry)) (now (covers .entry)) (now (cubes .entry)))
+        (now (outer .entry)) (listsOf (now (vertices .entry)) (now (triangles .entry)) (now (links .entry)) (now (slots .entry))) ⌝ }
 {
     let meshed = mesh_lists(
         file,
@@ -320,9 +322,9 @@ fn answer_in_room(
     out: &mut [u8],
 ) -> usize
     requires { ⌜ Good (now file) × (length (now links) ≡ 128) × (1317 ≤ length (now out)) ⌝ }
-    ensures { λ r. ⌜ Wrote (linesOf (sceneWith (now (file .entry)) (now (kinds .entry)) (now (covers .entry)) (now (cubes .entry)))
-        (workedOn (now (file .entry)) (sceneWith (now (file .entry)) (now (kinds .entry)) (now (covers .entry)) (now (cubes .entry))) (now (outer .entry))
-        (listsOf (now (vertices .entry)) (now (triangles .entry)) (now (links .entry)) (now (slots .entry))))) 0 (now (out .entry)) (now (out .exit)) r ⌝ }
+    ensures { λ r. ⌜ Wrote (linesIn (now (file .entry)) (now (outer .entry)) (now (kinds .entry)) (now (covers .entry)) (now (cubes .entry))
+        (listsOf (now (vertices .entry)) (now (triangles .entry)) (now (links .entry)) (now (slots .entry)))) 0
+        (now (out .entry)) (now (out .exit)) r ⌝ }
 {
     let told = work_lists(
         file,
@@ -348,9 +350,8 @@ fn answer_typed(
     out: &mut [u8],
 ) -> usize
     requires { ⌜ Good (now file) × (1317 ≤ length (now out)) ⌝ }
-    ensures { λ r. ⌜ Wrote (linesOf (sceneWith (now (file .entry)) (now (kinds .entry)) (now (covers .entry)) (now (cubes .entry)))
-        (workedOn (now (file .entry)) (sceneWith (now (file .entry)) (now (kinds .entry)) (now (covers .entry)) (now (cubes .entry))) (now (outer .entry))
-        (roomIn (now (file .entry))))) 0 (now (out .entry)) (now (out .exit)) r ⌝ }
+    ensures { λ r. ⌜ Wrote (linesIn (now (file .entry)) (now (outer .entry)) (now (kinds .entry)) (now (covers .entry)) (now (cubes .entry))
+        (roomIn (now (file .entry)))) 0 (now (out .entry)) (now (out .exit)) r ⌝ }
 {
     let mut vertices = empty_room();
     let mut triangles = empty_room();

@@ -1,8 +1,6 @@
 -- `chunk::answer_file` meets its contract. Assumes nothing.
-use mathlib.Core.Path.{_≡_, sym, ap, _∙_}
-use mathlib.Core.Bool.{Bool, true, false}
+use mathlib.Core.Path.{sym, _∙_}
 use native.Mathlib.Omega.{arith}
-use denote.Ref.{now}
 use Rattle.workfile.proofs.Files.{good}
 use Rattle.workfile.proofs.Writing.{wrote-as}
 use Rattle.workfile.proofs.Lining.{refused-room}

@@ -1,11 +1,10 @@
 -- `chunk::answer_in_room` meets its contract. Assumes nothing.
-use mathlib.Core.Path.{_≡_}
 use native.Mathlib.Omega.{arith}
 use denote.Ref.{now}
 use Rattle.workfile.proofs.Writing.{wrote-as}
 use Rattle.admit.specs.Scenes.{listsOf}
 use Rattle.exports.specs.Answers.{mendedOf}
-use Rattle.chunk.specs.Steps.{sceneWith, Shown}
+use Rattle.chunk.specs.Steps.{sceneWith}
 use Rattle.chunk.proofs.Printing.{worked-shown, worked-lines}
 use borrow.Author.Needs.{needs}
 use Rattle.chunk.proofs.answer_in_room.Statement.{statement}

@@ -10,7 +10,6 @@ use Rattle.workfile.proofs.Files.{types-are}
 use Rattle.exports.specs.Answers.{toldOf}
 use Rattle.chunk.proofs.Rooms.{registry-few}
 use Rattle.chunk.proofs.Cubing.{Building, building-none, building-all, stretch-inside, turn-stop, turn-more}
-use borrow.Author.Needs.{needs}
 use Rattle.chunk.proofs.build_cubes.Statement.{statement}
 use Rattle.chunk.proofs.build_cubes.Tie as tie
 
