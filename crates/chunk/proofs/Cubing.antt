@@ -11,7 +11,8 @@ use borrow.Rule.Slice.PartMut.{midOf, postOf, putMid, same-len-mid}
 use Rattle.rules.specs.Cube.{Shape, floatsOf, cubeWords}
 use Rattle.rules.specs.Answers.{Verdict, fine, refuse}
 use Rattle.rules.specs.Calls.{Answer, refused, CubeOutcome, cubeVerdict, cubeBy, generateVoxelMesh}
-use Rattle.rules.specs.Program.{typeCount, colouredIn, shapeIn, cubeRoom, cubeIn, Built, stopped, built, buildOne, buildFrom, sceneIn, worked, refusedLine, linesOf, builtLines}
+use Rattle.rules.specs.Program.{typeCount, colouredIn, shapeIn, cubeRoom, cubeIn, Built, stopped}
+use Rattle.rules.specs.Program.{built, buildOne, buildFrom, sceneIn, worked, refusedLine, linesOf, builtLines}
 use Rattle.rules.proofs.Refusals.{Within, CUBE, cube-numbers, zero-fine}
 use Rattle.voxel_mesh.specs.Outcome.{verdictIn}
 use Rattle.exports.specs.Answers.{cubeOut}

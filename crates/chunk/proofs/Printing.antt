@@ -15,7 +15,8 @@ use Rattle.rules.specs.Types.{floats}
 use Rattle.rules.specs.Mesh.{Quad, Lists, decode, layout}
 use Rattle.rules.specs.Update.{source, Course, entryAt, work, blank}
 use Rattle.rules.specs.Answers.{Verdict, fine, refuse, BAD-SIZE, BAD-GRID, BAD-OUTER, BAD-CELL, SHORT-SLOTS, BAD-COUNT, BAD-ENTRY, NO-ROOM}
-use Rattle.rules.specs.Calls.{Answer, answered, refused, Scene, Outcome, world, span, faces, room, typesVerdict, freshMesh, meshVerdict, meshBy, meshGrid, lentVerdict, bookVerdict, updateVerdict, course, courseAnswer, updateBy, updateMesh}
+use Rattle.rules.specs.Calls.{Answer, answered, refused, Scene, Outcome, world, span, faces, room, typesVerdict}
+use Rattle.rules.specs.Calls.{freshMesh, meshVerdict, meshBy, meshGrid, lentVerdict, bookVerdict, updateVerdict, course, courseAnswer, updateBy, updateMesh}
 use Rattle.rules.specs.Program as rules
 use Rattle.rules.specs.Program.{word, gridIn, logIn, updateAfter, meshLines, refusedLine, linesOf, badFile, typeCount, buildFrom, builtLines, printed}
 use Rattle.rules.proofs.ListLaws.{all-at, all-of}

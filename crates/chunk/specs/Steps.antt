@@ -5,7 +5,8 @@ use lib.Dec.{eqb}
 use lib.ListN.{length, take, replicate}
 use Rattle.rules.specs.Mesh.{Lists}
 use Rattle.rules.specs.Calls.{Answer, answered, Scene, Outcome, meshGrid}
-use Rattle.rules.specs.Program.{word, sizeIn, tripleIn, colouredIn, gridIn, logIn, Built, stopped, built, updateAfter, meshLines, refusedLine, linesOf}
+use Rattle.rules.specs.Program.{word, sizeIn, tripleIn, colouredIn, gridIn, logIn, updateAfter, meshLines, refusedLine, linesOf}
+use Rattle.rules.specs.Program.{Built, stopped, built}
 use Rattle.workfile.specs.Written.{Room, OfFaces, quadsOf}
 
 -- what the file says, with types as they are lent

@@ -3,6 +3,7 @@ use mathlib.Core.Path.{sym, ap, _∙_}
 use Prim.Native.Nat.{_≤_}
 use native.Mathlib.Omega.{arith}
 use denote.Ref.{now}
+use lib.ListN.{length}
 use lib.Seq.{length-take-le}
 use Rattle.rules.specs.Program.{typeCount, typeByte, roomIn, linesOf}
 use Rattle.workfile.specs.declared.Work.{Work}
@@ -17,7 +18,13 @@ use Rattle.chunk.proofs.answer_built.Statement.{statement}
 use Rattle.chunk.proofs.answer_built.Tie as tie
 
 few-types : (c : tie.After-read-work) → c .read-work .result .types ≤ 8
-few-types c = omega (arith, types-are _ (c .before .before .before .before .pre .0) (c .read-work .ensures), c .before .before .before .before .pre .0 .types)
+few-types c = let s = c .before .before .before .before in omega (arith, types-are _ (s .pre .0) (c .read-work .ensures), s .pre .0 .types)
+
+few-kinds : (c : tie.After-kinds-of) → c .before .before .read-work .result .types ≤ length (c .kinds-of .last .1 .0)
+few-kinds c = omega (arith, few-types (c .before .before), c .kinds-of .kept .1 .0)
+
+few-covers : (c : tie.After-covers-of) → c .before .before .before .before .before .read-work .result .types ≤ length (c .covers-of .last .1 .0)
+few-covers c = omega (arith, few-types (c .before .before .before .before .before), c .covers-of .kept .1 .0)
 
 read-work-requires : tie.Need-read-work-requires
 read-work-requires c κs = search needs
@@ -44,19 +51,20 @@ array-share-prefix-outer : tie.Need-array-share-prefix-outer
 array-share-prefix-outer c = end-inside (c .before .outer-of .ensures) (faces-room _ 6 _ (omega arith) (omega arith))
 
 slice-aggregate-answer-typed : tie.Need-slice-aggregate-answer-typed
-slice-aggregate-answer-typed c = sym (length-take-le _ _ (end-inside (c .before .before .outer-of .ensures) (faces-room _ 6 _ (omega arith) (omega arith))))
+slice-aggregate-answer-typed c =
+    let w = c .before .before .outer-of .ensures in sym (length-take-le _ _ (end-inside w (faces-room _ 6 _ (omega arith) (omega arith))))
 
 array-share-prefix-kinds : tie.Need-array-share-prefix-kinds
-array-share-prefix-kinds c = let made = c .before .before .before .before .before .before .before .before in omega (arith, few-types (made .before .before), made .kinds-of .kept .1 .0)
+array-share-prefix-kinds c = few-kinds (c .before .before .before .before .before .before .before .before)
 
 slice-aggregate-answer-typed-2 : tie.Need-slice-aggregate-answer-typed-2
-slice-aggregate-answer-typed-2 c = let made = c .before .before .before .before .before .before .before .before .before in sym (length-take-le _ _ (omega (arith, few-types (made .before .before), made .kinds-of .kept .1 .0)))
+slice-aggregate-answer-typed-2 c = sym (length-take-le _ _ (few-kinds (c .before .before .before .before .before .before .before .before .before)))
 
 array-share-prefix-covers : tie.Need-array-share-prefix-covers
-array-share-prefix-covers c = let made = c .before .before .before .before .before .before in omega (arith, few-types (made .before .before .before .before .before), made .covers-of .kept .1 .0)
+array-share-prefix-covers c = few-covers (c .before .before .before .before .before .before)
 
 slice-aggregate-answer-typed-3 : tie.Need-slice-aggregate-answer-typed-3
-slice-aggregate-answer-typed-3 c = let made = c .before .before .before .before .before .before .before in sym (length-take-le _ _ (omega (arith, few-types (made .before .before .before .before .before), made .covers-of .kept .1 .0)))
+slice-aggregate-answer-typed-3 c = sym (length-take-le _ _ (few-covers (c .before .before .before .before .before .before .before)))
 
 answer-typed-requires : tie.Need-answer-typed-requires
 answer-typed-requires c κs = search needs

@@ -16,13 +16,15 @@ write-refused-requires : tie.Need-write-refused-requires
 write-refused-requires c κs = refused-room _ _ (omega arith) (omega arith) (omega arith)
 
 returns : tie.Need-returns
-returns c = wrote-as (bad-printed _ (sym (c .before .before .before .is-bad-file .ensures) ∙ c .before .before .if1 .taken)) (c .write-refused .ensures)
+returns c =
+    let test = c .before .before in wrote-as (bad-printed _ (sym (test .before .is-bad-file .ensures) ∙ test .if1 .taken)) (c .write-refused .ensures)
 
 answer-good-requires : tie.Need-answer-good-requires
 answer-good-requires c κs = (good _ (sym (c .before .before .is-bad-file .ensures) ∙ c .before .if1 .left), omega arith)
 
 returns-2 : tie.Need-returns-2
-returns-2 c = wrote-as (good-printed _ (sym (c .before .before .before .is-bad-file .ensures) ∙ c .before .before .if1 .left)) (c .answer-good .ensures)
+returns-2 c =
+    let test = c .before .before in wrote-as (good-printed _ (sym (test .before .is-bad-file .ensures) ∙ test .if1 .left)) (c .answer-good .ensures)
 
 pub answer-file-spec : {M : Type 1} → statement M
 answer-file-spec =

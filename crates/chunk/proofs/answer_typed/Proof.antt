@@ -34,7 +34,8 @@ array-borrow-prefix-vertices : tie.Need-array-borrow-prefix-vertices
 array-borrow-prefix-vertices c = search needs
 
 slice-aggregate-answer-in-room : tie.Need-slice-aggregate-answer-in-room
-slice-aggregate-answer-in-room c = room-lent (c .before .before .before .before .before .before .empty-room .ensures) _ (c .before .before .vertex-words .ensures .1)
+slice-aggregate-answer-in-room c =
+    let words = c .before .before in room-lent (words .before .before .before .before .empty-room .ensures) _ (words .vertex-words .ensures .1)
 
 array-borrow-prefix-triangles : tie.Need-array-borrow-prefix-triangles
 array-borrow-prefix-triangles c = search needs
@@ -52,7 +53,8 @@ array-borrow-prefix-slots : tie.Need-array-borrow-prefix-slots
 array-borrow-prefix-slots c = search needs
 
 slice-aggregate-answer-in-room-4 : tie.Need-slice-aggregate-answer-in-room-4
-slice-aggregate-answer-in-room-4 c = room-lent (c .before .before .before .before .before .before .empty-room4 .ensures) _ (omega (arith, c .before .before .before .before .slot-count .ensures .1))
+slice-aggregate-answer-in-room-4 c =
+    let six = c .before .before .before .before in room-lent (six .before .before .empty-room4 .ensures) _ (omega (arith, six .slot-count .ensures .1))
 
 answer-in-room-requires : tie.Need-answer-in-room-requires
 answer-in-room-requires c κs =

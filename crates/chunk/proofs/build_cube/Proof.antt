@@ -1,5 +1,6 @@
 -- `chunk::build_cube` meets its contract. Assumes nothing.
 use mathlib.Core.Path.{ap, _∙_}
+use native.Mathlib.Omega.{arith}
 use denote.Ref.{now}
 use Rattle.rules.specs.Cube.{Shape}
 use Rattle.rules.specs.Calls.{generateVoxelMesh}
@@ -15,7 +16,7 @@ slice-aggregate-texture-of : tie.Need-slice-aggregate-texture-of
 slice-aggregate-texture-of c = search needs
 
 texture-of-requires : tie.Need-texture-of-requires
-texture-of-requires c κs = search needs
+texture-of-requires c κs = let s = c .before .before .before .before .before .before in (s .pre .0, omega (arith, s .pre .1), search needs)
 
 slice-aggregate-meshem-generate-voxel-mesh : tie.Need-slice-aggregate-meshem-generate-voxel-mesh
 slice-aggregate-meshem-generate-voxel-mesh c = search needs

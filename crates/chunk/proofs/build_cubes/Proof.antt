@@ -19,7 +19,8 @@ Inv-loop file registry₀ types words t₀ registry t = Building file t registry
 abbrev μ-loop : tie.MeasureT-loop
 μ-loop file registry₀ types words t₀ registry t = types - t
 
-types-in : (c : tie.At-loop Inv-loop μ-loop) → c .before .before .read-work .result .types ≡ typeCount (now (c .before .before .before .before .before .args .file))
+types-in : (c : tie.At-loop Inv-loop μ-loop)
+    → let read = c .before .before in read .read-work .result .types ≡ typeCount (now (read .before .before .before .args .file))
 types-in c = types-are _ (c .before .before .before .before .before .pre .0) (c .before .before .read-work .ensures)
 
 more : (c : tie.In-loop Inv-loop μ-loop) → c .before .loop .t < typeCount (now (c .before .before .before .before .before .before .args .file))
@@ -81,7 +82,8 @@ returns c =
     (words .result) (words .ensures) (told .build-cube .ensures, told .build-cube .kept .1 .1 .0) _ (c .if1 .taken)
 
 add-t : tie.Need-add-t Inv-loop μ-loop
-add-t c = let turn = c .before .before .before .before .before .before in omega (arith, more turn, turn .before .before .before .before .before .before .pre .0 .types)
+add-t c =
+    let turn = c .before .before .before .before .before .before in omega (arith, more turn, turn .before .before .before .before .before .before .pre .0 .types)
 
 loop-less : tie.Need-loop-less Inv-loop μ-loop
 loop-less c = omega (arith, c .before .before .before .before .before .before .loop-test .taken)

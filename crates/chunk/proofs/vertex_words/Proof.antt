@@ -19,7 +19,9 @@ mul-result : tie.Need-mul-result
 mul-result c = omega (arith, c .floats-of .ensures, few-floats (c .before .read-work .result .coloured))
 
 returns : tie.Need-returns
-returns c = vertices-are (now (c .before .before .before .args .file)) (c .floats-of .ensures ∙ ap (λ (w : Work). floatsOf (w .coloured)) (c .before .read-work .ensures))
+returns c =
+    let read = c .before in
+    vertices-are (now (read .before .before .args .file)) (c .floats-of .ensures ∙ ap (λ (w : Work). floatsOf (w .coloured)) (read .read-work .ensures))
 
 pub vertex-words-spec : {M : Type 1} → statement M
 vertex-words-spec = tie.close (tie.spec read-work-requires floats-of-requires mul-result returns)

@@ -19,22 +19,28 @@ same-length c = search needs
 
 returns : tie.Need-returns
 returns c =
-    let a = c .before .before .before .before .before .before .before .before .args in
-    wrote-as (refused-lines (mendedOf (a .told)) (now (a .links)) (c .before .before .before .before .if1 .taken)) (c .before .before .write-refused .ensures)
+    let wrote = c .before .before in
+    let test = wrote .before .before in
+    let a = test .before .before .before .before .args in
+    wrote-as (refused-lines (mendedOf (a .told)) (now (a .links)) (test .if1 .taken)) (wrote .write-refused .ensures)
 
 slice-aggregate-write-lines : tie.Need-slice-aggregate-write-lines
-slice-aggregate-write-lines c = sym (length-take-le _ _ (c .before .before .before .before .before .pre .1 (c .before .if1 .left) .most))
+slice-aggregate-write-lines c =
+    let test = c .before in sym (length-take-le _ _ (test .before .before .before .before .pre .1 (test .if1 .left) .most))
 
 write-lines-requires : tie.Need-write-lines-requires
-write-lines-requires c κs = let shown = c .before .before .before .before .before .before .pre .1 (c .before .before .if1 .left) in (shown .faces, record { fits = shown .room .fits })
+write-lines-requires c κs =
+    let test = c .before .before in let shown = test .before .before .before .before .pre .1 (test .if1 .left) in (shown .faces, shown .room)
 
 same-length-2 : tie.Need-same-length-2
 same-length-2 c = search needs
 
 returns-2 : tie.Need-returns-2
 returns-2 c =
-    let a = c .before .before .before .before .before .before .before .before .before .args in
-    wrote-as (mesh-lines (mendedOf (a .told)) (now (a .links)) (c .before .before .before .before .before .if1 .left)) (c .before .before .write-lines .ensures)
+    let wrote = c .before .before in
+    let test = wrote .before .before .before in
+    let a = test .before .before .before .before .args in
+    wrote-as (mesh-lines (mendedOf (a .told)) (now (a .links)) (test .if1 .left)) (wrote .write-lines .ensures)
 
 pub write-answer-spec : {M : Type 1} → statement M
 write-answer-spec =
