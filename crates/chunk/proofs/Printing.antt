@@ -26,7 +26,6 @@ use Rattle.rules.proofs.Courses.{Sane, course-sane, fits-new}
 use Rattle.rules.proofs.Demands.{words-sized, limits, sound, room-for, lent-sane, entry-inside}
 use Rattle.rules.proofs.Refusals.{Within, UPDATE, update-numbers, zero-fine}
 use Rattle.workfile.specs.Written.{OfFaces, quadsOf}
-use Rattle.workfile.proofs.Files.{too-long}
 use Rattle.workfile.proofs.Writing.{room-as}
 use Rattle.workfile.proofs.Lining.{lines-decoded, lines-room}
 use Rattle.exports.specs.Answers.{outcome}
@@ -212,9 +211,3 @@ bad-printed file e = rw e
 pub good-printed : (file : List ℕ) → badFile file ≡ false → builtLines file (buildFrom file 0 (typeCount file) []) ≡ printed file
 unfolding printed
 good-printed file e = rw e
-
--- a file that is too long is known by its first 8,193 bytes
-pub cut-printed : (file : List ℕ) → 8192 < length file → printed (take 8193 file) ≡ printed file
-cut-printed file h =
-    let e = length-take-le 8193 file h in
-    sym (bad-printed (take 8193 file) (too-long (take 8193 file) (omega arith) (omega arith))) ∙ bad-printed file (too-long file (omega arith) h)

@@ -1,7 +1,7 @@
 -- `meshchunk::main` is safe: what it writes lies in its buffer. Assumes nothing.
 use mathlib.Core.Path.{sym}
 use lib.Seq.{length-take-le}
-use Rattle.chunk.proofs.Rooms.{wrote-inside}
+use Rattle.chunk.proofs.Answered.{answer-printed}
 use borrow.Author.Needs.{needs}
 use Rattle.meshchunk.proofs.main.Statement.{statement}
 use Rattle.meshchunk.proofs.main.Tie as tie
@@ -22,10 +22,10 @@ answer-file-requires : tie.Need-answer-file-requires
 answer-file-requires c κs = search needs
 
 array-share-prefix-out : tie.Need-array-share-prefix-out
-array-share-prefix-out c = wrote-inside (c .answer-file .ensures)
+array-share-prefix-out c = answer-printed _ (c .answer-file .ensures) .1
 
 slice-aggregate-write-all : tie.Need-slice-aggregate-write-all
-slice-aggregate-write-all c = sym (length-take-le _ _ (wrote-inside (c .before .answer-file .ensures)))
+slice-aggregate-write-all c = sym (length-take-le _ _ (answer-printed _ (c .before .answer-file .ensures) .1))
 
 write-all-requires : tie.Need-write-all-requires
 write-all-requires c κs = search needs
