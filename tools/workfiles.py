@@ -1,5 +1,6 @@
 #!/usr/bin/env python3
-"""Writes what the program workfile_run reads and must print: crates/workfile_run/stdin and stdout.
+"""Writes what the program workfile_run reads and must print: crates/workfile_run/stdin and stdout; and 01's worked example as a work
+file, which meshchunk reads: crates/meshchunk/stdin.
 
 A case is its kind and its length as u32, then its bytes. Kinds: 0 a file that is bad; 1 the length of a file that is good, the
 file, its grid and its log; 2 a number and its decimal; 3 a refusal's number and place, and its line; 4 a set, and its faces.
@@ -18,7 +19,7 @@ def type_bytes(kind, sides, tile=0):
 
 ONE = 0x3F800000
 NULL, CUBE = type_bytes(0, 0), type_bytes(1, 63)
-BROKEN = words(0) + bytes([1, 1, 255, 255, 1, 255, 255, 255])
+BROKEN = words(0) + bytes([0, 1, 255, 255, 1, 255, 255, 255])
 
 
 def trailer(types, grid, log, size, **other):
@@ -108,6 +109,8 @@ def main():
     with open("crates/workfile_run/stdin", "wb") as out:
         for kind, case in told:
             out.write(words(kind, len(case)) + case)
+    with open("crates/meshchunk/stdin", "wb") as out:
+        out.write(File().text)
     # and the worked example, which the program holds
     with open("crates/workfile_run/stdout", "w") as out:
         out.write("cases %d right %d\n" % (len(told) + 1, len(told) + 1))
