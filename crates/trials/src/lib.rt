@@ -11,6 +11,7 @@
 // patch the base before the call (18); then outer list and log, four bytes a word, each from a word's start; these patches; and up to the
 // record's end the patches that make of it what must be there after the call.
 // A patch: a place in the base's record, how many words, and the words. So any word of scene, types, grid and mesh can be another one.
+// A trial that does not keep this form is wrong.
 use admit::Scene;
 use answers::Verdict;
 use checking::check_mesh;
@@ -228,6 +229,63 @@ fn patch(patches: &[u32], image: &mut [u32]) {
         copy(&patches[start..end], &mut image[place..]);
         at = end;
     }
+}
+
+// Whether as many words as a patch says are there, and lie within what it patches.
+fn is_whole_patch(place: u32, count: u32, there: usize, room: usize) -> bool {
+    (size(count) == there) & (size(place) + size(count) <= room)
+}
+
+fn are_whole_patches(patches: &[u32], room: usize) -> bool {
+    let mut at: usize = 0;
+    while at + 1 < patches.len() {
+        let start = at + 2;
+        let end = end_after(patches, start, at + 1);
+        if !is_whole_patch(patches[at], patches[at + 1], end - start, room) {
+            return false;
+        }
+        at = end;
+    }
+    at == patches.len()
+}
+
+fn is_lent_whole(trial: &[u32], base: &[u32]) -> bool
+    requires { ⌜ (19 ≤ length (now trial)) × (19 ≤ length (now base)) ⌝ }
+{
+    (trial[4] <= base[11])
+        & (trial[5] <= base[12])
+        & (trial[6] <= base[13])
+        & (trial[7] <= base[14])
+        & (trial[8] <= base[15])
+        & (trial[9] <= base[16])
+        & (trial[10] <= base[17])
+        & (trial[11] <= base[18])
+}
+
+// Whether the trial is all there: no list is cut short.
+fn is_whole(trial: &[u32]) -> bool
+    requires { ⌜ 19 ≤ length (now trial) ⌝ }
+{
+    let s = starts_of(trial);
+    (trial[0] == 1)
+        & (trial[1] < 4)
+        & (trial[2] < 2)
+        & (s.log - HEAD == words_for(trial[12]))
+        & (s.before - s.log == words_for(trial[13]))
+        & (s.after - s.before == size(trial[18]))
+}
+
+// Whether a trial keeps the form that stands at the head of this file.
+fn is_formed(trial: &[u32], base: &[u32]) -> bool
+    requires { ⌜ (19 ≤ length (now trial)) × (19 ≤ length (now base)) ⌝ }
+{
+    let s = starts_of(trial);
+    let before = s.before;
+    let after = s.after;
+    is_whole(trial)
+        & is_lent_whole(trial, base)
+        & are_whole_patches(&trial[before..after], base.len())
+        & are_whole_patches(&trial[after..], base.len())
 }
 
 fn start(goes_on: bool, base: &[u32], image: &mut [u32]) {
@@ -575,12 +633,15 @@ fn is_right(
     links: &mut [u32],
     slots: &mut [u32],
 ) -> bool
-    requires { ⌜ (length (now bytes) ≡ 4 * length (now trial)) × (length (now low) ≡ length (now image)) ⌝ }
+    requires { ⌜ (length (now bytes) ≡ 4 * length (now trial)) × (length (now image) ≡ length (now base)) × (length (now low) ≡ length (now image)) ⌝ }
 {
     if trial.len() < HEAD {
         return false;
     }
-    if image.len() < HEAD {
+    if base.len() < HEAD {
+        return false;
+    }
+    if !is_formed(trial, base) {
         return false;
     }
     prepare(trial, base, image, low);
