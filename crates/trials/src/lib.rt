@@ -10,8 +10,9 @@
 // (12, 13); what must be answered, which is number, place, quads, moved, each 0 where the answer has none (14 to 17); the number of words that
 // patch the base before the call (18); then outer list and log, four bytes a word, each from a word's start; these patches; and up to the
 // record's end the patches that make of it what must be there after the call.
-// A patch: a place in the base's record, how many words, and the words. So any word of scene, types, grid and mesh can be another one.
-// A trial that does not keep this form is wrong.
+// A patch: a place in the base's record, how many words, and the words. So any word of scene, types, grid and mesh can be another one;
+// the lengths can't.
+// A trial is wrong if it or its base does not keep this form.
 use admit::Scene;
 use answers::Verdict;
 use checking::check_mesh;
@@ -35,6 +36,9 @@ ghost use lib.ListN.{length};
 
 // How many words come before the lists, in a base as in a trial.
 const HEAD: usize = 19;
+
+// Where the lengths of a base's lists start.
+const LENGTHS: usize = 11;
 
 // Where each list of a base ends.
 struct Ends {
@@ -231,9 +235,13 @@ fn patch(patches: &[u32], image: &mut [u32]) {
     }
 }
 
-// Whether as many words as a patch says are there, and lie within what it patches.
+// Whether as many words as a patch says are there, and lie within what it patches, in the scene or the lists.
 fn is_whole_patch(place: u32, count: u32, there: usize, room: usize) -> bool {
-    (size(count) == there) & (size(place) + size(count) <= room)
+    let end = size(place) + size(count);
+    (size(count) == there)
+        & (end <= room)
+        & (0 < place)
+        & ((end <= LENGTHS) | (HEAD <= size(place)))
 }
 
 fn are_whole_patches(patches: &[u32], room: usize) -> bool {
@@ -262,6 +270,23 @@ fn is_lent_whole(trial: &[u32], base: &[u32]) -> bool
         & (trial[11] <= base[18])
 }
 
+// Whether the lists fill the base, and none is cut short.
+fn is_whole_base(base: &[u32]) -> bool
+    requires { ⌜ 19 ≤ length (now base) ⌝ }
+{
+    let mut rest = base.len() - HEAD;
+    let mut field = LENGTHS;
+    while field < HEAD {
+        let n = size(base[field]);
+        if rest < n {
+            return false;
+        }
+        rest -= n;
+        field += 1;
+    }
+    rest == 0
+}
+
 // Whether the trial is all there: no list is cut short.
 fn is_whole(trial: &[u32]) -> bool
     requires { ⌜ 19 ≤ length (now trial) ⌝ }
@@ -275,7 +300,7 @@ fn is_whole(trial: &[u32]) -> bool
         & (s.after - s.before == size(trial[18]))
 }
 
-// Whether a trial keeps the form that stands at the head of this file.
+// Whether a trial and its base keep the form that stands at the head of this file.
 fn is_formed(trial: &[u32], base: &[u32]) -> bool
     requires { ⌜ (19 ≤ length (now trial)) × (19 ≤ length (now base)) ⌝ }
 {
@@ -283,6 +308,7 @@ fn is_formed(trial: &[u32], base: &[u32]) -> bool
     let before = s.before;
     let after = s.after;
     is_whole(trial)
+        & is_whole_base(base)
         & is_lent_whole(trial, base)
         & are_whole_patches(&trial[before..after], base.len())
         & are_whole_patches(&trial[after..], base.len())
