@@ -130,7 +130,8 @@ at = next(k for k in range(48) if kept("vertices", k) == 0)
 assert damage(10, "vertices", at, (NEG,)) == {(16, 0)} and damage(10, "vertices", 8, (NAN | 1, INF)) == {(16, 0)}
 
 # ---- faces missing, faces too many, quads in another order: meshes whose index is whole
-MIXED = call(dims=[2, 2, 2], grid=[1, 0, 2, 3, 1, 1, 4, 2], kinds=[0, 1, 1, 0, 2], covers=[0, 63, 21, 63, 42], cubes=JUNK + UNIT + cube(shape(atlas=[2, 2])) + JUNK * 2)
+MIXED = call(dims=[2, 2, 2], grid=[1, 0, 2, 3, 1, 1, 4, 2], kinds=[0, 1, 1, 0, 2], covers=[0, 63, 21, 63, 42],
+             cubes=JUNK + UNIT + cube(shape(atlas=[2, 2])) + JUNK * 2)
 count = base(MIXED)
 assert check(count) == (0, 0)
 drawn = {6 * cell + face for cell, _, face in faces(MIXED)}
@@ -158,8 +159,8 @@ for turn in range(12):
     assert check(count, before=before + [(trials.at("vertices", 32 * q + rng.randrange(32)), 0x12345678)]) == (16, q)
     assert check(count, before=before + [(trials.at("triangles", 6 * q), 4 * q + 1)]) == (12, q)
     a, b = sorted(rng.sample(range(count), 2))
-    kinds_swapped = [(trials.at("links", a), fresh[2][order[b]]), (trials.at("links", b), fresh[2][order[a]])]
-    assert check(count, before=before + kinds_swapped) == (11, a)
+    swapped = [(trials.at("links", a), fresh[2][order[b]]), (trials.at("links", b), fresh[2][order[a]])]
+    assert check(count, before=before + swapped) == (11, a)
 for place, name in [(k, "links") for k in range(count)] + [(k, "slots") for k in range(48)]:
     assert {number for number, _ in damage(count, name, place, (kept(name, place) ^ 1, kept(name, place) ^ 4, NONE, 0))} == {11}
 for cell in range(8):

@@ -167,7 +167,6 @@ assert {place for place, _ in places} == {0, 1, 2, 3, 4} and {change for _, chan
 for turn in range(10):
     dims = [rng.choice((1, 2, 3)) for _ in range(3)]
     m = call(dims=dims, grid=[rng.randint(0, 6) for _ in range(dims[0] * dims[1] * dims[2])], **some_types(turn % 2 == 1))
-    m["cubes"] = list(m["cubes"])
     count = base(m, 20)
     for length in (1, 2, 3, 5, 8, 13):
         assert add(UPDATE, count, some_log(rng, m, length), **(fit(m, count + 3) if length == 3 else {}))[0] in (0, 14)
@@ -176,8 +175,8 @@ for turn in range(10):
 # ---- long honest logs, in one call and in many, then the check
 for coloured in (False, True):
     cubes = [cube(shape(coloured=coloured, d=f(0.5, 1.1, 3), centre=f(0.1, 0.2, -0.3), colour=k, alpha=INF)) for k in range(4)]
-    m = call(dims=[3, 2, 4], grid=[rng.choice((0, 1, 2, 3)) for _ in range(24)], kinds=[1, 0, 1, 1], covers=[63, 0, 0b110011, 0b000011], coloured=coloured,
-             d=f(0.5, 1.1, 3), centre=f(0.1, 0.2, -0.3), cubes=sum(cubes, []))
+    m = call(dims=[3, 2, 4], grid=[rng.choice((0, 1, 2, 3)) for _ in range(24)], kinds=[1, 0, 1, 1], covers=[63, 0, 0b110011, 0b000011],
+             coloured=coloured, d=f(0.5, 1.1, 3), centre=f(0.1, 0.2, -0.3), cubes=sum(cubes, []))
     count = base(m, 60)
     for turn in range(3):
         grid = list(m["grid"])
@@ -188,15 +187,14 @@ for coloured in (False, True):
     for turn in range(12):
         told = add(UPDATE, told[2], some_log(rng, m, 1 + 2 * turn, grid), goes_on=True)
         assert told[0] == 0 and check_goes_on(grid)[0] == 0
-    wrong = list(grid)
-    wrong[7] = 1 if grid[7] != 1 else 2
-    assert add(CHECK, told[2], goes_on=True, before=[(trials.at("grid", 7), wrong[7])])[0] == 15
+    grid[7] = 1 if grid[7] != 1 else 2
+    assert add(CHECK, told[2], goes_on=True, before=[(trials.at("grid", 7), grid[7])])[0] == 15
 
 # ---- refusals: each, and each two; the log would change everything
 base(PAIR, 3)
 LOG = BREAK + BUILD + entry(1, CULL_FACES, 1, 1, 1, 1, 1, 1, 1)
 BAD = entry(2, BROKEN, 1, *ALONE)
-V, T, L, S = (trials.at(name) for name in ("vertices", "triangles", "links", "slots"))
+T, L, S = (trials.at(name) for name in ("triangles", "links", "slots"))
 K, C, R = (trials.at(name) for name in ("kinds", "covers", "cubes"))
 FAULTS = [
     (2, 0, [(3, 1025)], {}), (3, 1, [(C + 1, 64)], {}), (4, 0, [(9, NAN)], {}), (6, 1, [(R + 193, 0)], {}), (9, 0, [], dict(slots=11)),

@@ -7,7 +7,7 @@ The record format stands at the head of crates/trials/src/lib.rt.
 import struct
 
 import mesh_vectors
-from cube_vectors import op, types_answer
+from cube_vectors import types_answer
 from mesh_vectors import NONE, STEPS, faces, floats, mesh
 
 NAIVE, CULLING, UPDATE, CHECK = range(4)

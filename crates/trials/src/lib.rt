@@ -695,6 +695,7 @@ fn take_record(
     let count = tally.count;
     if given[0] == 0 {
         copy(given, base);
+        copy(given, image);
         return Tally {
             kept: given.len(),
             count,

@@ -2,7 +2,6 @@
 use Prim.Native.Nat.{_≤_, _-_}
 use lib.ListN.{length}
 use borrow.Author.Needs.{needs}
-use native.Mathlib.Omega.{arith}
 use Rattle.trials.proofs.are_whole_patches.Statement.{statement}
 use Rattle.trials.proofs.are_whole_patches.Tie as tie
 

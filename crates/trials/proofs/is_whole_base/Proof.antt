@@ -1,7 +1,6 @@
 -- `trials::is_whole_base` meets its contract. Assumes nothing.
 use Prim.Native.Nat.{_≤_, _-_}
 use borrow.Author.Needs.{needs}
-use native.Mathlib.Omega.{arith}
 use Rattle.trials.proofs.is_whole_base.Statement.{statement}
 use Rattle.trials.proofs.is_whole_base.Tie as tie
 

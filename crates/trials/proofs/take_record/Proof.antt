@@ -3,7 +3,6 @@ use mathlib.Core.Path.{sym}
 use lib.ListN.{length-take}
 use lib.Seq.{length-take-le}
 use borrow.Author.Needs.{needs}
-use native.Mathlib.Omega.{arith}
 use Rattle.trials.proofs.take_record.Statement.{statement}
 use Rattle.trials.proofs.take_record.Tie as tie
 
@@ -13,8 +12,14 @@ shared-slice-read-if1 c = search needs
 copy-requires : tie.Need-copy-requires
 copy-requires c κs = search needs
 
+copy-requires-2 : tie.Need-copy-requires-2
+copy-requires-2 c κs = search needs
+
 same-length : tie.Need-same-length
 same-length c = search needs
+
+same-length-2 : tie.Need-same-length-2
+same-length-2 c = search needs
 
 returns : tie.Need-returns
 returns c = search needs
@@ -43,9 +48,6 @@ is-right-requires c κs = simp length-take (search needs)
 and-requires : tie.Need-and-requires
 and-requires c κs = search needs
 
-same-length-2 : tie.Need-same-length-2
-same-length-2 c = search needs
-
 same-length-3 : tie.Need-same-length-3
 same-length-3 c = search needs
 
@@ -64,6 +66,9 @@ same-length-7 c = search needs
 same-length-8 : tie.Need-same-length-8
 same-length-8 c = search needs
 
+same-length-9 : tie.Need-same-length-9
+same-length-9 c = search needs
+
 returns-2 : tie.Need-returns-2
 returns-2 c = search needs
 
@@ -73,7 +78,9 @@ take-record-spec =
     (tie.spec
     shared-slice-read-if1
     copy-requires
+    copy-requires-2
     same-length
+    same-length-2
     returns
     slice-reshare-prefix-is-right
     slice-aggregate-is-right
@@ -83,11 +90,11 @@ take-record-spec =
     slice-aggregate-is-right-3
     is-right-requires
     and-requires
-    same-length-2
     same-length-3
     same-length-4
     same-length-5
     same-length-6
     same-length-7
     same-length-8
+    same-length-9
     returns-2)
