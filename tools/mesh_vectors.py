@@ -65,15 +65,22 @@ def answer(m):
     return (14, 0) if len(faces(m)) > room else (0, 0)
 
 
+def quad(m, code, at, face):
+    """The words of a quad's four vertices, drawn from a type's cube."""
+    n = floats(m)
+    words = []
+    for v in (4 * face, 4 * face + 1, 4 * face + 3, 4 * face + 2):
+        start = n * (24 * code + v)
+        vertex = m["cubes"][start:start + n]
+        words += [op("+", vertex[k], op("*", bits(float(at[k])), m["d"][k])) for k in range(3)] + vertex[3:]
+    return words
+
+
 def mesh(m):
     """The words of vertices, triangles, links and slots."""
-    n = floats(m)
     vertices, triangles, links, slots = [], [], [], [NONE] * (6 * len(m["grid"]))
     for q, (cell, at, face) in enumerate(faces(m)):
-        for v in (4 * face, 4 * face + 1, 4 * face + 3, 4 * face + 2):
-            start = n * (24 * m["grid"][cell] + v)
-            vertex = m["cubes"][start:start + n]
-            vertices += [op("+", vertex[k], op("*", bits(float(at[k])), m["d"][k])) for k in range(3)] + vertex[3:]
+        vertices += quad(m, m["grid"][cell], at, face)
         triangles += [4 * q + k for k in (0, 1, 2, 3, 2, 1)]
         links.append(cell | 5 - face << 29)
         slots[6 * cell + face] = 4 * q

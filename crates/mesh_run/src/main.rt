@@ -1,15 +1,17 @@
 // Runs the vectors that tools/mesh_vectors.py wrote: calls of mesh_grid, each held to its answer and to all words of the lent lists.
-use admit::Scene;
 use answers::Verdict;
+use answers::is_refusal;
 use checking::check_mesh;
-use floats::Triple;
-use meshem::Meshed;
-use meshem::MeshingAlgorithm;
 use meshem::mesh_grid;
-use util::Dimensions;
+use trials::Told;
+use trials::algorithm_of;
+use trials::scene_at;
+use trials::told_by_mesh;
 use vectors::Count;
 use vectors::empty;
+use vectors::end_after;
 use vectors::holds;
+use vectors::least;
 use vectors::narrow;
 use vectors::read_record;
 use vectors::say;
@@ -34,26 +36,6 @@ struct Ends {
     triangles: usize,
     links: usize,
     slots: usize,
-}
-
-struct Told {
-    number: u32,
-    place: usize,
-    quads: usize,
-}
-
-fn least(a: usize, b: usize) -> usize
-    ensures { λ r. ⌜ (r ≤ a) × (r ≤ b) ⌝ }
-{
-    if a <= b { a } else { b }
-}
-
-// The end of a list whose length is given: a record that is too short cuts it.
-fn end_after(r: &[u32], start: usize, field: usize) -> usize
-    requires { ⌜ (start ≤ length (now r)) × (field + 1 ≤ length (now r)) ⌝ }
-    ensures { λ e. ⌜ (start ≤ e) × (e ≤ length (now (r .entry))) ⌝ }
-{
-    start + least(size(r[field]), r.len() - start)
 }
 
 fn ends_of(r: &[u32]) -> Ends
@@ -81,61 +63,6 @@ fn ends_of(r: &[u32]) -> Ends
         triangles,
         links,
         slots,
-    }
-}
-
-fn triple_at(r: &[u32], at: usize) -> Triple
-    requires { ⌜ at + 3 ≤ length (now r) ⌝ }
-{
-    Triple {
-        x: r[at],
-        y: r[at + 1],
-        z: r[at + 2],
-    }
-}
-
-fn scene_in(r: &[u32]) -> Scene
-    requires { ⌜ 28 ≤ length (now r) ⌝ }
-{
-    Scene {
-        dims: Dimensions {
-            width: r[0],
-            height: r[1],
-            length: r[2],
-        },
-        coloured: r[3] == 1,
-        d: triple_at(r, 4),
-        centre: triple_at(r, 7),
-    }
-}
-
-fn algorithm_of(word: u32) -> MeshingAlgorithm {
-    if word == 1 {
-        MeshingAlgorithm::Culling
-    } else {
-        MeshingAlgorithm::Naive
-    }
-}
-
-fn told_by(answer: Meshed) -> Told {
-    match answer {
-        Meshed::Done(quads) => Told {
-            number: 0,
-            place: 0,
-            quads,
-        },
-        Meshed::Refused(why, place) => Told {
-            number: why.number(),
-            place,
-            quads: 0,
-        },
-    }
-}
-
-fn is_fine(verdict: Verdict) -> bool {
-    match verdict {
-        Verdict::Fine => true,
-        Verdict::Refuse(_, _) => false,
     }
 }
 
@@ -188,8 +115,8 @@ fn mesh_lists(
     let t = least(size(r[18]), triangles.len());
     let l = least(size(r[19]), links.len());
     let s = least(size(r[20]), slots.len());
-    told_by(mesh_grid(
-        scene_in(r),
+    told_by_mesh(mesh_grid(
+        scene_at(r, 0),
         outer,
         grid,
         kinds,
@@ -215,6 +142,7 @@ fn meshed(
 ) -> Told
     requires { ⌜ (28 ≤ length (now r)) × (length (now low) ≡ length (now r)) ⌝ }
 {
+    empty_lists(vertices, triangles, links, slots);
     let e = ends_of(r);
     let outer = e.outer;
     let grid = e.grid;
@@ -255,7 +183,7 @@ fn check_lists(
     let l = least(size(r[19]), links.len());
     let s = least(size(r[20]), slots.len());
     check_mesh(
-        scene_in(r),
+        scene_at(r, 0),
         outer,
         grid,
         kinds,
@@ -290,7 +218,7 @@ fn is_checked(
     let grid = e.grid;
     let kinds = e.kinds;
     let covers = e.covers;
-    is_fine(check_lists(
+    !is_refusal(check_lists(
         told.quads,
         r,
         &low[HEAD..outer],
@@ -370,7 +298,6 @@ fn is_right_mesh(
 ) -> bool
     requires { ⌜ (28 ≤ length (now r)) × (length (now low) ≡ length (now r)) ⌝ }
 {
-    empty_lists(vertices, triangles, links, slots);
     let told = meshed(r, low, registry, vertices, triangles, links, slots);
     is_shown(told, r, low, registry, vertices, triangles, links, slots)
 }

@@ -50,8 +50,8 @@ size-requires-5 c κs = search needs
 least-requires-5 : tie.Need-least-requires-5
 least-requires-5 c κs = search needs
 
-scene-in-requires : tie.Need-scene-in-requires
-scene-in-requires c κs = search needs
+scene-at-requires : tie.Need-scene-at-requires
+scene-at-requires c κs = search needs
 
 slice-aggregate-check-mesh : tie.Need-slice-aggregate-check-mesh
 slice-aggregate-check-mesh c = sym (length-take-le _ _ (search needs))
@@ -93,7 +93,7 @@ check-lists-spec =
     shared-slice-read-size-5
     size-requires-5
     least-requires-5
-    scene-in-requires
+    scene-at-requires
     slice-aggregate-check-mesh
     slice-aggregate-check-mesh-2
     slice-aggregate-check-mesh-3

@@ -56,8 +56,8 @@ size-requires-5 c κs = search needs
 least-requires-5 : tie.Need-least-requires-5
 least-requires-5 c κs = search needs
 
-scene-in-requires : tie.Need-scene-in-requires
-scene-in-requires c κs = search needs
+scene-at-requires : tie.Need-scene-at-requires
+scene-at-requires c κs = search needs
 
 slice-aggregate-mesh-grid : tie.Need-slice-aggregate-mesh-grid
 slice-aggregate-mesh-grid c = sym (length-take-le _ _ (search needs))
@@ -89,8 +89,8 @@ slice-aggregate-mesh-grid-5 c = sym (length-take-le _ _ (search needs))
 mesh-grid-requires : tie.Need-mesh-grid-requires
 mesh-grid-requires c κs = search needs
 
-told-by-requires : tie.Need-told-by-requires
-told-by-requires c κs = search needs
+told-by-mesh-requires : tie.Need-told-by-mesh-requires
+told-by-mesh-requires c κs = search needs
 
 same-length : tie.Need-same-length
 same-length c = search needs
@@ -128,7 +128,7 @@ mesh-lists-spec =
     shared-slice-read-size-5
     size-requires-5
     least-requires-5
-    scene-in-requires
+    scene-at-requires
     slice-aggregate-mesh-grid
     slice-relend-prefix-mesh-grid
     slice-aggregate-mesh-grid-2
@@ -139,7 +139,7 @@ mesh-lists-spec =
     slice-relend-prefix-mesh-grid-4
     slice-aggregate-mesh-grid-5
     mesh-grid-requires
-    told-by-requires
+    told-by-mesh-requires
     same-length
     same-length-2
     same-length-3

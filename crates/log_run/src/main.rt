@@ -1,0 +1,6 @@
+// Replays the logs that tools/log_vectors.py wrote.
+use trials::replay;
+
+fn main() {
+    replay(b"logs");
+}

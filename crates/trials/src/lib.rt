@@ -1,0 +1,805 @@
+// Replays trials of the calls mesh, update and check: each is held to its answer and to every word of the lent lists.
+//
+// The input is records of words, read by vectors::read_record. One that starts with 0 is a base, any other a trial on the base before it.
+//
+// A base: 0; width, height, length; whether coloured; d; centre (0 to 10); the lengths of eight lists, which are grid, kinds, sets, registry,
+// vertices, triangles, links, slots (11 to 18); then these lists, a word for each byte of the first three. The last four hold a mesh and spare room.
+//
+// A trial: 1; the call, which is 0 meshing by Naive, 1 by Culling, 2 an update, 3 a check; 1 if it goes on from what the trial before left, else it
+// starts from the base; the quads given (0 to 3); how much is lent of each of the eight lists (4 to 11); the numbers of bytes of outer list and log
+// (12, 13); what must be answered, which is number, place, quads, moved, each 0 where the answer has none (14 to 17); the number of words that
+// patch the base before the call (18); then outer list and log, four bytes a word, each from a word's start; these patches; and up to the
+// record's end the patches that make of it what must be there after the call.
+// A patch: a place in the base's record, how many words, and the words. So any word of scene, types, grid and mesh can be another one;
+// the lengths can't.
+// A trial is wrong if it or its base does not keep this form.
+use admit::Scene;
+use answers::Verdict;
+use checking::check_mesh;
+use floats::Triple;
+use meshem::Meshed;
+use meshem::MeshingAlgorithm;
+use meshem::mesh_grid;
+use update::Updated;
+use update::update_mesh;
+use util::Dimensions;
+use vectors::Count;
+use vectors::end_after;
+use vectors::least;
+use vectors::narrow;
+use vectors::read_record;
+use vectors::say;
+use vectors::size;
+ghost use mathlib.Core.Path.{_≡_};
+ghost use Prim.Native.Nat.{_+_, _*_, _^_, _≤_, _<_};
+ghost use lib.ListN.{length};
+
+// How many words come before the lists, in a base as in a trial.
+const HEAD: usize = 19;
+
+// Where the lengths of a base's lists start.
+const LENGTHS: usize = 11;
+
+// Where each list of a base ends.
+struct Ends {
+    grid: usize,
+    kinds: usize,
+    covers: usize,
+    registry: usize,
+    vertices: usize,
+    triangles: usize,
+    links: usize,
+    slots: usize,
+}
+
+// A part of a list.
+struct Span {
+    start: usize,
+    end: usize,
+}
+
+// What is lent of the first four lists of a base.
+struct Parts {
+    grid: Span,
+    kinds: Span,
+    covers: Span,
+    registry: Span,
+}
+
+// Where the log and the patches before and after the call start in a trial.
+struct Starts {
+    log: usize,
+    before: usize,
+    after: usize,
+}
+
+// What a call answers, with 0 for what it does not say.
+pub struct Told {
+    pub number: u32,
+    pub place: usize,
+    pub quads: usize,
+    pub moved: u64,
+}
+
+struct Tally {
+    kept: usize,
+    count: Count,
+}
+
+fn ends_of(base: &[u32]) -> Ends
+    requires { ⌜ 19 ≤ length (now base) ⌝ }
+    ensures { λ e. ⌜ (19 ≤ e .grid) × (e .grid ≤ e .kinds) × (e .kinds ≤ e .covers) × (e .covers ≤ e .registry) × (e .registry ≤ e .vertices)
+        × (e .vertices ≤ e .triangles) × (e .triangles ≤ e .links) × (e .links ≤ e .slots) × (e .slots ≤ length (now (base .entry))) ⌝ }
+{
+    let grid = end_after(base, HEAD, 11);
+    let kinds = end_after(base, grid, 12);
+    let covers = end_after(base, kinds, 13);
+    let registry = end_after(base, covers, 14);
+    let vertices = end_after(base, registry, 15);
+    let triangles = end_after(base, vertices, 16);
+    let links = end_after(base, triangles, 17);
+    let slots = end_after(base, links, 18);
+    Ends {
+        grid,
+        kinds,
+        covers,
+        registry,
+        vertices,
+        triangles,
+        links,
+        slots,
+    }
+}
+
+// How many words hold so many bytes.
+fn words_for(bytes: u32) -> usize {
+    (size(bytes) + 3) / 4
+}
+
+// The end of a list of bytes whose number is given.
+fn end_after_bytes(trial: &[u32], start: usize, field: usize) -> usize
+    requires { ⌜ (start ≤ length (now trial)) × (field + 1 ≤ length (now trial)) ⌝ }
+    ensures { λ e. ⌜ (start ≤ e) × (e ≤ length (now (trial .entry))) ⌝ }
+{
+    start + least(words_for(trial[field]), trial.len() - start)
+}
+
+fn starts_of(trial: &[u32]) -> Starts
+    requires { ⌜ 19 ≤ length (now trial) ⌝ }
+    ensures { λ s. ⌜ (19 ≤ s .log) × (s .log ≤ s .before) × (s .before ≤ s .after) × (s .after ≤ length (now (trial .entry))) ⌝ }
+{
+    let log = end_after_bytes(trial, HEAD, 12);
+    let before = end_after_bytes(trial, log, 13);
+    let after = end_after(trial, before, 18);
+    Starts { log, before, after }
+}
+
+fn triple_at(r: &[u32], at: usize) -> Triple
+    requires { ⌜ at + 3 ≤ length (now r) ⌝ }
+{
+    Triple {
+        x: r[at],
+        y: r[at + 1],
+        z: r[at + 2],
+    }
+}
+
+// Dimensions, whether coloured, d and centre, from a place on.
+pub fn scene_at(r: &[u32], at: usize) -> Scene
+    requires { ⌜ at + 10 ≤ length (now r) ⌝ }
+{
+    Scene {
+        dims: Dimensions {
+            width: r[at],
+            height: r[at + 1],
+            length: r[at + 2],
+        },
+        coloured: r[at + 3] == 1,
+        d: triple_at(r, at + 4),
+        centre: triple_at(r, at + 7),
+    }
+}
+
+pub fn algorithm_of(word: u32) -> MeshingAlgorithm {
+    if word == 1 {
+        MeshingAlgorithm::Culling
+    } else {
+        MeshingAlgorithm::Naive
+    }
+}
+
+fn refused(number: u32, place: usize) -> Told {
+    Told {
+        number,
+        place,
+        quads: 0,
+        moved: 0,
+    }
+}
+
+pub fn told_by_mesh(answer: Meshed) -> Told {
+    match answer {
+        Meshed::Done(quads) => Told {
+            number: 0,
+            place: 0,
+            quads,
+            moved: 0,
+        },
+        Meshed::Refused(why, place) => refused(why.number(), place),
+    }
+}
+
+fn told_by_update(answer: Updated) -> Told {
+    match answer {
+        Updated::Done(count) => Told {
+            number: 0,
+            place: 0,
+            quads: count.quads,
+            moved: count.moved,
+        },
+        Updated::NoRoom(entry, count) => Told {
+            number: 14,
+            place: entry,
+            quads: count.quads,
+            moved: count.moved,
+        },
+        Updated::Refused(why, place) => refused(why.number(), place),
+    }
+}
+
+fn told_by_check(verdict: Verdict) -> Told {
+    match verdict {
+        Verdict::Fine => refused(0, 0),
+        Verdict::Refuse(why, place) => refused(why.number(), place),
+    }
+}
+
+// Copies as many words as both have.
+fn copy(from: &[u32], to: &mut [u32]) {
+    let n = least(from.len(), to.len());
+    let mut i: usize = 0;
+    while i < n {
+        to[i] = from[i];
+        i += 1;
+    }
+}
+
+fn patch(patches: &[u32], image: &mut [u32]) {
+    let mut at: usize = 0;
+    while at + 1 < patches.len() {
+        let place = least(size(patches[at]), image.len());
+        let start = at + 2;
+        let end = end_after(patches, start, at + 1);
+        copy(&patches[start..end], &mut image[place..]);
+        at = end;
+    }
+}
+
+// Whether as many words as a patch says are there, and lie within what it patches, in the scene or the lists.
+fn is_whole_patch(place: u32, count: u32, there: usize, room: usize) -> bool {
+    let end = size(place) + size(count);
+    (size(count) == there)
+        & (end <= room)
+        & (0 < place)
+        & ((end <= LENGTHS) | (HEAD <= size(place)))
+}
+
+fn are_whole_patches(patches: &[u32], room: usize) -> bool {
+    let mut at: usize = 0;
+    while at + 1 < patches.len() {
+        let start = at + 2;
+        let end = end_after(patches, start, at + 1);
+        if !is_whole_patch(patches[at], patches[at + 1], end - start, room) {
+            return false;
+        }
+        at = end;
+    }
+    at == patches.len()
+}
+
+fn is_lent_whole(trial: &[u32], base: &[u32]) -> bool
+    requires { ⌜ (19 ≤ length (now trial)) × (19 ≤ length (now base)) ⌝ }
+{
+    (trial[4] <= base[11])
+        & (trial[5] <= base[12])
+        & (trial[6] <= base[13])
+        & (trial[7] <= base[14])
+        & (trial[8] <= base[15])
+        & (trial[9] <= base[16])
+        & (trial[10] <= base[17])
+        & (trial[11] <= base[18])
+}
+
+// Whether the lists fill the base, and none is cut short.
+fn is_whole_base(base: &[u32]) -> bool
+    requires { ⌜ 19 ≤ length (now base) ⌝ }
+{
+    let mut rest = base.len() - HEAD;
+    let mut field = LENGTHS;
+    while field < HEAD {
+        let n = size(base[field]);
+        if rest < n {
+            return false;
+        }
+        rest -= n;
+        field += 1;
+    }
+    rest == 0
+}
+
+// Whether the trial is all there: no list is cut short.
+fn is_whole(trial: &[u32]) -> bool
+    requires { ⌜ 19 ≤ length (now trial) ⌝ }
+{
+    let s = starts_of(trial);
+    (trial[0] == 1)
+        & (trial[1] < 4)
+        & (trial[2] < 2)
+        & (s.log - HEAD == words_for(trial[12]))
+        & (s.before - s.log == words_for(trial[13]))
+        & (s.after - s.before == size(trial[18]))
+}
+
+// Whether a trial and its base keep the form that stands at the head of this file.
+fn is_formed(trial: &[u32], base: &[u32]) -> bool
+    requires { ⌜ (19 ≤ length (now trial)) × (19 ≤ length (now base)) ⌝ }
+{
+    let s = starts_of(trial);
+    let before = s.before;
+    let after = s.after;
+    is_whole(trial)
+        & is_whole_base(base)
+        & is_lent_whole(trial, base)
+        & are_whole_patches(&trial[before..after], base.len())
+        & are_whole_patches(&trial[after..], base.len())
+}
+
+fn start(goes_on: bool, base: &[u32], image: &mut [u32]) {
+    if goes_on {
+        return;
+    }
+    copy(base, image);
+}
+
+// Makes what the call starts from, and its words' lowest bytes.
+fn prepare(trial: &[u32], base: &[u32], image: &mut [u32], low: &mut [u8])
+    requires { ⌜ (19 ≤ length (now trial)) × (length (now low) ≡ length (now image)) ⌝ }
+{
+    let s = starts_of(trial);
+    let before = s.before;
+    let after = s.after;
+    start(trial[2] == 1, base, image);
+    patch(&trial[before..after], image);
+    narrow(image, low);
+}
+
+// Makes what must be there after the call.
+fn conclude(trial: &[u32], image: &mut [u32])
+    requires { ⌜ 19 ≤ length (now trial) ⌝ }
+{
+    let s = starts_of(trial);
+    let after = s.after;
+    patch(&trial[after..], image);
+}
+
+fn fill(
+    image: &[u32],
+    vertices: &mut [u32],
+    triangles: &mut [u32],
+    links: &mut [u32],
+    slots: &mut [u32],
+)
+    requires { ⌜ 19 ≤ length (now image) ⌝ }
+{
+    let e = ends_of(image);
+    let from = e.registry;
+    let to_triangles = e.vertices;
+    let to_links = e.triangles;
+    let to_slots = e.links;
+    let end = e.slots;
+    copy(&image[from..to_triangles], vertices);
+    copy(&image[to_triangles..to_links], triangles);
+    copy(&image[to_links..to_slots], links);
+    copy(&image[to_slots..end], slots);
+}
+
+fn starts_with(room: &[u32], words: &[u32]) -> bool {
+    if room.len() < words.len() {
+        return false;
+    }
+    let mut i: usize = 0;
+    while i < words.len() {
+        if room[i] != words[i] {
+            return false;
+        }
+        i += 1;
+    }
+    true
+}
+
+fn are_as_expected(
+    image: &[u32],
+    vertices: &[u32],
+    triangles: &[u32],
+    links: &[u32],
+    slots: &[u32],
+) -> bool
+    requires { ⌜ 19 ≤ length (now image) ⌝ }
+{
+    let e = ends_of(image);
+    let from = e.registry;
+    let to_triangles = e.vertices;
+    let to_links = e.triangles;
+    let to_slots = e.links;
+    let end = e.slots;
+    starts_with(vertices, &image[from..to_triangles])
+        & starts_with(triangles, &image[to_triangles..to_links])
+        & starts_with(links, &image[to_links..to_slots])
+        & starts_with(slots, &image[to_slots..end])
+}
+
+fn answer(
+    trial: &[u32],
+    scene: Scene,
+    outer: &[u8],
+    log: &[u8],
+    grid: &[u8],
+    kinds: &[u8],
+    covers: &[u8],
+    registry: &[u32],
+    vertices: &mut [u32],
+    triangles: &mut [u32],
+    links: &mut [u32],
+    slots: &mut [u32],
+) -> Told
+    requires { ⌜ 19 ≤ length (now trial) ⌝ }
+{
+    let call = trial[1];
+    let quads = size(trial[3]);
+    if call == 2 {
+        return told_by_update(update_mesh(
+            vertices,
+            triangles,
+            links,
+            slots,
+            scene,
+            kinds,
+            covers,
+            registry,
+            log,
+            quads,
+        ));
+    }
+    if call == 3 {
+        return told_by_check(check_mesh(
+            scene,
+            outer,
+            grid,
+            kinds,
+            covers,
+            registry,
+            vertices,
+            triangles,
+            links,
+            slots,
+            quads,
+        ));
+    }
+    let algorithm = algorithm_of(call);
+    told_by_mesh(mesh_grid(
+        scene,
+        outer,
+        grid,
+        kinds,
+        covers,
+        registry,
+        algorithm,
+        vertices,
+        triangles,
+        links,
+        slots,
+    ))
+}
+
+// What is lent of the list that lies between two places.
+fn lent_span(start: usize, end: usize, asked: u32) -> Span
+    requires { ⌜ start ≤ end ⌝ }
+    ensures { λ r. ⌜ (r .start ≡ start) × (start ≤ r .end) × (r .end ≤ end) ⌝ }
+{
+    let lent = least(size(asked), end - start);
+    Span {
+        start,
+        end: start + lent,
+    }
+}
+
+fn lent_parts(trial: &[u32], image: &[u32]) -> Parts
+    requires { ⌜ (19 ≤ length (now trial)) × (19 ≤ length (now image)) ⌝ }
+    ensures { λ p. ⌜ (p .grid .start ≤ p .grid .end) × (p .grid .end ≤ length (now (image .entry)))
+        × (p .kinds .start ≤ p .kinds .end) × (p .kinds .end ≤ length (now (image .entry)))
+        × (p .covers .start ≤ p .covers .end) × (p .covers .end ≤ length (now (image .entry)))
+        × (p .registry .start ≤ p .registry .end) × (p .registry .end ≤ length (now (image .entry))) × (4 * p .registry .end < 2 ^ 64) ⌝ }
+{
+    let e = ends_of(image);
+    let grid = lent_span(HEAD, e.grid, trial[4]);
+    let kinds = lent_span(e.grid, e.kinds, trial[5]);
+    let covers = lent_span(e.kinds, e.covers, trial[6]);
+    let registry = lent_span(e.covers, e.registry, trial[7]);
+    Parts {
+        grid,
+        kinds,
+        covers,
+        registry,
+    }
+}
+
+// Lends as much of the four lists as the trial says.
+fn answer_on_lists(
+    trial: &[u32],
+    scene: Scene,
+    outer: &[u8],
+    log: &[u8],
+    grid: &[u8],
+    kinds: &[u8],
+    covers: &[u8],
+    registry: &[u32],
+    vertices: &mut [u32],
+    triangles: &mut [u32],
+    links: &mut [u32],
+    slots: &mut [u32],
+) -> Told
+    requires { ⌜ 19 ≤ length (now trial) ⌝ }
+{
+    let v = least(size(trial[8]), vertices.len());
+    let t = least(size(trial[9]), triangles.len());
+    let l = least(size(trial[10]), links.len());
+    let s = least(size(trial[11]), slots.len());
+    answer(
+        trial,
+        scene,
+        outer,
+        log,
+        grid,
+        kinds,
+        covers,
+        registry,
+        &mut vertices[..v],
+        &mut triangles[..t],
+        &mut links[..l],
+        &mut slots[..s],
+    )
+}
+
+// `low` has the lowest byte of each word of the image.
+fn answer_on_image(
+    trial: &[u32],
+    outer: &[u8],
+    log: &[u8],
+    image: &[u32],
+    low: &[u8],
+    vertices: &mut [u32],
+    triangles: &mut [u32],
+    links: &mut [u32],
+    slots: &mut [u32],
+) -> Told
+    requires { ⌜ (19 ≤ length (now trial)) × (19 ≤ length (now image)) × (length (now low) ≡ length (now image)) ⌝ }
+{
+    let p = lent_parts(trial, image);
+    let grid = p.grid.start;
+    let grid_end = p.grid.end;
+    let kinds = p.kinds.start;
+    let kinds_end = p.kinds.end;
+    let covers = p.covers.start;
+    let covers_end = p.covers.end;
+    let registry = p.registry.start;
+    let registry_end = p.registry.end;
+    answer_on_lists(
+        trial,
+        scene_at(image, 1),
+        outer,
+        log,
+        &low[grid..grid_end],
+        &low[kinds..kinds_end],
+        &low[covers..covers_end],
+        &image[registry..registry_end],
+        vertices,
+        triangles,
+        links,
+        slots,
+    )
+}
+
+// `bytes` are those of the trial.
+fn answer_on(
+    trial: &[u32],
+    bytes: &[u8],
+    image: &[u32],
+    low: &[u8],
+    vertices: &mut [u32],
+    triangles: &mut [u32],
+    links: &mut [u32],
+    slots: &mut [u32],
+) -> Told
+    requires { ⌜ (19 ≤ length (now trial)) × (length (now bytes) ≡ 4 * length (now trial))
+        × (19 ≤ length (now image)) × (length (now low) ≡ length (now image)) ⌝ }
+{
+    let s = starts_of(trial);
+    let outer = lent_span(4 * HEAD, 4 * s.log, trial[12]);
+    let log = lent_span(4 * s.log, 4 * s.before, trial[13]);
+    let outer_start = outer.start;
+    let outer_end = outer.end;
+    let log_start = log.start;
+    let log_end = log.end;
+    answer_on_image(
+        trial,
+        &bytes[outer_start..outer_end],
+        &bytes[log_start..log_end],
+        image,
+        low,
+        vertices,
+        triangles,
+        links,
+        slots,
+    )
+}
+
+// Fills the four lists from the image, and calls.
+fn answer_afresh(
+    trial: &[u32],
+    bytes: &[u8],
+    image: &[u32],
+    low: &[u8],
+    vertices: &mut [u32],
+    triangles: &mut [u32],
+    links: &mut [u32],
+    slots: &mut [u32],
+) -> Told
+    requires { ⌜ (19 ≤ length (now trial)) × (length (now bytes) ≡ 4 * length (now trial))
+        × (19 ≤ length (now image)) × (length (now low) ≡ length (now image)) ⌝ }
+{
+    fill(image, vertices, triangles, links, slots);
+    answer_on(trial, bytes, image, low, vertices, triangles, links, slots)
+}
+
+fn is_told(told: Told, trial: &[u32]) -> bool
+    requires { ⌜ 19 ≤ length (now trial) ⌝ }
+{
+    (told.number == trial[14])
+        & (told.place == size(trial[15]))
+        & (told.quads == size(trial[16]))
+        & (told.moved == size(trial[17]) as u64)
+}
+
+fn is_right_call(
+    trial: &[u32],
+    bytes: &[u8],
+    image: &mut [u32],
+    low: &[u8],
+    vertices: &mut [u32],
+    triangles: &mut [u32],
+    links: &mut [u32],
+    slots: &mut [u32],
+) -> bool
+    requires { ⌜ (19 ≤ length (now trial)) × (length (now bytes) ≡ 4 * length (now trial))
+        × (19 ≤ length (now image)) × (length (now low) ≡ length (now image)) ⌝ }
+{
+    let told = answer_afresh(trial, bytes, image, low, vertices, triangles, links, slots);
+    conclude(trial, image);
+    is_told(told, trial) & are_as_expected(image, vertices, triangles, links, slots)
+}
+
+fn is_right(
+    trial: &[u32],
+    bytes: &[u8],
+    base: &[u32],
+    image: &mut [u32],
+    low: &mut [u8],
+    vertices: &mut [u32],
+    triangles: &mut [u32],
+    links: &mut [u32],
+    slots: &mut [u32],
+) -> bool
+    requires { ⌜ (length (now bytes) ≡ 4 * length (now trial)) × (length (now image) ≡ length (now base)) × (length (now low) ≡ length (now image)) ⌝ }
+{
+    if trial.len() < HEAD {
+        return false;
+    }
+    if base.len() < HEAD {
+        return false;
+    }
+    if !is_formed(trial, base) {
+        return false;
+    }
+    prepare(trial, base, image, low);
+    is_right_call(trial, bytes, image, low, vertices, triangles, links, slots)
+}
+
+// Keeps a base, or tries a trial.
+fn take_record(
+    given: &[u32],
+    bytes: &[u8],
+    base: &mut [u32],
+    image: &mut [u32],
+    low: &mut [u8],
+    vertices: &mut [u32],
+    triangles: &mut [u32],
+    links: &mut [u32],
+    slots: &mut [u32],
+    tally: Tally,
+) -> Tally
+    requires { ⌜ (0 < length (now given)) × (length (now given) ≤ length (now base)) × (length (now bytes) ≡ 4 * length (now given))
+        × (length (now image) ≡ length (now base)) × (length (now low) ≡ length (now base)) × (tally .kept ≤ length (now base)) ⌝ }
+    ensures { λ r. ⌜ r .kept ≤ length (now (base .entry)) ⌝ }
+{
+    let kept = tally.kept;
+    let count = tally.count;
+    if given[0] == 0 {
+        copy(given, base);
+        copy(given, image);
+        return Tally {
+            kept: given.len(),
+            count,
+        };
+    }
+    let ok = is_right(
+        given,
+        bytes,
+        &base[..kept],
+        &mut image[..kept],
+        &mut low[..kept],
+        vertices,
+        triangles,
+        links,
+        slots,
+    );
+    Tally {
+        kept,
+        count: count.and(ok),
+    }
+}
+
+fn run(
+    bytes: &mut [u8],
+    words: &mut [u32],
+    base: &mut [u32],
+    image: &mut [u32],
+    low: &mut [u8],
+    vertices: &mut [u32],
+    triangles: &mut [u32],
+    links: &mut [u32],
+    slots: &mut [u32],
+) -> Count
+    requires { ⌜ (length (now bytes) ≡ 4 * length (now words)) × (length (now base) ≡ length (now words))
+        × (length (now image) ≡ length (now words)) × (length (now low) ≡ length (now words)) ⌝ }
+{
+    let mut tally = Tally {
+        kept: 0,
+        count: Count::none(),
+    };
+    let mut turn: usize = 0;
+    while turn < 65536 {
+        let n = read_record(bytes, words);
+        if n == 0 {
+            return tally.count;
+        }
+        let whole = 4 * n;
+        tally = take_record(
+            &words[..n],
+            &bytes[..whole],
+            base,
+            image,
+            low,
+            vertices,
+            triangles,
+            links,
+            slots,
+            tally,
+        );
+        turn += 1;
+    }
+    tally.count
+}
+
+// Zeros, of which only the number counts.
+fn bytes_of() -> [u8; 131072]
+    ensures { λ r. ⌜ 131072 ≡ length r ⌝ }
+{
+    [0; 131072]
+}
+
+fn low_of() -> [u8; 32768]
+    ensures { λ r. ⌜ 32768 ≡ length r ⌝ }
+{
+    [0; 32768]
+}
+
+fn words_of() -> [u32; 32768]
+    ensures { λ r. ⌜ 32768 ≡ length r ⌝ }
+{
+    [0; 32768]
+}
+
+// Replays the trials on standard input, and prints under a name how many were right.
+pub fn replay(name: &[u8]) {
+    let mut bytes = bytes_of();
+    let mut words = words_of();
+    let mut base = words_of();
+    let mut image = words_of();
+    let mut low = low_of();
+    let mut vertices = words_of();
+    let mut triangles = words_of();
+    let mut links = words_of();
+    let mut slots = words_of();
+    let count = run(
+        &mut bytes,
+        &mut words,
+        &mut base,
+        &mut image,
+        &mut low,
+        &mut vertices,
+        &mut triangles,
+        &mut links,
+        &mut slots,
+    );
+    say(name, count);
+}

@@ -1,0 +1,281 @@
+#!/usr/bin/env python3
+"""Writes what the program log_run reads and must print: crates/log_run/stdin and stdout.
+
+Every expected word comes from trials.py, from document 01's sentences; where 01 itself works a case, its figures stand here as asserts.
+Run it at the repository's root.
+"""
+import random
+
+from cube_vectors import INF, NAN, cube, f, shape
+from mesh_vectors import JUNK, UNIT, call, faces, floats, mesh, some_types
+from trials import (ADD_FACES, ADDED, BROKEN, CHECK, CULL_FACES, CULLING, NAIVE, NONE, OUTSIDE, UPDATE, Trials, beside, cell_count, covers, entry,
+                    spare)
+
+trials = Trials()
+add = trials.add
+ALONE = (OUTSIDE,) * 6
+
+
+def base(m, more=12):
+    """Keeps the fresh mesh of a scene, with room for so many quads more and a few words past that; answers its count."""
+    trials.base(m, spare(mesh(m), 4 * floats(m) * more + 5, 6 * more + 1, more, 7))
+    return len(faces(m))
+
+
+def fit(m, quads):
+    """Lent lengths for exactly so many quads."""
+    return dict(vertices=4 * floats(m) * quads, triangles=6 * quads, links=quads)
+
+
+def by(face, code):
+    """Neighbours of which one is given."""
+    return ALONE[:face] + (code,) + ALONE[face + 1:]
+
+
+def around(m, grid, cell):
+    """The neighbours as the grid has them."""
+    cells = [beside(m, cell, face) for face in range(6)]
+    return tuple(OUTSIDE if c is None else grid[c] for c in cells)
+
+
+def keys():
+    """Cell and face of each quad that the last trial left."""
+    links = trials.image[trials.at("links"):]
+    return [(word & 0x1FFFFFFF, 5 - (word >> 29)) for word in links[:trials.told[2]]]
+
+
+def check_goes_on(grid):
+    """The check of what the last trial left, for another grid."""
+    return add(CHECK, trials.told[2], goes_on=True, before=[(trials.at("grid", c), code) for c, code in enumerate(grid)])
+
+
+# ---- the worked example, and grid 1,1 with its first cube taken and put back
+PAIR = call(grid=[1, 1])
+BREAK, BUILD = entry(0, BROKEN, 1, *by(2, 1)), entry(0, ADDED, 1, *by(2, 1))
+assert base(PAIR) == 10
+assert add(UPDATE, 10, BREAK) == (0, 0, 6, 14) and keys() == [(1, face) for face in (5, 4, 0, 1, 2, 3)]
+assert check_goes_on([0, 1]) == (0, 0, 0, 0)
+assert add(UPDATE, 10, BREAK + BUILD, **fit(PAIR, 10)) == (14, 1, 6, 14)
+assert add(UPDATE, 10, BREAK + BUILD, **fit(PAIR, 11))[:3] == (0, 0, 10)
+assert check_goes_on([1, 1]) == (0, 0, 0, 0)
+assert add(UPDATE, 10, BREAK + BUILD)[:3] == (0, 0, 10) and add(UPDATE, 10) == (0, 0, 10, 0)
+for scarce in ("vertices", "triangles", "links"):
+    for more in (0, 31, 32) if scarce == "vertices" else (0, 5, 6) if scarce == "triangles" else (0, 1):
+        most = dict(vertices=320, triangles=60, links=10)[scarce] + more
+        told = add(UPDATE, 10, BREAK + BUILD, **{scarce: most})
+        assert told[:2] == ((0, 0) if more in (1, 6, 32) else (14, 1))
+
+# ---- one quad removed, from every place of meshes of 6 to 14: Q - q from 1 to 14
+TINTED_CUBE = cube(shape(coloured=True, colour=NAN, alpha=0xFFC12345))
+ROWS = [call(grid=[1] * n) for n in (1, 2, 3)] + [call(grid=[1, 1], coloured=True, cubes=TINTED_CUBE * 2)]
+for m in ROWS:
+    count = base(m, 2)
+    for q, (cell, _, face) in enumerate(faces(m)):
+        assert add(UPDATE, count, entry(cell, CULL_FACES, 1, *by(face, 0))) == (0, 0, count - 1, count - 1 - q if count - q <= 6 else 1)
+base(ROWS[1], 2)
+assert add(UPDATE, 10, entry(0, CULL_FACES, 0, *by(5, 0)))[3] == 5  # quad 4
+assert add(UPDATE, 10, entry(0, CULL_FACES, 0, *by(4, 0)))[3] == 1 and keys()[3] == (1, 5)  # quad 3
+for q in range(10):  # bits of no number go with their quad
+    add(UPDATE, 10, entry(0, CULL_FACES, 1, *by(3, 1)) + BREAK, before=[(trials.at("vertices", 32 * q + k), 0x7F800001 + 977 * k) for k in range(32)])
+
+# ---- 01's cases 7, 8 and 9
+for covering, quads, fresh in ((2, 11, 10), (1, 10, 11)):
+    m = call(dims=[1, 2, 1], grid=[1, 0], kinds=[0, 1, 1], covers=[0, 63, covering], cubes=JUNK + UNIT * 2)
+    base(m)
+    assert add(UPDATE, 6, entry(1, ADDED, 2, *by(1, 1)))[2] == quads
+    assert check_goes_on([1, 2])[0] == 15
+    assert add(CULLING, 0, before=[(trials.at("grid", 1), 2)])[2] == fresh and add(NAIVE, 0, before=[(trials.at("grid", 1), 2)])[2] == 12
+base(PAIR)
+for cell in (0, 1):
+    assert add(UPDATE, 10, entry(cell, ADDED, 0, 1, 1, 1, 1, 1, 1)) == (0, 0, 10, 0)
+
+# ---- 3x3x3: every change on every side of a cell at each corner and edge; every cell broken and built again
+BOX = call(dims=[3, 3, 3], grid=[1] * 27)
+assert base(BOX) == 54
+RIM = [c for c in range(27) if sum(k in (0, 2) for k in (c % 3, c // 3 % 3, c // 9)) >= 2]
+assert len(RIM) == 20
+for cell in RIM:
+    for face in range(6):
+        for change in (BROKEN, ADDED, CULL_FACES, ADD_FACES):
+            assert add(UPDATE, 54, entry(cell, change, 1, *by(face, 1)))[0] == 0
+for cell in range(27):
+    number, _, quads, _ = add(UPDATE, 54, entry(cell, BROKEN, 1, *around(BOX, BOX["grid"], cell)))
+    assert number == 0
+    assert check_goes_on([0 if c == cell else 1 for c in range(27)])[0] == 0
+    assert add(UPDATE, quads, entry(cell, ADDED, 1, *around(BOX, BOX["grid"], cell)), goes_on=True)[:3] == (0, 0, 54)
+    assert check_goes_on([1] * 27)[0] == 0
+
+CORE = entry(13, BROKEN, 1, 1, 1, 1, 1, 1, 1)  # nothing goes, six come
+CUT = [entry(c, CULL_FACES, 1, *by(1, 1)) for c in (0, 1)]
+for quads in range(54, 61):
+    full = quads < 60
+    assert add(UPDATE, 54, CORE, **fit(BOX, quads)) == ((14, 0, 54, 0) if full else (0, 0, 60, 0))
+    assert add(UPDATE, 54, CORE + CUT[0], **fit(BOX, quads))[:2] == ((14, 0) if full else (0, 0))
+    assert add(UPDATE, 54, CUT[0] + CORE + CUT[1], **fit(BOX, quads))[:2] == ((14, 1) if quads < 59 else (0, 0))
+    assert add(UPDATE, 54, CUT[0] + CUT[1] + CORE, **fit(BOX, quads))[:2] == ((14, 2) if quads < 58 else (0, 0))
+
+# ---- types of every kind: logs of one entry that fit no grid, and of several
+KINDS = dict(kinds=[0, 1, 1, 0, 2, 1, 1], covers=[0, 63, 21, 63, 42, 0, 0b001100], cubes=JUNK + UNIT * 2 + JUNK * 2 + UNIT * 2)
+ODD = call(dims=[2, 2, 1], grid=[1, 0, 2, 5], **KINDS)
+count = base(ODD, 8)
+for change in (BROKEN, ADDED, CULL_FACES, ADD_FACES):
+    for code in range(7):
+        for given in (0, 1, 2, 4):
+            add(UPDATE, count, entry(0, change, code, *((given,) * 6)))
+    for cell in range(4):
+        add(UPDATE, count, entry(cell, change, 1, *ALONE))  # as if the cell were alone
+        add(UPDATE, count, entry(cell, change, 5, 5, 5, 5, 5, 5, 5))
+        add(UPDATE, count, entry(cell, change, 1, *ALONE) * 3)  # over a cube; of nothing; faces already there
+        add(UPDATE, count, entry(cell, change, 1, 1, OUTSIDE, 1, OUTSIDE, 1, OUTSIDE) + entry(cell, change, 2, OUTSIDE, 1, OUTSIDE, 1, OUTSIDE, 1))
+
+
+# ---- logs at random, and each at every room from the count on
+def some_log(rng, m, length, honest=None):
+    """Entries in range; with `honest`, a grid that is kept, demand 3's entries on it."""
+    log = b""
+    types = len(m["kinds"])
+    codes = [code for code in range(types) if m["kinds"][code] == 1 and all(covers(m, code, k) == covers(m, code, k + 1) for k in (0, 2, 4))]
+    empty = [code for code in range(types) if m["kinds"][code] == 0 and m["covers"][code] == 0]
+    for _ in range(length):
+        cell = rng.randrange(cell_count(m))
+        if honest is None:
+            log += entry(cell, rng.randrange(4), rng.randrange(types), *[rng.choice((OUTSIDE, rng.randrange(types))) for _ in range(6)])
+        elif honest[cell] in empty:
+            code = rng.choice(codes)
+            log += entry(cell, ADDED, code, *around(m, honest, cell))
+            honest[cell] = code
+        else:
+            log += entry(cell, BROKEN, honest[cell], *around(m, honest, cell))
+            honest[cell] = empty[0]
+    return log
+
+
+rng = random.Random(11)
+SMALL = call(dims=[2, 1, 2], grid=[1, 0, 0, 2], **KINDS)
+count = base(SMALL, 30)
+places = set()
+for turn in range(16):
+    log = some_log(rng, SMALL, 5)
+    for quads in range(count, 24):
+        told = add(UPDATE, count, log, **fit(SMALL, quads))
+        if told[0] == 14:
+            places.add((told[1], log[12 * told[1] + 4]))
+        else:
+            break
+assert {place for place, _ in places} == {0, 1, 2, 3, 4} and {change for _, change in places} == {ADDED, ADD_FACES}, places
+
+for turn in range(10):
+    dims = [rng.choice((1, 2, 3)) for _ in range(3)]
+    m = call(dims=dims, grid=[rng.randint(0, 6) for _ in range(dims[0] * dims[1] * dims[2])], **some_types(turn % 2 == 1))
+    count = base(m, 20)
+    for length in (1, 2, 3, 5, 8, 13):
+        assert add(UPDATE, count, some_log(rng, m, length), **(fit(m, count + 3) if length == 3 else {}))[0] in (0, 14)
+        check_goes_on(m["grid"])
+
+# ---- long honest logs, in one call and in many, then the check
+for coloured in (False, True):
+    cubes = [cube(shape(coloured=coloured, d=f(0.5, 1.1, 3), centre=f(0.1, 0.2, -0.3), colour=k, alpha=INF)) for k in range(4)]
+    m = call(dims=[3, 2, 4], grid=[rng.choice((0, 1, 2, 3)) for _ in range(24)], kinds=[1, 0, 1, 1], covers=[63, 0, 0b110011, 0b000011],
+             coloured=coloured, d=f(0.5, 1.1, 3), centre=f(0.1, 0.2, -0.3), cubes=sum(cubes, []))
+    count = base(m, 60)
+    for turn in range(3):
+        grid = list(m["grid"])
+        told = add(UPDATE, count, some_log(rng, m, 200, grid))
+        assert told[0] == 0 and check_goes_on(grid)[0] == 0
+    grid = list(m["grid"])
+    told = add(UPDATE, count, some_log(rng, m, 1, grid))
+    for turn in range(12):
+        told = add(UPDATE, told[2], some_log(rng, m, 1 + 2 * turn, grid), goes_on=True)
+        assert told[0] == 0 and check_goes_on(grid)[0] == 0
+    grid[7] = 1 if grid[7] != 1 else 2
+    assert add(CHECK, told[2], goes_on=True, before=[(trials.at("grid", 7), grid[7])])[0] == 15
+
+# ---- refusals: each, and each two; the log would change everything
+base(PAIR, 3)
+LOG = BREAK + BUILD + entry(1, CULL_FACES, 1, 1, 1, 1, 1, 1, 1)
+BAD = entry(2, BROKEN, 1, *ALONE)
+T, L, S = (trials.at(name) for name in ("triangles", "links", "slots"))
+K, C, R = (trials.at(name) for name in ("kinds", "covers", "cubes"))
+FAULTS = [
+    (2, 0, [(3, 1025)], {}), (3, 1, [(C + 1, 64)], {}), (4, 0, [(9, NAN)], {}), (6, 1, [(R + 193, 0)], {}), (9, 0, [], dict(slots=11)),
+    (10, 0, [], dict(links=9)), (11, 9, [(L + 9, 6 << 29)], {}), (12, 3, [(T + 23, 12)], {}), (13, 3, [], dict(log=LOG + BAD)),
+    (14, 1, [], dict(triangles=60, log=LOG))]
+
+
+def refused(*faults):
+    before, more = [], {}
+    for _, _, patches, other in faults:
+        before += patches
+        more = dict(other, **more)
+    return add(UPDATE, 10, before=before, **dict(dict(log=LOG), **more))
+
+
+assert add(UPDATE, 10, LOG)[0] == 0
+for i, fault in enumerate(FAULTS):
+    assert refused(fault)[:2] == fault[:2], fault
+    for later in FAULTS[i + 1:]:
+        assert refused(fault, later)[:2] == fault[:2], (fault, later)
+assert refused(*FAULTS)[:2] == (2, 0)
+assert add(UPDATE, 10, LOG + BAD, **fit(PAIR, 10))[:2] == (13, 3)  # the entries are tried before the first is done
+
+
+def refusal(number, place, count=10, log=LOG, **more):
+    assert add(UPDATE, count, log, **more) == (number, place, 0, 0), (number, place, more)
+
+
+for k in range(3):
+    for n in (0, 1025, NONE):
+        refusal(2, 0, before=[(1 + k, n)])
+    for word in (INF, NAN, NONE):
+        refusal(4, 0, before=[(5 + k, word)])
+        refusal(4, 0, before=[(8 + k, word)])
+refusal(2, 0, before=[(1, 1024), (2, 1024), (3, 2)])
+refusal(9, 0, before=[(1, 1024), (2, 32), (3, 32)])
+for lent in (dict(kinds=0), dict(covers=1), dict(kinds=1), dict(cubes=383), dict(cubes=0), dict(kinds=0, covers=0, cubes=0)):
+    refusal(3, 255, **lent)
+refusal(3, 255, before=[(4, 1)])
+refusal(3, 0, before=[(K, 3), (K + 1, 3)])
+refusal(3, 0, before=[(C, 255)])
+refusal(3, 1, before=[(K + 1, 200)])
+refusal(6, 0, before=[(K, 1)])
+refusal(6, 1, before=[(R + 192, INF)])
+refusal(9, 0, slots=0)
+refusal(9, 0, before=[(1, 4)])  # a grid of 24 slots
+refusal(10, 0, count=14)
+refusal(10, 0, count=NONE)
+for lent in (dict(vertices=319), dict(triangles=59), dict(links=9), dict(vertices=0), dict(links=0)):
+    refusal(10, 0, **lent)
+for q in range(10):
+    link, slot = trials.kept[L + q], S + 6 * (q // 5) + [0, 1, 3, 4, 5, 0, 1, 2, 4, 5][q]
+    for word in (6 << 29, 7 << 29 | 1, link & 7 << 29 | 2, link | 0x10000000, link ^ 1, NONE):
+        refusal(11, q, before=[(L + q, word), (T + 6 * q, 9999)])
+    for word in (NONE, 4 * q + 1, 4 * q + 4, 0x80000000 | 4 * q):
+        refusal(11, q, before=[(slot, word)])
+    for k in range(6):
+        refusal(12, q, before=[(T + 6 * q + k, trials.kept[T + 6 * q + k] ^ (1 << 3 * k))])
+    if q:
+        refusal(11, q, before=[(L + q, trials.kept[L + q - 1])])
+refusal(11, 10, before=[(S + 2, 40)])  # one more filled than quads
+refusal(11, 10, before=[(S + 2, 0), (T, 9)])
+refusal(11, 9, count=9)  # its slot is still filled
+refusal(11, 9, before=[(L + 9, 7 << 29), (T, 9)])
+assert add(UPDATE, 9, LOG, before=[(S + 11, NONE)])[0] == 0 and add(UPDATE, 10, LOG, before=[(S + 12, 0), (S + 18, 4)])[0] == 0
+refusal(11, 10, count=11)  # what stands in place 10 is no link
+refusal(11, 10, count=11, before=[(L + 10, 0), (T + 60, 0)])
+for bad in [(2,), (NONE,), (0, 4), (0, 255), (0, 1, 2), (0, 1, 255)] + [(0, 2, 0) + (0,) * k + (2,) for k in range(6)] + [(0, 3, 0, 254)]:
+    one = entry(*(bad + (0, 1, 0, 0, 0, 0, 0, 0, 0)[len(bad):]))
+    for i in range(4):
+        refusal(13, i, log=LOG[:12 * i] + one + LOG[12 * i:] + one)
+for n in range(1, 12):
+    refusal(13, n % 4, log=LOG[:12 * (n % 4)] + BAD[:n])
+refusal(13, 1, log=BREAK + BAD + b"\1")  # a bad field before the ragged end
+refusal(13, 0, log=b"\0")
+refusal(13, 3, log=LOG + b"\0", **fit(PAIR, 10))
+
+# ---- fresh meshes by the same records
+for outer in ((), (0,), (5, 3, 3)):
+    assert add(CULLING, 0, outer=outer)[0] == 0 and add(NAIVE, 0, outer=outer) == (0, 0, 12, 0)
+assert add(CULLING, 0, outer=(1, 6)) == (7, 1, 0, 0) and add(CULLING, 0, links=9) == (14, 0, 0, 0) and add(CULLING, 0, grid=1) == (2, 0, 0, 0)
+
+if __name__ == "__main__":
+    trials.write("log_run", "logs")

@@ -1,0 +1,293 @@
+"""Document 01's update and check in plain Python, and the records that crates/trials reads.
+
+A mesh is four lists of words. An update takes them for a list of quads (cell, face, words), works on that as 01's sentences say, and lays it
+out again. No code of the crates is used; cubes, fresh meshing and the types' tests are those of cube_vectors.py and mesh_vectors.py.
+The record format stands at the head of crates/trials/src/lib.rt.
+"""
+import struct
+
+import mesh_vectors
+from cube_vectors import types_answer
+from mesh_vectors import NONE, STEPS, faces, floats, mesh
+
+NAIVE, CULLING, UPDATE, CHECK = range(4)
+BROKEN, ADDED, CULL_FACES, ADD_FACES = range(4)
+OUTSIDE = 255
+HEAD, ROOM = 19, 32768
+PARTS = ("grid", "kinds", "covers", "cubes", "vertices", "triangles", "links", "slots")
+
+known = {}
+
+
+def quad(m, code, cell, face):
+    """A quad's words, each worked out once."""
+    w, _, l = m["dims"]
+    at = (cell % w, cell // (w * l), cell // w % l)
+    n = 24 * floats(m)
+    key = (m["coloured"], at, face, tuple(m["d"]), tuple(m["cubes"][n * code:n * code + n]))
+    if key not in known:
+        known[key] = mesh_vectors.quad(m, code, at, face)
+    return known[key]
+
+
+def cell_count(m):
+    w, h, l = m["dims"]
+    return w * h * l
+
+
+def bad_size(m):
+    return any(not 1 <= n <= 1024 for n in m["dims"]) or cell_count(m) > 1048576
+
+
+def room(m, lists):
+    return min(len(lists[0]) // (4 * floats(m)), len(lists[1]) // 6, len(lists[2]))
+
+
+def beside(m, cell, face):
+    """The neighbour's number, or None at the grid's edge."""
+    w, h, l = m["dims"]
+    x, y, z = (a + b for a, b in zip((cell % w, cell // (w * l), cell // w % l), STEPS[face]))
+    return y * l * w + z * w + x if 0 <= x < w and 0 <= y < h and 0 <= z < l else None
+
+
+def covers(m, code, face):
+    return m["covers"][code] >> face & 1 == 1
+
+
+def pattern(q):
+    return [4 * q + k for k in (0, 1, 2, 3, 2, 1)]
+
+
+# ---- what is tested of a lent mesh
+
+
+def book_answer(m, lists, count):
+    """SHORT_ROOM, BAD_COUNT, BAD_LINKS, BAD_TRIANGLES."""
+    _, triangles, links, slots = lists
+    cells = cell_count(m)
+    if len(slots) < 6 * cells:
+        return 9, 0
+    if count > room(m, lists):
+        return 10, 0
+    for q in range(count):
+        code, cell = links[q] >> 29, links[q] & 0x1FFFFFFF
+        if code > 5 or cell >= cells or slots[6 * cell + 5 - code] != 4 * q:
+            return 11, q
+    if sum(slot != NONE for slot in slots[:6 * cells]) > count:
+        return 11, count
+    for q in range(count):
+        if triangles[6 * q:6 * q + 6] != pattern(q):
+            return 12, q
+    return 0, 0
+
+
+def check(m, lists, count):
+    """Number and place."""
+    plenty = [1 << 40] * 3 + [len(lists[3])]
+    for answer in (mesh_vectors.answer(dict(m, lent=plenty)), book_answer(m, lists, count)):
+        if answer[0]:
+            return answer
+    drawn = {6 * cell + face for cell, _, face in faces(m)}
+    filled = {k for k in range(6 * cell_count(m)) if lists[3][k] != NONE}
+    if drawn != filled:
+        return 15, min(drawn ^ filled)
+    n = 4 * floats(m)
+    for q in range(count):
+        cell, face = lists[2][q] & 0x1FFFFFFF, 5 - (lists[2][q] >> 29)
+        if lists[0][n * q:n * q + n] != quad(m, m["grid"][cell], cell, face):
+            return 16, q
+    return 0, 0
+
+
+# ---- the update
+
+
+def entry(cell, change, code, *given):
+    return struct.pack("<I", cell) + bytes((change, code) + given)
+
+
+def entries(log):
+    return [(struct.unpack("<I", log[i:i + 4])[0], log[i + 4], log[i + 5], log[i + 6:i + 12]) for i in range(0, len(log) - 11, 12)]
+
+
+def entries_answer(m, log):
+    types = len(m["kinds"])
+    for i, (cell, change, code, given) in enumerate(entries(log)):
+        if cell >= cell_count(m) or change > 3 or code >= types or any(g != OUTSIDE and g >= types for g in given):
+            return 13, i
+    return (13, len(log) // 12) if len(log) % 12 else (0, 0)
+
+
+def plan(m, cell, change, code, given):
+    """What goes first, what is drawn, and what goes after."""
+    own = [(cell, face) for face in range(6)]
+    cube = m["kinds"][code] == 1
+    if change == ADDED:
+        if not cube:
+            return [], [], []
+        drawn = [(cell, f, code) for f in range(6) if given[f] == OUTSIDE or not covers(m, given[f], f ^ 1)]
+        facing = [(beside(m, cell, i), i ^ 1) for i in range(6) if beside(m, cell, i) is not None and covers(m, code, i ^ 1)]
+        return own, drawn, facing
+    if change == BROKEN:
+        return own, [(beside(m, cell, i), i ^ 1, given[i]) for i in range(6)
+                     if covers(m, code, i) and given[i] != OUTSIDE and m["kinds"][given[i]] == 1 and beside(m, cell, i) is not None], []
+    sides = [face for face in range(6) if given[face] != OUTSIDE]
+    if change == CULL_FACES:
+        return [(cell, face) for face in sides], [], []
+    return [], [(cell, face, code) for face in sides] if cube else [], []
+
+
+def remove(quads, cell, face):
+    """Removes a face's quad, if there is one; answers how many others moved."""
+    for q, (c, f, _) in enumerate(quads):
+        if (c, f) == (cell, face):
+            count = len(quads)
+            if count - q <= 6:
+                del quads[q]
+                return count - 1 - q
+            quads[q] = quads.pop()
+            return 1
+    return 0
+
+
+def laid(m, lists, quads, highest):
+    """The lists with these quads, zero up to the highest count there was, and as they were past it."""
+    n = 4 * floats(m)
+    cells = cell_count(m)
+    zeros = highest - len(quads)
+    slots = [NONE] * (6 * cells)
+    for q, (cell, face, _) in enumerate(quads):
+        slots[6 * cell + face] = 4 * q
+    return [
+        sum((words for _, _, words in quads), []) + [0] * (n * zeros) + lists[0][n * highest:],
+        sum((pattern(q) for q in range(len(quads))), []) + [0] * (6 * zeros) + lists[1][6 * highest:],
+        [cell | 5 - face << 29 for cell, face, _ in quads] + [0] * zeros + lists[2][highest:],
+        slots + lists[3][6 * cells:]]
+
+
+def update(m, lists, count, log):
+    """Number, place, quads and moved; and the lists."""
+    for number, place in ((2 if bad_size(m) else 0, 0), types_answer(m)):
+        if number:
+            return (number, place, 0, 0), lists
+    for number, place in (book_answer(m, lists, count), entries_answer(m, log)):
+        if number:
+            return (number, place, 0, 0), lists
+    n = 4 * floats(m)
+    quads = [(lists[2][q] & 0x1FFFFFFF, 5 - (lists[2][q] >> 29), lists[0][n * q:n * q + n]) for q in range(count)]
+    highest, moved = count, 0
+    for i, one in enumerate(entries(log)):
+        first, drawn, after = plan(m, *one)
+        there = {(cell, face) for cell, face, _ in quads}
+        gone = there & set(first)
+        new = [(cell, face, code) for cell, face, code in drawn if (cell, face) not in there - gone]
+        if len(quads) - len(gone) + len(new) > room(m, lists):
+            return (14, i, len(quads), moved), laid(m, lists, quads, highest)
+        for cell, face in first:
+            moved += remove(quads, cell, face)
+        quads += [(cell, face, quad(m, code, cell, face)) for cell, face, code in new]
+        highest = max(highest, len(quads))
+        for cell, face in after:
+            moved += remove(quads, cell, face)
+    return (0, 0, len(quads), moved), laid(m, lists, quads, highest)
+
+
+# ---- records
+
+
+def packed(data):
+    data = bytes(data)
+    data += bytes(-len(data) % 4)
+    return list(struct.unpack("<%dI" % (len(data) // 4), data))
+
+
+def patches(old, new):
+    """The runs of words that turn one list into another; one or two equal words between two runs join them."""
+    out, at = [], 0
+    while at < len(old):
+        if old[at] == new[at]:
+            at += 1
+            continue
+        end = last = at + 1
+        while last < len(old) and last - end < 3:
+            last += 1
+            if old[last - 1] != new[last - 1]:
+                end = last
+        out += [at, end - at] + new[at:end]
+        at = end
+    return out
+
+
+class Trials:
+    """Records for one program. After a trial `image` is what it left, and `told` its answer."""
+
+    def __init__(self):
+        self.records, self.tried = [], 0
+
+    def base(self, m, lists):
+        """Keeps a scene and four lists, spare room and all."""
+        parts = [m["grid"], m["kinds"], m["covers"], m["cubes"]] + list(lists)
+        head = [0] + m["dims"] + [int(m["coloured"])] + m["d"] + m["centre"] + [len(part) for part in parts]
+        assert len(head) == HEAD and max(m["grid"] + m["kinds"] + m["covers"]) < 256
+        self.kept = sum(parts, head)
+        self.image = self.kept
+        self.size = [len(part) for part in parts]
+        self.start = {name: HEAD + sum(self.size[:i]) for i, name in enumerate(PARTS)}
+        assert len(self.kept) <= ROOM
+        self.records.append(self.kept)
+
+    def at(self, name, place=0):
+        """Where a word of a list stands in the base's record."""
+        return self.start[name] + place
+
+    def lent_parts(self, image, lent):
+        return [image[self.start[name]:self.start[name] + n] for name, n in zip(PARTS, lent)]
+
+    def add(self, call, count, log=b"", outer=(), before=(), goes_on=False, **lent):
+        """Adds a trial; answers number, place, quads and moved. `before` has (place, word)s, `lent` lengths by the lists' names."""
+        lent = [lent.get(name, n) for name, n in zip(PARTS, self.size)]
+        assert all(n <= most for n, most in zip(lent, self.size))
+        old = self.image if goes_on else self.kept
+        image = list(old)
+        for place, word in before:
+            assert not HEAD - 8 <= place < HEAD
+            image[place] = word
+        grid, kinds, covering, cubes, *lists = self.lent_parts(image, lent)
+        m = dict(dims=image[1:4], coloured=image[4] == 1, d=image[5:8], centre=image[8:11], grid=grid, kinds=kinds, covers=covering,
+                 cubes=cubes, outer=list(outer), culling=call != NAIVE, lent=[len(part) for part in lists])
+        if call == UPDATE:
+            told, lists = update(m, lists, count, log)
+        elif call == CHECK:
+            told = check(m, lists, count) + (0, 0)
+        else:
+            number, place = mesh_vectors.answer(m)
+            fresh = mesh(m) if number == 0 else ([], [], [], [])
+            told = number, place, len(fresh[2]), 0
+            lists = [new + was[len(new):] for new, was in zip(fresh, lists)]
+        after = list(image)
+        for name, n, words in zip(PARTS[4:], lent[4:], lists):
+            assert len(words) == n
+            after[self.start[name]:self.start[name] + n] = words
+        given, expected = patches(old, image), patches(image, after)
+        r = [1, call, int(goes_on), count] + lent + [len(outer), len(log)] + list(told) + [len(given)]
+        assert len(r) == HEAD
+        r += packed(outer) + packed(log) + given + expected
+        assert len(r) <= ROOM and all(0 <= word <= NONE for word in r)
+        self.records.append(r)
+        self.image, self.told = after, told
+        self.tried += 1
+        return told
+
+    def write(self, program, name):
+        data = b"".join(struct.pack("<%dI" % (len(r) + 1), len(r), *r) for r in self.records)
+        assert len(data) < 1500000, len(data)
+        with open("crates/%s/stdin" % program, "wb") as out:
+            out.write(data)
+        with open("crates/%s/stdout" % program, "w") as out:
+            out.write("%s %d right %d wrong 0\n" % (name, self.tried, self.tried))
+        print(len(data), "bytes,", self.tried, "trials on", len(self.records) - self.tried, "bases")
+
+
+def spare(lists, *more):
+    """The lists with more words each, no two alike."""
+    return [words + [0xA5000000 + 65536 * k + i for i in range(n)] for k, (words, n) in enumerate(zip(lists, more))]
