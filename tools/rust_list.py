@@ -35,7 +35,8 @@ def floats(coloured):
 
 def cube(r):
     """What the Rust was given, as cube_vectors.py has it, and the words of the 24 vertices."""
-    s = dict(d=r.many(3), atlas=r.many(2), centre=r.many(3), padding=r.one(), coloured=r.one() == 1, colour=r.one(), alpha=r.one(), texture=r.many(18))
+    s = dict(d=r.many(3), atlas=r.many(2), centre=r.many(3), padding=r.one(), coloured=r.one() == 1, colour=r.one(), alpha=r.one())
+    s["texture"] = r.many(18)
     return s, r.many(24 * floats(s["coloured"]))
 
 

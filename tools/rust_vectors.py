@@ -4,9 +4,10 @@
 For each grid of oracle/vectors/rust_answers.bin two trials: `mesh_grid` by the algorithm the Rust used, into lists full of other words, and
 `update_mesh` with the Rust's log on what that left.
 
-Q, every word of the first Q places of vertices, triangles and links, and all six slots of each cell are the Rust's, in both trials: 01's rule in
-trials.py gives each of them too, and nothing is written unless the two agree. The Rust has no refusal, no `moved` and no lent room, so these are 01's
-alone: that the answer's number and place are 0, `moved`, the places past Q that are zero after a log, and that the words past those stay as they were.
+Q, every word of the first Q places of vertices, triangles and links, and all six slots of each cell are the Rust's, in both trials. The rule in
+trials.py gives each of them too, and nothing is written unless the two agree. The Rust has no refusal, no `moved` and no lent room, so these are
+document 01's alone: the answer's number and place, which are 0; `moved`; the places past Q that are zero after a log; that what lies further is as
+it was.
 Run it at the repository's root.
 """
 from mesh_vectors import floats
