@@ -3,12 +3,16 @@
 
 Every expected word is computed here, from document 01's sentences, with no code of the crates. A float operation is done
 twice, once on exact fractions rounded to the nearest f32 (ties to even) and once on doubles rounded to f32, which is
-exact for a single +, -, * or /; the two must agree. Run it at the repository's root.
+exact for a single +, -, * or /; the two must agree. The last cubes are those of oracle/vectors/rust_answers.bin: there the 24
+vertices are the Rust's, and nothing is written unless they are also the ones computed here; the two answers are 01's alone.
+Run it at the repository's root.
 """
 import math
 import random
 import struct
 from fractions import Fraction
+
+from rust_list import answers
 
 ONE, MAX, TINY, INF, NAN = 0x3F800000, 0x7F7FFFFF, 1, 0x7F800000, 0x7FC00000
 NEG = 0x80000000
@@ -284,6 +288,9 @@ for _ in range(40):
     try_moved(some_float(), rng.randint(0, 1023), some_float())
 
 if __name__ == "__main__":
+    # ---- the Rust's cubes
+    for s, vertices in answers()[0]:
+        assert try_cube(s, 300)[0] == vertices
     data = b"".join(struct.pack("<%dI" % len(r), *r) for r in records)
     with open("crates/cube_run/stdin", "wb") as out:
         out.write(data)

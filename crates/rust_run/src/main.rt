@@ -1,0 +1,6 @@
+// Replays the Rust's answers, as tools/rust_vectors.py wrote them.
+use trials::replay;
+
+fn main() {
+    replay(b"rust answers");
+}
