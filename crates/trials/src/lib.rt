@@ -14,6 +14,7 @@
 // the lengths can't.
 // A trial is wrong if it or its base does not keep this form.
 use admit::Scene;
+use answers::Refusal;
 use answers::Verdict;
 use checking::check_mesh;
 use floats::Triple;
@@ -37,8 +38,10 @@ ghost use lib.ListN.{length};
 // How many words come before the lists, in a base as in a trial.
 const HEAD: usize = 19;
 
-// Where the lengths of a base's lists start.
+// Where the lengths of a base's lists start, and in a trial how much is lent of them.
 const LENGTHS: usize = 11;
+
+const LENT: usize = 4;
 
 // Where each list of a base ends.
 struct Ends {
@@ -198,7 +201,7 @@ fn told_by_update(answer: Updated) -> Told {
             moved: count.moved,
         },
         Updated::NoRoom(entry, count) => Told {
-            number: 14,
+            number: Refusal::NoRoom.number(),
             place: entry,
             quads: count.quads,
             moved: count.moved,
@@ -260,14 +263,14 @@ fn are_whole_patches(patches: &[u32], room: usize) -> bool {
 fn is_lent_whole(trial: &[u32], base: &[u32]) -> bool
     requires { ⌜ (19 ≤ length (now trial)) × (19 ≤ length (now base)) ⌝ }
 {
-    (trial[4] <= base[11])
-        & (trial[5] <= base[12])
-        & (trial[6] <= base[13])
-        & (trial[7] <= base[14])
-        & (trial[8] <= base[15])
-        & (trial[9] <= base[16])
-        & (trial[10] <= base[17])
-        & (trial[11] <= base[18])
+    let mut list: usize = 0;
+    while list < 8 {
+        if base[LENGTHS + list] < trial[LENT + list] {
+            return false;
+        }
+        list += 1;
+    }
+    true
 }
 
 // Whether the lists fill the base, and none is cut short.
