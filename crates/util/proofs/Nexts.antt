@@ -1,7 +1,7 @@
 -- The coordinates of the cell after a cell. Assumes nothing.
-use mathlib.Core.Path.{_≡_, sym, ap, _∙_, subst}
+use mathlib.Core.Path.{_≡_, refl, sym, ap, _∙_, subst}
 use Prim.Native.Nat.{ℕ, _+_, _*_, _/_, _%_, _≤_, _<_}
-use native.Mathlib.Nat.{suc-mul, zero-mul, add-mul, div-add-mod'}
+use native.Mathlib.Nat.{suc-mul, zero-mul, add-mul, div-add-mod', zero-div, zero-mod}
 use native.Mathlib.Numerals.{add-one}
 use native.Mathlib.Omega.{arith}
 use lib.Arith.{digits-mod}
@@ -45,3 +45,9 @@ next s c k h e = subst (λ (v : Triple). Next s c v) (sym e) here
               let layers = ap (λ (n : ℕ). n * s .w) (times-next (yOf s c) (s .l)) ∙ add-mul (yOf s c * s .l) (s .l) (s .w) in
               at (k .sides .wide) (k .sides .long) (omega (arith, i .x, layers, ap (λ (n : ℕ). n * s .w) l, zero-mul (s .w)));
         }
+
+pub first : (s : Size) → record { x = 0; y = 0; z = 0 } ≡ coordinates s 0
+first s = rw (zero-div (s .w), zero-div (s .l), zero-mod (s .w), zero-mod (s .l)) refl
+
+pub together : (s : Size) (c : ℕ) {x y z : ℕ} → x ≡ xOf s c → y ≡ yOf s c → z ≡ zOf s c → record { x = x; y = y; z = z } ≡ coordinates s c
+together s c a b d = λ i. record { x = a i; y = b i; z = d i }

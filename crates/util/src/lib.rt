@@ -139,14 +139,7 @@ pub fn next_z(cell: Cell, x: u32, y: u32, z: u32, dims: Dimensions) -> u32
 }
 
 // The neighbour of a cell whose coordinates are known.
-pub fn neighbor_at(
-    cell: Cell,
-    x: u32,
-    y: u32,
-    z: u32,
-    face: Face,
-    dims: Dimensions,
-) -> Neighbor
+pub fn neighbor_at(cell: Cell, x: u32, y: u32, z: u32, face: Face, dims: Dimensions) -> Neighbor
     requires { ⌜ Within (sizeOf dims) × (cell .0 < cells (sizeOf dims)) × (cordsOf x y z ≡ coordinates (sizeOf dims) (cell .0)) ⌝ }
     ensures { λ r. ⌜ cellIn r ≡ neighbour (sizeOf dims) (cell .0) (number face) ⌝ }
 {
