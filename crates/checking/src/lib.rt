@@ -11,8 +11,9 @@ use culling::outer_set;
 use face::Cell;
 use face::NONE;
 use util::Dimensions;
-use util::next_cords;
-use util::three_d_cords;
+use util::next_x;
+use util::next_y;
+use util::next_z;
 use words::first_wrong_quad;
 ghost use mathlib.Core.Path.{_≡_};
 ghost use mathlib.Core.Bool.{cond};
@@ -78,16 +79,22 @@ fn lowest_wrong_face(
     ensures { λ r. ⌜ ((faces : List ℕ) → outer ≡ outerSet faces → r ≡ lowest (6 * cells (sizeOf dims)) (wrongSlot (worldOf (sizeOf dims) (now (kinds .entry)) (now (covers .entry))) faces (now (grid .entry)) (now (slots .entry)))) ⌝ }
 {
     let cells = dims.cell_count();
-    let mut at = three_d_cords(Cell(0), dims);
+    let mut x: u32 = 0;
+    let mut y: u32 = 0;
+    let mut z: u32 = 0;
     let mut cell: u32 = 0;
     while cell < cells {
         let here = cell as usize;
-        let drawn = drawn_set(dims, outer, grid, kinds, covers, Cell(cell), at);
+        let drawn = drawn_set(dims, outer, grid, kinds, covers, Cell(cell), x, y, z);
         let filled = filled_set(slots, here);
         if drawn != filled {
             return 6 * here + lowest_unlike(drawn, filled);
         }
-        at = next_cords(Cell(cell), at, dims);
+        let to_x = next_x(Cell(cell), x, y, z, dims);
+        let to_y = next_y(Cell(cell), x, y, z, dims);
+        z = next_z(Cell(cell), x, y, z, dims);
+        x = to_x;
+        y = to_y;
         cell += 1;
     }
     6 * cell as usize

@@ -2,7 +2,6 @@
 use face::Cell;
 use face::Face;
 use face::has;
-use util::Coordinates;
 use util::Dimensions;
 use util::Neighbor;
 use util::neighbor_at;
@@ -15,7 +14,7 @@ ghost use lib.ListN.{length, getD};
 ghost use Rattle.rules.specs.Cells.{setOf, coordinates};
 ghost use Rattle.rules.specs.Mesh.{drawn};
 ghost use Rattle.face.specs.Face.{number};
-ghost use Rattle.util.specs.Grid.{sizeOf, tripleOf};
+ghost use Rattle.util.specs.Grid.{sizeOf, cordsOf};
 ghost use Rattle.culling.specs.Culling.{worldOf, outerSet, shownAt, Laid};
 
 // The faces of the outer list.
@@ -40,13 +39,15 @@ fn is_shown(
     grid: &[u8],
     covers: &[u8],
     cell: Cell,
-    at: Coordinates,
+    x: u32,
+    y: u32,
+    z: u32,
     face: Face,
 ) -> bool
-    requires { ⌜ Laid (sizeOf dims) (now grid) (length (now covers)) (cell .0) × (tripleOf at ≡ coordinates (sizeOf dims) (cell .0)) ⌝ }
+    requires { ⌜ Laid (sizeOf dims) (now grid) (length (now covers)) (cell .0) × (cordsOf x y z ≡ coordinates (sizeOf dims) (cell .0)) ⌝ }
     ensures { λ r. ⌜ ((faces : List ℕ) → outer ≡ outerSet faces → r ≡ shownAt (sizeOf dims) (now (covers .entry)) faces (now (grid .entry)) (cell .0) (number face)) ⌝ }
 {
-    match neighbor_at(cell, at, face, dims) {
+    match neighbor_at(cell, x, y, z, face, dims) {
         Neighbor::At(beside) => {
             let next = beside.0 as usize;
             let code = wide(grid[next]);
@@ -64,14 +65,16 @@ fn shown_side(
     grid: &[u8],
     covers: &[u8],
     cell: Cell,
-    at: Coordinates,
+    x: u32,
+    y: u32,
+    z: u32,
     face: Face,
     bit: u8,
 ) -> u8
-    requires { ⌜ Laid (sizeOf dims) (now grid) (length (now covers)) (cell .0) × (tripleOf at ≡ coordinates (sizeOf dims) (cell .0)) ⌝ }
+    requires { ⌜ Laid (sizeOf dims) (now grid) (length (now covers)) (cell .0) × (cordsOf x y z ≡ coordinates (sizeOf dims) (cell .0)) ⌝ }
     ensures { λ r. ⌜ ((faces : List ℕ) → outer ≡ outerSet faces → r ≡ cond (shownAt (sizeOf dims) (now (covers .entry)) faces (now (grid .entry)) (cell .0) (number face)) bit 0) × (r ≤ bit) ⌝ }
 {
-    if is_shown(dims, outer, grid, covers, cell, at, face) {
+    if is_shown(dims, outer, grid, covers, cell, x, y, z, face) {
         bit
     } else {
         0
@@ -86,9 +89,11 @@ pub fn drawn_set(
     kinds: &[u8],
     covers: &[u8],
     cell: Cell,
-    at: Coordinates,
+    x: u32,
+    y: u32,
+    z: u32,
 ) -> u8
-    requires { ⌜ Laid (sizeOf dims) (now grid) (length (now covers)) (cell .0) × (tripleOf at ≡ coordinates (sizeOf dims) (cell .0)) × (length (now covers) ≡ length (now kinds)) ⌝ }
+    requires { ⌜ Laid (sizeOf dims) (now grid) (length (now covers)) (cell .0) × (cordsOf x y z ≡ coordinates (sizeOf dims) (cell .0)) × (length (now covers) ≡ length (now kinds)) ⌝ }
     ensures { λ r. ⌜ ((faces : List ℕ) → outer ≡ outerSet faces → r ≡ setOf (drawn (worldOf (sizeOf dims) (now (kinds .entry)) (now (covers .entry))) faces (now (grid .entry)) (cell .0))) ⌝ }
 {
     let here = cell.0 as usize;
@@ -96,10 +101,10 @@ pub fn drawn_set(
     if kinds[code] != 1 {
         return 0;
     }
-    shown_side(dims, outer, grid, covers, cell, at, Face::Top, 1)
-        + shown_side(dims, outer, grid, covers, cell, at, Face::Bottom, 2)
-        + shown_side(dims, outer, grid, covers, cell, at, Face::Right, 4)
-        + shown_side(dims, outer, grid, covers, cell, at, Face::Left, 8)
-        + shown_side(dims, outer, grid, covers, cell, at, Face::Back, 16)
-        + shown_side(dims, outer, grid, covers, cell, at, Face::Forward, 32)
+    shown_side(dims, outer, grid, covers, cell, x, y, z, Face::Top, 1)
+        + shown_side(dims, outer, grid, covers, cell, x, y, z, Face::Bottom, 2)
+        + shown_side(dims, outer, grid, covers, cell, x, y, z, Face::Right, 4)
+        + shown_side(dims, outer, grid, covers, cell, x, y, z, Face::Left, 8)
+        + shown_side(dims, outer, grid, covers, cell, x, y, z, Face::Back, 16)
+        + shown_side(dims, outer, grid, covers, cell, x, y, z, Face::Forward, 32)
 }

@@ -11,8 +11,9 @@ use face::Cell;
 use face::quads_of;
 use util::Coordinates;
 use util::Dimensions;
-use util::next_cords;
-use util::three_d_cords;
+use util::next_x;
+use util::next_y;
+use util::next_z;
 use voxel_mesh::floats_of;
 ghost use mathlib.Core.Path.{_≡_};
 ghost use Prim.Native.Nat.{_+_, _<_};
@@ -20,7 +21,7 @@ ghost use lib.ListN.{length};
 ghost use Rattle.rules.specs.Cells.{cells, quadsOf, coordinates};
 ghost use Rattle.rules.specs.Mesh.{quadAt, listsOf};
 ghost use Rattle.rules.specs.Calls.{world, span, meshGrid};
-ghost use Rattle.util.specs.Grid.{sizeOf, tripleOf};
+ghost use Rattle.util.specs.Grid.{sizeOf, cordsOf};
 ghost use Rattle.admit.specs.Scenes.{sceneOf};
 ghost use Rattle.culling.specs.Culling.{worldOf, Laid};
 ghost use Rattle.drawing.specs.Drawn.{facesDrawn, cellsDrawn, asked};
@@ -64,14 +65,16 @@ fn side_set(
     kinds: &[u8],
     covers: &[u8],
     cell: Cell,
-    at: Coordinates,
+    x: u32,
+    y: u32,
+    z: u32,
 ) -> u8
     requires { ⌜ Laid (sizeOf dims) (now grid) (length (now covers)) (cell .0) × (length (now covers) ≡ length (now kinds)) × (outer < 64)
-        × (tripleOf at ≡ coordinates (sizeOf dims) (cell .0)) ⌝ }
+        × (cordsOf x y z ≡ coordinates (sizeOf dims) (cell .0)) ⌝ }
     ensures { λ r. ⌜ r ≡ setAt culling (worldOf (sizeOf dims) (now (kinds .entry)) (now (covers .entry))) (facesOf outer) (now (grid .entry)) (cell .0) ⌝ }
 {
     if culling {
-        return drawn_set(dims, outer, grid, kinds, covers, cell, at);
+        return drawn_set(dims, outer, grid, kinds, covers, cell, x, y, z);
     }
     let here = cell.0 as usize;
     let code = wide(grid[here]);
@@ -92,12 +95,18 @@ fn count_quads(
 {
     let end = dims.cell_count();
     let mut n: usize = 0;
-    let mut at = three_d_cords(Cell(0), dims);
+    let mut x: u32 = 0;
+    let mut y: u32 = 0;
+    let mut z: u32 = 0;
     let mut c: u32 = 0;
     while c < end {
-        let set = side_set(dims, culling, outer, grid, kinds, covers, Cell(c), at);
+        let set = side_set(dims, culling, outer, grid, kinds, covers, Cell(c), x, y, z);
         n += quads_of(set) as usize;
-        at = next_cords(Cell(c), at, dims);
+        let to_x = next_x(Cell(c), x, y, z, dims);
+        let to_y = next_y(Cell(c), x, y, z, dims);
+        z = next_z(Cell(c), x, y, z, dims);
+        x = to_x;
+        y = to_y;
         c += 1;
     }
     n
@@ -117,12 +126,14 @@ fn draw_sides(
     covers: &[u8],
     cubes: &[u32],
     cell: Cell,
-    at: Coordinates,
+    x: u32,
+    y: u32,
+    z: u32,
     base: usize,
 ) -> usize
     requires { ⌜ Meshable (sceneOf scene (now kinds) (now covers) (now cubes)) culling outer (now grid)
         (listsOf (now vertices) (now triangles) (now links) (now slots)) (cell .0) base
-        × (tripleOf at ≡ coordinates (sizeOf (scene .dims)) (cell .0)) ⌝ }
+        × (cordsOf x y z ≡ coordinates (sizeOf (scene .dims)) (cell .0)) ⌝ }
     ensures { λ r. ⌜ (r ≡ base + quadsOf (setAt culling (world (sceneOf scene (now (kinds .entry)) (now (covers .entry)) (now (cubes .entry)))) (facesOf outer) (now (grid .entry)) (cell .0)))
         × (listsOf (now (vertices .exit)) (now (triangles .exit)) (now (links .exit)) (now (slots .exit))
         ≡ facesDrawn (span (sceneOf scene (now (kinds .entry)) (now (covers .entry)) (now (cubes .entry))))
@@ -131,7 +142,7 @@ fn draw_sides(
         (listsOf (now (vertices .entry)) (now (triangles .entry)) (now (links .entry)) (now (slots .entry)))) ⌝ }
 {
     let dims = scene.dims;
-    let set = side_set(dims, culling, outer, grid, kinds, covers, cell, at);
+    let set = side_set(dims, culling, outer, grid, kinds, covers, cell, x, y, z);
     let floats = floats_of(scene.coloured);
     let here = cell.0 as usize;
     let words = 24 * floats;
@@ -145,7 +156,7 @@ fn draw_sides(
         &cubes[start..end],
         floats,
         cell,
-        at,
+        Coordinates { x, y, z },
         scene.d,
         set,
         base,
@@ -178,7 +189,9 @@ fn draw_cells(
     let dims = scene.dims;
     let end = dims.cell_count();
     let mut base: usize = 0;
-    let mut at = three_d_cords(Cell(0), dims);
+    let mut x: u32 = 0;
+    let mut y: u32 = 0;
+    let mut z: u32 = 0;
     let mut c: u32 = 0;
     while c < end {
         base = draw_sides(
@@ -194,10 +207,16 @@ fn draw_cells(
             covers,
             cubes,
             Cell(c),
-            at,
+            x,
+            y,
+            z,
             base,
         );
-        at = next_cords(Cell(c), at, dims);
+        let to_x = next_x(Cell(c), x, y, z, dims);
+        let to_y = next_y(Cell(c), x, y, z, dims);
+        z = next_z(Cell(c), x, y, z, dims);
+        x = to_x;
+        y = to_y;
         c += 1;
     }
 }

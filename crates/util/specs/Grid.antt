@@ -13,6 +13,9 @@ sizeOf dims = record { w = dims .width; h = dims .height; l = dims .length }
 abbrev pub tripleOf : Coordinates → Triple
 tripleOf cords = record { x = cords .x; y = cords .y; z = cords .z }
 
+abbrev pub cordsOf : ℕ → ℕ → ℕ → Triple
+cordsOf x y z = record { x = x; y = y; z = z }
+
 abbrev pub cellIn : Neighbor → Option ℕ
 cellIn (At cell) = some (cell .0)
 cellIn Nothing = none

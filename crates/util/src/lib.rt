@@ -5,10 +5,10 @@ ghost use mathlib.Core.Path.{_≡_};
 ghost use mathlib.Core.Bool.{not, _&&_};
 ghost use Prim.Native.Nat.{_+_, _-_, _*_, _^_, _≤_, _<_};
 ghost use lib.Dec.{leb, ltb};
-ghost use Rattle.rules.specs.Cells.{cells, cellAt, coordinates, neighbour, onlyIf};
+ghost use Rattle.rules.specs.Cells.{cells, cellAt, xOf, yOf, zOf, coordinates, neighbour, onlyIf};
 ghost use Rattle.rules.specs.Answers.{badLimits, outOf};
 ghost use Rattle.face.specs.Face.{number};
-ghost use Rattle.util.specs.Grid.{sizeOf, tripleOf, cellIn, Sides, Within};
+ghost use Rattle.util.specs.Grid.{sizeOf, tripleOf, cordsOf, cellIn, Sides, Within};
 
 // Width goes along x, height along y and length along z.
 pub struct Dimensions {
@@ -110,46 +110,48 @@ fn behind(cell: u32, step: u32, at: u32) -> Neighbor
     }
 }
 
-// The coordinates of the cell after a cell, from its own.
-pub fn next_cords(cell: Cell, cords: Coordinates, dims: Dimensions) -> Coordinates
-    requires { ⌜ Within (sizeOf dims) × (cell .0 < cells (sizeOf dims)) × (tripleOf cords ≡ coordinates (sizeOf dims) (cell .0)) ⌝ }
-    ensures { λ r. ⌜ tripleOf r ≡ coordinates (sizeOf dims) (cell .0 + 1) ⌝ }
+// The coordinates of the cell after a cell, each from the cell's own.
+pub fn next_x(cell: Cell, x: u32, y: u32, z: u32, dims: Dimensions) -> u32
+    requires { ⌜ Within (sizeOf dims) × (cell .0 < cells (sizeOf dims)) × (cordsOf x y z ≡ coordinates (sizeOf dims) (cell .0)) ⌝ }
+    ensures { λ r. ⌜ r ≡ xOf (sizeOf dims) (cell .0 + 1) ⌝ }
 {
-    if cords.x + 1 < dims.width {
-        return Coordinates {
-            x: cords.x + 1,
-            y: cords.y,
-            z: cords.z,
-        };
+    if x + 1 < dims.width { x + 1 } else { 0 }
+}
+
+pub fn next_y(cell: Cell, x: u32, y: u32, z: u32, dims: Dimensions) -> u32
+    requires { ⌜ Within (sizeOf dims) × (cell .0 < cells (sizeOf dims)) × (cordsOf x y z ≡ coordinates (sizeOf dims) (cell .0)) ⌝ }
+    ensures { λ r. ⌜ r ≡ yOf (sizeOf dims) (cell .0 + 1) ⌝ }
+{
+    if x + 1 < dims.width {
+        return y;
     }
-    if cords.z + 1 < dims.length {
-        return Coordinates {
-            x: 0,
-            y: cords.y,
-            z: cords.z + 1,
-        };
+    if z + 1 < dims.length { y } else { y + 1 }
+}
+
+pub fn next_z(cell: Cell, x: u32, y: u32, z: u32, dims: Dimensions) -> u32
+    requires { ⌜ Within (sizeOf dims) × (cell .0 < cells (sizeOf dims)) × (cordsOf x y z ≡ coordinates (sizeOf dims) (cell .0)) ⌝ }
+    ensures { λ r. ⌜ r ≡ zOf (sizeOf dims) (cell .0 + 1) ⌝ }
+{
+    if x + 1 < dims.width {
+        return z;
     }
-    Coordinates {
-        x: 0,
-        y: cords.y + 1,
-        z: 0,
-    }
+    if z + 1 < dims.length { z + 1 } else { 0 }
 }
 
 // The neighbour of a cell whose coordinates are known.
-pub fn neighbor_at(cell: Cell, cords: Coordinates, face: Face, dims: Dimensions) -> Neighbor
-    requires { ⌜ Within (sizeOf dims) × (cell .0 < cells (sizeOf dims)) × (tripleOf cords ≡ coordinates (sizeOf dims) (cell .0)) ⌝ }
+pub fn neighbor_at(cell: Cell, x: u32, y: u32, z: u32, face: Face, dims: Dimensions) -> Neighbor
+    requires { ⌜ Within (sizeOf dims) × (cell .0 < cells (sizeOf dims)) × (cordsOf x y z ≡ coordinates (sizeOf dims) (cell .0)) ⌝ }
     ensures { λ r. ⌜ cellIn r ≡ neighbour (sizeOf dims) (cell .0) (number face) ⌝ }
 {
     let row = dims.width;
     let layer = dims.length * row;
     match face {
-        Face::Top => ahead(cell.0, layer, cords.y, dims.height),
-        Face::Bottom => behind(cell.0, layer, cords.y),
-        Face::Right => ahead(cell.0, 1, cords.x, dims.width),
-        Face::Left => behind(cell.0, 1, cords.x),
-        Face::Back => ahead(cell.0, row, cords.z, dims.length),
-        Face::Forward => behind(cell.0, row, cords.z),
+        Face::Top => ahead(cell.0, layer, y, dims.height),
+        Face::Bottom => behind(cell.0, layer, y),
+        Face::Right => ahead(cell.0, 1, x, dims.width),
+        Face::Left => behind(cell.0, 1, x),
+        Face::Back => ahead(cell.0, row, z, dims.length),
+        Face::Forward => behind(cell.0, row, z),
     }
 }
 
@@ -157,7 +159,8 @@ pub fn get_neighbor(cell: Cell, face: Face, dims: Dimensions) -> Neighbor
     requires { ⌜ Within (sizeOf dims) × (cell .0 < cells (sizeOf dims)) ⌝ }
     ensures { λ r. ⌜ cellIn r ≡ neighbour (sizeOf dims) (cell .0) (number face) ⌝ }
 {
-    neighbor_at(cell, three_d_cords(cell, dims), face, dims)
+    let cords = three_d_cords(cell, dims);
+    neighbor_at(cell, cords.x, cords.y, cords.z, face, dims)
 }
 
 pub fn wide(code: u8) -> usize

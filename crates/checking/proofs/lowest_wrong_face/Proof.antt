@@ -2,13 +2,14 @@
 use mathlib.Core.Path.{_≡_, ap, _∙_}
 use mathlib.Core.Bool.{Bool}
 use mathlib.Core.List.{List}
-use Prim.Native.Nat.{ℕ, _*_, _≤_, _<_, _-_}
+use Prim.Native.Nat.{ℕ, _+_, _*_, _≤_, _<_, _-_}
 use denote.Ref.{now}
 use Rattle.rules.specs.Lists.{lowest}
 use Rattle.rules.specs.Cells.{cells, keyOf, has, coordinates}
 use Rattle.rules.specs.Mesh.{World, drawn}
 use Rattle.rules.proofs.ListLaws.{lowestFrom-le}
-use Rattle.util.specs.Grid.{sizeOf, tripleOf}
+use Rattle.util.specs.Grid.{sizeOf, Within, cordsOf}
+use Rattle.util.proofs.Nexts.{first, together}
 use Rattle.culling.specs.Culling.{worldOf, outerSet}
 use Rattle.checking.specs.Faces.{isFilled, unlike, wrongSlot}
 use Rattle.rules.proofs.Searches.{Searched, searched, ended}
@@ -19,12 +20,12 @@ use Rattle.checking.proofs.lowest_wrong_face.Statement.{statement}
 use Rattle.checking.proofs.lowest_wrong_face.Tie as tie
 
 abbrev Inv-loop : tie.InvT-loop
-Inv-loop dims outer grid kinds covers slots cells at₀ cell₀ at cell =
+Inv-loop dims outer grid kinds covers slots cells x₀ y₀ z₀ cell₀ x y z cell =
     (cell ≤ cells) × ((faces : List ℕ) → outer ≡ outerSet faces → Searched (6 * cells) (wrongSlot (worldOf (sizeOf dims) kinds covers) faces grid slots) (6 * cell))
-    × (tripleOf at ≡ coordinates (sizeOf dims) cell)
+    × (cordsOf x y z ≡ coordinates (sizeOf dims) cell)
 
 abbrev μ-loop : tie.MeasureT-loop
-μ-loop dims outer grid kinds covers slots cells at₀ cell₀ at cell = cells - cell
+μ-loop dims outer grid kinds covers slots cells x₀ y₀ z₀ cell₀ x y z cell = cells - cell
 
 abbrev world : tie.Start Inv-loop μ-loop → World
 world c = worldOf (sizeOf (c .args .dims)) (now (c .args .kinds)) (now (c .args .covers))
@@ -36,7 +37,7 @@ abbrev start : tie.After-cell-count Inv-loop μ-loop → tie.Start Inv-loop μ-l
 start c = c .before .before .before .before .before
 
 abbrev counted : tie.At-loop Inv-loop μ-loop → tie.After-cell-count Inv-loop μ-loop
-counted c = c .before .before
+counted c = c .before
 
 few : (c : tie.After-cell-count Inv-loop μ-loop) → c .cell-count .result ≤ 1048576
 few c = omega (arith, c .cell-count .ensures, start c .pre .0 .within .most)
@@ -52,11 +53,8 @@ by-rule c faces = ap (λ (n : ℕ). lowest (6 * n) (bad (start c) faces)) (c .ce
 cell-count-requires : tie.Need-cell-count-requires Inv-loop μ-loop
 cell-count-requires c κs = c .before .before .before .before .pre .0 .within .sides
 
-three-d-cords-requires : tie.Need-three-d-cords-requires Inv-loop μ-loop
-three-d-cords-requires c κs = start c .pre .0 .within
-
 loop-holds : tie.Need-loop-holds Inv-loop μ-loop
-loop-holds c = (omega arith, λ faces e. searched _ _, c .three-d-cords .ensures)
+loop-holds c = (omega arith, λ faces e. searched _ _, first (sizeOf (start c .args .dims)))
 
 cast-here : tie.Need-cast-here Inv-loop μ-loop
 cast-here c = search needs
@@ -95,10 +93,21 @@ returns c =
     (c .before .before .before .drawn-set .ensures faces e) (c .before .before .filled-set .ensures) (omega arith) (looped .loop .inv .1 faces e) (λ same. omega (arith, c .before .if1 .taken))
     ∙ by-rule all faces)
 
-next-cords-requires : tie.Need-next-cords-requires Inv-loop μ-loop
-next-cords-requires c κs =
-    let test = c .before .before .before in
-    (start (counted (test .before)) .pre .0 .within, inside test, test .before .loop .inv .2)
+-- the cell at hand is in the grid, and its coordinates are known
+standing : (c : tie.In-loop Inv-loop μ-loop) →
+    let dims = start (counted (c .before)) .args .dims in
+    let l = c .before .loop in
+    Within (sizeOf dims) × (l .cell < cells (sizeOf dims)) × (cordsOf (l .x) (l .y) (l .z) ≡ coordinates (sizeOf dims) (l .cell))
+standing c = (start (counted (c .before)) .pre .0 .within, inside c, c .before .loop .inv .2)
+
+next-x-requires : tie.Need-next-x-requires Inv-loop μ-loop
+next-x-requires c κs = standing (c .before .before .before)
+
+next-y-requires : tie.Need-next-y-requires Inv-loop μ-loop
+next-y-requires c κs = standing (c .before .before .before .before)
+
+next-z-requires : tie.Need-next-z-requires Inv-loop μ-loop
+next-z-requires c κs = standing (c .before .before .before .before .before)
 
 add-cell : tie.Need-add-cell Inv-loop μ-loop
 add-cell c = search needs
@@ -109,7 +118,7 @@ loop-less c = search needs
 loop-again : tie.Need-loop-again Inv-loop μ-loop
 loop-again c = (
   omega arith,
-  λ faces e. let alike = c .before in
+  λ faces e. let alike = c .before .before .before in
       let looped = alike .before .before .before .before in
       let all = counted looped in
       let s = start all in
@@ -119,7 +128,7 @@ loop-again c = (
       all-like (6 * all .cell-count .result) cell (bad s faces) (drawn (world s) faces (now (s .args .grid)) cell) (λ f. isFilled slots (keyOf cell f))
       (alike .before .before .drawn-set .result) (alike .before .filled-set .result) (key-slot (world s) faces (now (s .args .grid)) slots cell)
       (alike .before .before .drawn-set .ensures faces e) (alike .before .filled-set .ensures) (omega arith) (looped .loop .inv .1 faces e) (alike .if1 .left),
-  c .next-cords .ensures,
+  (let looped = c .before .before .before .before .before .before .before in together (sizeOf (start (counted looped) .args .dims)) (looped .loop .cell + 1)) (c .before .before .next-x .ensures) (c .before .next-y .ensures) (c .next-z .ensures),
 )
 
 cast-result : tie.Need-cast-result Inv-loop μ-loop
@@ -138,7 +147,6 @@ lowest-wrong-face-spec =
     Inv-loop
     μ-loop
     cell-count-requires
-    three-d-cords-requires
     loop-holds
     cast-here
     drawn-set-requires
@@ -147,7 +155,9 @@ lowest-wrong-face-spec =
     lowest-unlike-requires
     add-result
     returns
-    next-cords-requires
+    next-x-requires
+    next-y-requires
+    next-z-requires
     add-cell
     loop-less
     loop-again
