@@ -1,7 +1,7 @@
--- A cell's quads have their cube and their room, and the cells are drawn one after the other. Assumes nothing.
-use mathlib.Core.Path.{_≡_, refl, sym, ap, subst}
+-- A cell that asks for quads has its cube, and a row its room. Assumes nothing.
+use mathlib.Core.Path.{_≡_, refl, sym, ap, _∙_}
 use mathlib.Core.Bool.{Bool, true, false}
-use mathlib.Core.List.{List}
+use mathlib.Core.List.{List, []}
 use Prim.Native.Nat.{ℕ, suc, _+_, _-_, _*_, _≤_, _<_}
 use native.Mathlib.Omega.{arith}
 use lib.ListN.{length, getD}
@@ -17,17 +17,19 @@ use Rattle.rules.proofs.Neighbours.{inside-of}
 use Rattle.rules.proofs.Demands.{room-for, words-sized}
 use Rattle.voxel_mesh.proofs.Shapes.{few, row-within}
 use Rattle.types.proofs.Known.{cube-placed}
-use Rattle.admit.specs.Scenes.{Typed}
+use Rattle.admit.specs.declared.Scene as declared
+use Rattle.admit.specs.Scenes.{Typed, sceneOf}
 use Rattle.culling.specs.Culling.{worldOf}
 use Rattle.books.proofs.Books.{within}
 use Rattle.culling.proofs.Sides.{setOf-cong, drawn-by}
 use Rattle.vav.proofs.Laws.{length-part}
-use Rattle.drawing.specs.Drawn.{facesDrawn, cellsDrawn, asked}
-use Rattle.quads.specs.Quads.{quadOf, Drawable}
-use Rattle.drawing.specs.Rooms.{Ready}
-use Rattle.drawing.proofs.Turns.{Kept, kept-none, kept-then, kept-faces}
-use Rattle.meshem.specs.Fresh.{setAt, facesOf, Whole, Roomy, Meshable}
-use Rattle.meshem.proofs.Sets.{set-below, quads-le, asked-more}
+use Rattle.drawing.specs.Drawn.{cellsDrawn, asked}
+use Rattle.quads.specs.Quads.{Drawable}
+use Rattle.drawing.specs.Rooms.{Room}
+use Rattle.drawing.proofs.Turns.{Kept, room-less, room-kept}
+use Rattle.meshem.specs.Fresh.{setAt, facesOf, Whole, Roomy, Bare, Starts, RowOf, setsFrom, RowReady}
+use Rattle.meshem.proofs.Sets.{set-below}
+use Rattle.meshem.proofs.Rows.{row-end, asked-le, asked-few, asked-moved, asked-on, kept-cells, bare-cells, drawn-like, drawn-on}
 
 -- the sets ask nothing of the words of quads
 pub set-world : (S : Scene) (culling : Bool) (outer g : List ℕ) (c : ℕ)
@@ -88,85 +90,54 @@ module _ (S : Scene) (culling : Bool) (outer : ℕ) (g : List ℕ) where
         not-refused : getD (S .types .kinds) (typeAt g c) 0 ≡ 1 → notACube (S .types) (S .centre) (typeAt g c) ≡ false
         not-refused k = rw (eq-eqb (getD (S .types .kinds) (typeAt g c) 0) 1 k, types .cube (typeAt g c) type-listed k)
 
-  -- what a cell asks for is there
-  pub ready : {B : Lists} {c base : ℕ} → Meshable S culling outer g B c base
-      → Ready (cubeOf (S .types) (typeAt g c)) (floats (S .types)) (coordinates (S .size) c) (S .d) (setIn c) base c B
-  ready {B} {c} {base} m =
-      let r = m .roomy in
-      let q = quads-le (setIn c) in
-      let f = room-for S B (base + quadsOf (setIn c)) (m .fits) in
-      let s = r .grid .within .most in
-      let l = m .low in
-      let i = m .inside in
-      let b = r .slots in
-      record {
-        few = set-below culling (world S) (facesOf outer) g c;
-        drawable = drawable (r .grid) (r .types) c (m .inside);
-        room = record { vertices = f .vertices; triangles = f .triangles; links = f .links; numbers = omega arith };
-        slotted = record { fits = omega arith; six = omega arith };
-      }
+-- ---- a row of an accepted scene, when the rows before it are drawn
+module _ (scene : declared.Scene) (kinds covers cubes : List ℕ) (culling : Bool) (outer : ℕ) (g : List ℕ) where
+  abbrev S : Scene
+  S = sceneOf scene kinds covers cubes
 
-  -- the same, and what is drawn, of a cube, its words a vertex, its place and its side set by other names
-  module _ (c : ℕ) {cube : List ℕ} {n : ℕ} {a : Triple} {set : ℕ} (cube-is : cube ≡ cubeOf (S .types) (typeAt g c)) (n-is : n ≡ floats (S .types))
-      (a-is : a ≡ coordinates (S .size) c) (set-is : set ≡ setIn c) where
-    pub ready-by : {B : Lists} {base : ℕ} → Meshable S culling outer g B c base → Ready cube n a (S .d) set base c B
-    ready-by m = rw (cube-is, n-is, a-is, set-is) (ready m)
+  abbrev sets : ℕ → ℕ
+  sets = setIn S culling outer g
 
-    pub faces-by : (B : Lists) (base : ℕ) → facesDrawn (4 * n) set (quadOf cube n (S .d) a c) base c 0 6 B
-        ≡ facesDrawn (span S) (setIn c) (quadAt (world S) g c) base c 0 6 B
-    faces-by B base = rw (cube-is, n-is, a-is, set-is)
+  -- the lists when the cells before c are drawn
+  abbrev pub before : ℕ → Lists → Lists
+  before c B = cellsDrawn (span S) sets (quadAt (world S) g) 0 0 c B
 
-  -- ---- the cells, one after the other
-  pub record Turned (c base : ℕ) (B₀ B : Lists) : Type 0 where
-    pub whole : cellsDrawn (span S) setIn (quadAt (world S) g) base c (cells (S .size) - c) B
-        ≡ cellsDrawn (span S) setIn (quadAt (world S) g) 0 0 (cells (S .size)) B₀
-    pub low : base ≤ 6 * c
-    pub left : base + asked setIn c (cells (S .size) - c) ≡ asked setIn 0 (cells (S .size))
-    pub kept : Kept B₀ B
+  module _ {B : Lists} (r : Roomy S culling outer g B) where
+    room-to : {n : ℕ} → n ≤ cells (S .size) → Room (span S) (asked sets 0 n) B
+    room-to {n} h =
+        let f = room-for S B (asked sets 0 n) (omega (arith, asked-le sets n (cells (S .size)) 0 h, r .quads)) in
+        record { vertices = f .vertices; triangles = f .triangles; links = f .links; numbers = omega (arith, asked-few sets n 0, r .grid .within .most) }
 
-  pub turned : (B : Lists) → Turned 0 0 B B
-  turned B =
-      let z : cells (S .size) - 0 ≡ cells (S .size) = omega arith in
-      record {
-        whole = ap (λ (k : ℕ). cellsDrawn (span S) setIn (quadAt (world S) g) 0 0 k B) z;
-        low = omega arith;
-        left = let e = ap (asked setIn 0) z in omega arith;
-        kept = kept-none B;
-      }
+    pub kept-to : {c : ℕ} → c ≤ cells (S .size) → Kept B (before c B)
+    kept-to {c} h = kept-cells (span S) (quadAt (world S) g) sets (λ c f. words-sized S (typeAt g c) f c) c 0 0 B (room-less (omega arith) (room-to h))
 
-  same-room : {B₀ B : Lists} → Kept B₀ B → room S B ≡ room S B₀
-  unfolding roomOf
-  same-room k = rw (k .vertices, k .triangles, k .links)
+    module _ (bare : (c : ℕ) → c < cells (S .size) → Bare c B) {c y z : ℕ} (starts : Starts (S .size) c y z) (list : List ℕ) (row : RowOf sets c (S .size .w) list) where
+      end : c + S .size .w ≤ cells (S .size)
+      end = row-end (S .size) (r .grid .within) starts
 
-  pub meshable : {c base : ℕ} {B₀ B : Lists} → Roomy S culling outer g B₀ → c < cells (S .size) → Turned c base B₀ B → Meshable S culling outer g B c base
-  meshable {c} {base} {B₀} {B} r h t =
-      let k = t .kept in
-      let e = same-room k in
-      let m = asked-more setIn (cells (S .size)) c h in
-      record {
-        roomy = record { grid = r .grid; types = r .types; few = r .few; slots = omega (arith, k .slots, r .slots); quads = omega (arith, r .quads) };
-        inside = h;
-        low = t .low;
-        fits = omega (arith, r .quads, t .left);
-      }
+      pub asked-is : asked (setsFrom c list) c (S .size .w) ≡ asked sets c (S .size .w)
+      asked-is = asked-moved (setsFrom c list) sets (S .size .w) c c (λ x h. ap (λ (k : ℕ). getD list k 0) (omega arith) ∙ row x h)
 
-  pub turn : {c base base′ : ℕ} {B₀ B B′ : Lists} → Roomy S culling outer g B₀ → c < cells (S .size) → Turned c base B₀ B → base′ ≡ base + quadsOf (setIn c)
-      → B′ ≡ facesDrawn (span S) (setIn c) (quadAt (world S) g c) base c 0 6 B → Turned (c + 1) base′ B₀ B′
-  unfolding cellsDrawn
-  turn {c} {base} {base′} {B₀} {B} {B′} r h t p d =
-      let a : cells (S .size) - c ≡ suc (cells (S .size) - (c + 1)) = omega arith in
-      let b : c + 1 ≡ suc c = omega arith in
-      let m = asked-more setIn (cells (S .size)) c h in
-      let q = quads-le (setIn c) in
-      let rd = ready (meshable r h t) in
-      record {
-        whole = rw (p, d, b) (rw (a, b) at (t .whole));
-        low = omega (arith, t .low);
-        left = omega (arith, t .left);
-        kept = kept-then (t .kept) (subst (Kept B) (sym d)
-            (kept-faces (span S) (setIn c) (quadAt (world S) g c) base c (λ f. words-sized S (typeAt g c) f c) 6 0 B (omega arith) (rd .room)));
-      }
+      pub row-ready : S .size .w ≤ length list → RowReady (sceneOf scene [] [] cubes) g list c (asked sets 0 c) (before c B)
+      row-ready wide =
+          let k = kept-to {c = c} (omega (arith, end)) in
+          let a = asked-on sets c (S .size .w) in
+          record {
+            within = r .grid .within;
+            whole = r .grid .whole;
+            wide = wide;
+            few = λ x h. rw (row x h) (set-below culling (world S) (facesOf outer) g (c + x));
+            cube = λ x h. cube-part S culling outer g (r .grid) (r .types) (c + x) (omega (arith, end));
+            drawable = λ x h q. drawable S culling outer g (r .grid) (r .types) (c + x) (omega (arith, end)) (rw (row x h) at q);
+            room = room-kept k (room-less (omega (arith, asked-is)) (room-to end));
+            slots = omega (arith, k .slots, r .slots, end);
+            bare = λ x h. bare-cells (span S) (quadAt (world S) g) sets (λ c f. refl) c 0 0 (c + x) B (omega arith) (bare (c + x) (omega (arith, end)));
+          }
 
-  pub ended : {c base : ℕ} {B₀ B : Lists} → cells (S .size) ≤ c → Turned c base B₀ B → B ≡ cellsDrawn (span S) setIn (quadAt (world S) g) 0 0 (cells (S .size)) B₀
-  unfolding cellsDrawn
-  ended {c} h t = let z : cells (S .size) - c ≡ 0 = omega arith in rw z at (t .whole)
+      pub row-drawn : {A : Lists} → A ≡ cellsDrawn (span S) (setsFrom c list) (quadAt (world S) g) (asked sets 0 c) c (S .size .w) (before c B) → A ≡ before (c + S .size .w) B
+      row-drawn e =
+          e ∙ drawn-like (span S) (quadAt (world S) g) (S .size .w) (asked sets 0 c) c (setsFrom c list) sets (λ k l h. at-cell k l h) (before c B)
+          ∙ drawn-on (span S) (quadAt (world S) g) sets c (S .size .w) B
+        where
+          at-cell : (k : ℕ) → c ≤ k → k < c + S .size .w → setsFrom c list k ≡ sets k
+          at-cell k l h = row (k - c) (omega arith) ∙ ap sets (omega arith)

@@ -1,14 +1,18 @@
 -- The side sets of a fresh mesh, by both algorithms, and what drawing them asks for. Definitions only.
-use Prim.Native.Nat.{ℕ, zero, suc, _+_, _*_, _≤_, _<_}
+use Prim.Native.Nat.{ℕ, zero, suc, _+_, _-_, _*_, _≤_, _<_}
 use mathlib.Core.Path.{_≡_}
 use mathlib.Core.Bool.{Bool, cond}
 use mathlib.Core.List.{List}
 use lib.ListN.{length, getD}
 use Rattle.rules.specs.Lists.{each, only}
-use Rattle.rules.specs.Cells.{Size, cells, has, setOf, quadsOf}
-use Rattle.rules.specs.Mesh.{World, Lists, typeAt, isNormalCube, drawn}
+use Rattle.rules.specs.Cells.{Size, cells, cellAt, coordinates, keyOf, has, setOf, quadsOf}
+use Rattle.rules.specs.Types.{floats, cubeOf}
+use Rattle.rules.specs.Mesh.{World, Lists, NONE, typeAt, isNormalCube, drawn}
 use Rattle.rules.specs.Calls.{Scene, world, span, faces, room}
-use Rattle.util.specs.Grid.{Within}
+use Rattle.util.specs.Grid.{Within, cordsOf}
+use Rattle.culling.specs.Culling.{worldOf}
+use Rattle.quads.specs.Quads.{Drawable}
+use Rattle.drawing.specs.Rooms.{Room, Ready}
 use Rattle.admit.specs.Scenes.{Typed}
 use Rattle.drawing.specs.Drawn.{asked}
 
@@ -23,11 +27,43 @@ setAt culling W outer g c = setOf (sideDrawn culling W outer g c)
 abbrev pub facesOf : ℕ → List ℕ
 facesOf set = each 6 0 (λ f. only (has set f) f)
 
--- a whole grid whose codes are types
+-- STAND-IN for culling and drawing
 pub record Whole (size : Size) (g : List ℕ) (types : ℕ) : Type 0 where
   pub within : Within size
   pub whole : length g ≡ cells size
   pub typed : (k : ℕ) → k < length g → getD g k 0 < types
+
+abbrev pub RowShown : Size → List ℕ → List ℕ → List ℕ → List ℕ → ℕ → ℕ → List ℕ → Type 0
+RowShown size kinds covers faces g y z sets =
+    (x : ℕ) → x < size .w → getD sets x 0 ≡ setOf (drawn (worldOf size kinds covers) faces g (cellAt size x y z))
+
+pub record Plainly (kinds covers : List ℕ) (clear full : ℕ) : Type 0 where
+  pub clears : (t : ℕ) → t < clear → getD covers t 0 ≡ 0
+  pub fulls : (t : ℕ) → full ≤ t → t < length kinds → getD covers t 0 ≡ 63
+
+abbrev pub Bare : ℕ → Lists → Type 0
+Bare c B = (f : ℕ) → f < 6 → getD (B .slots) (keyOf c f) NONE ≡ NONE
+
+-- END
+
+-- the row of y and z starts at cell c
+pub record Starts (size : Size) (c y z : ℕ) : Type 0 where
+  pub inside : c < cells size
+  pub cords : cordsOf 0 y z ≡ coordinates size c
+
+-- a whole grid, and what is known of its types
+pub record Rows (size : Size) (g kinds covers : List ℕ) (clear full : ℕ) : Type 0 where
+  pub grid : Whole size g (length covers)
+  pub both : length covers ≡ length kinds
+  pub plain : Plainly kinds covers clear full
+
+-- a list holds what is asked of n cells from c on
+abbrev pub RowOf : (ℕ → ℕ) → ℕ → ℕ → List ℕ → Type 0
+RowOf sets c n list = (x : ℕ) → x < n → getD list x 0 ≡ sets (c + x)
+
+-- the side sets of the cells from c on, by a list
+abbrev pub setsFrom : ℕ → List ℕ → ℕ → ℕ
+setsFrom c list k = getD list (k - c) 0
 
 -- an accepted scene and grid, whose quads have room
 pub record Roomy (S : Scene) (culling : Bool) (outer : ℕ) (g : List ℕ) (B : Lists) : Type 0 where
@@ -37,9 +73,22 @@ pub record Roomy (S : Scene) (culling : Bool) (outer : ℕ) (g : List ℕ) (B : 
   pub slots : faces S ≤ length (B .slots)
   pub quads : asked (setAt culling (world S) (facesOf outer) g) 0 (cells (S .size)) ≤ room S B
 
--- and a cell of it, whose quads go to `base` and on
-pub record Meshable (S : Scene) (culling : Bool) (outer : ℕ) (g : List ℕ) (B : Lists) (c base : ℕ) : Type 0 where
-  pub roomy : Roomy S culling outer g B
-  pub inside : c < cells (S .size)
-  pub low : base ≤ 6 * c
-  pub fits : base + quadsOf (setAt culling (world S) (facesOf outer) g c) ≤ room S B
+-- a cell, its cube in the registry and its slots bare, whose quads go to `base` and on
+pub record CellReady (S : Scene) (g : List ℕ) (set c base : ℕ) (B : Lists) : Type 0 where
+  pub inside : c < length g
+  pub cube : 24 * floats (S .types) * getD g c 0 + 24 * floats (S .types) ≤ length (S .types .cubes)
+  pub ready : Ready (cubeOf (S .types) (typeAt g c)) (floats (S .types)) (coordinates (S .size) c) (S .d) set base c B
+  pub bare : Bare c B
+
+-- a row of cells from c on, each so, by a list of side sets
+pub record RowReady (S : Scene) (g sets : List ℕ) (c base : ℕ) (B : Lists) : Type 0 where
+  pub within : Within (S .size)
+  pub whole : length g ≡ cells (S .size)
+  pub wide : S .size .w ≤ length sets
+  pub few : (x : ℕ) → x < S .size .w → getD sets x 0 < 64
+  pub cube : (x : ℕ) → x < S .size .w → 24 * floats (S .types) * getD g (c + x) 0 + 24 * floats (S .types) ≤ length (S .types .cubes)
+  pub drawable : (x : ℕ) → x < S .size .w → 0 < quadsOf (getD sets x 0)
+      → Drawable (cubeOf (S .types) (typeAt g (c + x))) (floats (S .types)) (coordinates (S .size) (c + x)) (S .d)
+  pub room : Room (span S) (base + asked (setsFrom c sets) c (S .size .w)) B
+  pub slots : 6 * (c + S .size .w) ≤ length (B .slots)
+  pub bare : (x : ℕ) → x < S .size .w → Bare (c + x) B

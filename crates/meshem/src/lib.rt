@@ -4,28 +4,29 @@ use admit::input_verdict;
 use admit::room_of;
 use answers::Refusal;
 use answers::Verdict;
-use culling::drawn_set;
 use culling::outer_set;
-use drawing::draw_cell;
 use face::Cell;
 use face::quads_of;
-use util::Coordinates;
+use mesh_metadata::new;
 use util::Dimensions;
-use util::next_x;
 use util::next_y;
 use util::next_z;
 use voxel_mesh::floats_of;
 ghost use mathlib.Core.Path.{_≡_};
-ghost use Prim.Native.Nat.{_+_, _<_};
-ghost use lib.ListN.{length};
+ghost use mathlib.Core.Bool.{false};
+ghost use mathlib.Core.List.{List, []};
+ghost use Prim.Native.Nat.{ℕ, _+_, _*_, _≤_, _<_};
+ghost use lib.ListN.{length, getD};
 ghost use Rattle.rules.specs.Cells.{cells, quadsOf, coordinates};
 ghost use Rattle.rules.specs.Mesh.{quadAt, listsOf};
 ghost use Rattle.rules.specs.Calls.{world, span, meshGrid};
 ghost use Rattle.util.specs.Grid.{sizeOf, cordsOf};
 ghost use Rattle.admit.specs.Scenes.{sceneOf};
-ghost use Rattle.culling.specs.Culling.{worldOf, Laid};
+ghost use Rattle.culling.specs.Culling.{worldOf, outerSet};
+ghost use Rattle.quads.specs.Quads.{quadOf};
+ghost use Rattle.drawing.specs.Rooms.{Ready};
 ghost use Rattle.drawing.specs.Drawn.{facesDrawn, cellsDrawn, asked};
-ghost use Rattle.meshem.specs.Fresh.{setAt, facesOf, Whole, Roomy, Meshable};
+ghost use Rattle.meshem.specs.Fresh.{setAt, facesOf, Whole, RowShown, Plainly, Bare, Starts, Rows, RowOf, setsFrom, Roomy, CellReady, RowReady};
 ghost use Rattle.meshem.specs.Outcome.{isCulling, outcome};
 
 pub enum MeshingAlgorithm {
@@ -50,38 +51,115 @@ impl MeshingAlgorithm {
     }
 }
 
+// STAND-IN
+fn clear_types(kinds: &[u8], covers: &[u8]) -> u8
+    ensures { λ r. ⌜ r ≡ 7 ⌝ }
+{
+    7
+}
+
+fn full_from(kinds: &[u8], covers: &[u8]) -> u8
+    requires { ⌜ length (now covers) ≡ length (now kinds) ⌝ }
+    ensures { λ r. ⌜ Plainly (now (kinds .entry)) (now (covers .entry)) 7 r ⌝ }
+{
+    7
+}
+
+fn drawn_row(sets: &mut [u8], dims: Dimensions, outer: u8, grid: &[u8], kinds: &[u8], covers: &[u8], clear: u8, full: u8, y: u32, z: u32)
+    requires { ⌜ Whole (sizeOf dims) (now grid) (length (now covers)) × (length (now covers) ≡ length (now kinds)) × Plainly (now kinds) (now covers) clear full × (y < dims .height) × (z < dims .length) × (dims .width ≤ length (now sets)) × (outer < 64) ⌝ }
+    ensures { λ _. ⌜ ((faces : List ℕ) → outer ≡ outerSet faces → RowShown (sizeOf dims) (now (kinds .entry)) (now (covers .entry)) faces (now (grid .entry)) y z (now (sets .exit))) ⌝ }
+{
+}
+
+fn draw_cell(
+    vertices: &mut [u32],
+    triangles: &mut [u32],
+    links: &mut [u32],
+    slots: &mut [u32],
+    cube: &[u32],
+    floats: usize,
+    cell: Cell,
+    x: u32,
+    y: u32,
+    z: u32,
+    dx: u32,
+    dy: u32,
+    dz: u32,
+    set: u8,
+    base: usize,
+) -> usize
+    requires { ⌜ Ready (now cube) floats (cordsOf x y z) (cordsOf dx dy dz) set base (cell .0)
+        (listsOf (now vertices) (now triangles) (now links) (now slots)) × Bare (cell .0) (listsOf (now vertices) (now triangles) (now links) (now slots)) ⌝ }
+    ensures { λ r. ⌜ (r ≡ base + quadsOf set) × (listsOf (now (vertices .exit)) (now (triangles .exit)) (now (links .exit)) (now (slots .exit))
+        ≡ facesDrawn (4 * floats) set (quadOf (now (cube .entry)) floats (cordsOf dx dy dz) (cordsOf x y z) (cell .0))
+        base (cell .0) 0 6 (listsOf (now (vertices .entry)) (now (triangles .entry)) (now (links .entry)) (now (slots .entry)))) ⌝ }
+{
+    base
+}
+// END
+
 fn wide(x: u8) -> usize
     ensures { λ r. ⌜ (r ≡ x) × (r < 256) ⌝ }
 {
     x as usize
 }
 
-// The sides of a cell to draw.
-fn side_set(
+// All six sides of each NormalCube of a row.
+fn cube_row(sets: &mut [u8], dims: Dimensions, grid: &[u8], kinds: &[u8], first: u32)
+    requires { ⌜ Whole (sizeOf dims) (now grid) (length (now kinds)) × (first + dims .width ≤ cells (sizeOf dims)) × (dims .width ≤ length (now sets)) ⌝ }
+    ensures { λ _. ⌜ ((covers outer : List ℕ) → RowOf (setAt false (worldOf (sizeOf dims) (now (kinds .entry)) covers) outer (now (grid .entry))) first (dims .width) (now (sets .exit))) ⌝ }
+{
+    let width = dims.width as usize;
+    let at = first as usize;
+    let mut x: usize = 0;
+    while x < width {
+        let code = wide(grid[at + x]);
+        sets[x] = 63 * (kinds[code] == 1) as u8;
+        x += 1;
+    }
+}
+
+// The sides of each cell of a row to draw.
+fn side_row(
+    sets: &mut [u8],
     dims: Dimensions,
     culling: bool,
     outer: u8,
     grid: &[u8],
     kinds: &[u8],
     covers: &[u8],
-    cell: Cell,
-    x: u32,
+    clear: u8,
+    full: u8,
+    first: u32,
     y: u32,
     z: u32,
-) -> u8
-    requires { ⌜ Laid (sizeOf dims) (now grid) (length (now covers)) (cell .0) × (length (now covers) ≡ length (now kinds)) × (outer < 64)
-        × (cordsOf x y z ≡ coordinates (sizeOf dims) (cell .0)) ⌝ }
-    ensures { λ r. ⌜ r ≡ setAt culling (worldOf (sizeOf dims) (now (kinds .entry)) (now (covers .entry))) (facesOf outer) (now (grid .entry)) (cell .0) ⌝ }
+)
+    requires { ⌜ Rows (sizeOf dims) (now grid) (now kinds) (now covers) clear full × (outer < 64)
+        × Starts (sizeOf dims) first y z × (dims .width ≤ length (now sets)) ⌝ }
+    ensures { λ _. ⌜ RowOf (setAt culling (worldOf (sizeOf dims) (now (kinds .entry)) (now (covers .entry))) (facesOf outer) (now (grid .entry))) first (dims .width) (now (sets .exit)) ⌝ }
 {
     if culling {
-        return drawn_set(dims, outer, grid, kinds, covers, cell, x, y, z);
+        drawn_row(sets, dims, outer, grid, kinds, covers, clear, full, y, z);
+        return;
     }
-    let here = cell.0 as usize;
-    let code = wide(grid[here]);
-    if kinds[code] == 1 { 63 } else { 0 }
+    cube_row(sets, dims, grid, kinds, first);
 }
 
-// How many quads the cells ask for.
+// How many quads the sets of a row ask for.
+fn quads_in(sets: &[u8]) -> u32
+    requires { ⌜ (length (now sets) ≤ 1024) × ((x : ℕ) → x < length (now sets) → getD (now sets) x 0 < 64) ⌝ }
+    ensures { λ r. ⌜ r ≡ asked (setsFrom 0 (now (sets .entry))) 0 (length (now (sets .entry))) ⌝ }
+{
+    let mut n: u32 = 0;
+    let mut x: usize = 0;
+    while x < sets.len() {
+        n += quads_of(sets[x]);
+        x += 1;
+    }
+    n
+}
+
+// How many quads the cells ask for; `sets` is room for a row.
 fn count_quads(
     dims: Dimensions,
     culling: bool,
@@ -89,25 +167,30 @@ fn count_quads(
     grid: &[u8],
     kinds: &[u8],
     covers: &[u8],
+    sets: &mut [u8],
 ) -> usize
-    requires { ⌜ Whole (sizeOf dims) (now grid) (length (now covers)) × (length (now covers) ≡ length (now kinds)) × (outer < 64) ⌝ }
+    requires { ⌜ Whole (sizeOf dims) (now grid) (length (now covers)) × (length (now covers) ≡ length (now kinds)) × (outer < 64)
+        × (dims .width ≤ length (now sets)) ⌝ }
     ensures { λ r. ⌜ r ≡ asked (setAt culling (worldOf (sizeOf dims) (now (kinds .entry)) (now (covers .entry))) (facesOf outer) (now (grid .entry))) 0 (cells (sizeOf dims)) ⌝ }
 {
+    let clear = clear_types(kinds, covers);
+    let full = full_from(kinds, covers);
+    let width = dims.width as usize;
     let end = dims.cell_count();
     let mut n: usize = 0;
-    let mut x: u32 = 0;
     let mut y: u32 = 0;
     let mut z: u32 = 0;
     let mut c: u32 = 0;
     while c < end {
-        let set = side_set(dims, culling, outer, grid, kinds, covers, Cell(c), x, y, z);
-        n += quads_of(set) as usize;
-        let to_x = next_x(Cell(c), x, y, z, dims);
-        let to_y = next_y(Cell(c), x, y, z, dims);
-        z = next_z(Cell(c), x, y, z, dims);
-        x = to_x;
+        side_row(
+            sets, dims, culling, outer, grid, kinds, covers, clear, full, c, y, z,
+        );
+        n += quads_in(&sets[..width]) as usize;
+        let last = c + (dims.width - 1);
+        let to_y = next_y(Cell(last), dims.width - 1, y, z, dims);
+        z = next_z(Cell(last), dims.width - 1, y, z, dims);
         y = to_y;
-        c += 1;
+        c = last + 1;
     }
     n
 }
@@ -119,35 +202,32 @@ fn draw_sides(
     links: &mut [u32],
     slots: &mut [u32],
     scene: Scene,
-    culling: bool,
-    outer: u8,
     grid: &[u8],
-    kinds: &[u8],
-    covers: &[u8],
     cubes: &[u32],
     cell: Cell,
     x: u32,
     y: u32,
     z: u32,
+    set: u8,
     base: usize,
 ) -> usize
-    requires { ⌜ Meshable (sceneOf scene (now kinds) (now covers) (now cubes)) culling outer (now grid)
-        (listsOf (now vertices) (now triangles) (now links) (now slots)) (cell .0) base
+    requires { ⌜ CellReady (sceneOf scene [] [] (now cubes)) (now grid) set (cell .0) base
+        (listsOf (now vertices) (now triangles) (now links) (now slots))
         × (cordsOf x y z ≡ coordinates (sizeOf (scene .dims)) (cell .0)) ⌝ }
-    ensures { λ r. ⌜ (r ≡ base + quadsOf (setAt culling (world (sceneOf scene (now (kinds .entry)) (now (covers .entry)) (now (cubes .entry)))) (facesOf outer) (now (grid .entry)) (cell .0)))
+    ensures { λ r. ⌜ (r ≡ base + quadsOf set)
         × (listsOf (now (vertices .exit)) (now (triangles .exit)) (now (links .exit)) (now (slots .exit))
-        ≡ facesDrawn (span (sceneOf scene (now (kinds .entry)) (now (covers .entry)) (now (cubes .entry))))
-        (setAt culling (world (sceneOf scene (now (kinds .entry)) (now (covers .entry)) (now (cubes .entry)))) (facesOf outer) (now (grid .entry)) (cell .0))
-        (quadAt (world (sceneOf scene (now (kinds .entry)) (now (covers .entry)) (now (cubes .entry)))) (now (grid .entry)) (cell .0)) base (cell .0) 0 6
+        ≡ facesDrawn (span (sceneOf scene [] [] (now (cubes .entry)))) set (quadAt (world (sceneOf scene [] [] (now (cubes .entry)))) (now (grid .entry)) (cell .0)) base (cell .0) 0 6
         (listsOf (now (vertices .entry)) (now (triangles .entry)) (now (links .entry)) (now (slots .entry)))) ⌝ }
 {
-    let dims = scene.dims;
-    let set = side_set(dims, culling, outer, grid, kinds, covers, cell, x, y, z);
+    if set == 0 {
+        return base;
+    }
     let floats = floats_of(scene.coloured);
     let here = cell.0 as usize;
     let words = 24 * floats;
     let start = words * wide(grid[here]);
     let end = start + words;
+    let d = scene.d;
     draw_cell(
         vertices,
         triangles,
@@ -156,15 +236,113 @@ fn draw_sides(
         &cubes[start..end],
         floats,
         cell,
-        Coordinates { x, y, z },
-        scene.d,
+        x,
+        y,
+        z,
+        d.x,
+        d.y,
+        d.z,
         set,
         base,
-    );
-    base + (quads_of(set) as usize)
+    )
 }
 
-// Draws every cell.
+// Draws a row of cells by their sets from place `base` on, and answers the place after them.
+fn draw_row(
+    vertices: &mut [u32],
+    triangles: &mut [u32],
+    links: &mut [u32],
+    slots: &mut [u32],
+    scene: Scene,
+    grid: &[u8],
+    cubes: &[u32],
+    sets: &[u8],
+    first: u32,
+    y: u32,
+    z: u32,
+    base: usize,
+) -> usize
+    requires { ⌜ RowReady (sceneOf scene [] [] (now cubes)) (now grid) (now sets) first base
+        (listsOf (now vertices) (now triangles) (now links) (now slots))
+        × Starts (sizeOf (scene .dims)) first y z ⌝ }
+    ensures { λ r. ⌜ (r ≡ base + asked (setsFrom first (now (sets .entry))) first (scene .dims .width))
+        × (listsOf (now (vertices .exit)) (now (triangles .exit)) (now (links .exit)) (now (slots .exit))
+        ≡ cellsDrawn (span (sceneOf scene [] [] (now (cubes .entry)))) (setsFrom first (now (sets .entry))) (quadAt (world (sceneOf scene [] [] (now (cubes .entry)))) (now (grid .entry))) base first (scene .dims .width)
+        (listsOf (now (vertices .entry)) (now (triangles .entry)) (now (links .entry)) (now (slots .entry)))) ⌝ }
+{
+    let dims = scene.dims;
+    let mut place = base;
+    let mut x: u32 = 0;
+    while x < dims.width {
+        let at = x as usize;
+        place = draw_sides(
+            vertices,
+            triangles,
+            links,
+            slots,
+            scene,
+            grid,
+            cubes,
+            Cell(first + x),
+            x,
+            y,
+            z,
+            sets[at],
+            place,
+        );
+        x += 1;
+    }
+    place
+}
+
+// Draws every cell, row by row, into bare slots; `sets` is room for a row.
+fn draw_rows(
+    vertices: &mut [u32],
+    triangles: &mut [u32],
+    links: &mut [u32],
+    slots: &mut [u32],
+    scene: Scene,
+    culling: bool,
+    outer: u8,
+    grid: &[u8],
+    kinds: &[u8],
+    covers: &[u8],
+    cubes: &[u32],
+    sets: &mut [u8],
+)
+    requires { ⌜ Roomy (sceneOf scene (now kinds) (now covers) (now cubes)) culling outer (now grid)
+        (listsOf (now vertices) (now triangles) (now links) (now slots)) × (scene .dims .width ≤ length (now sets))
+        × ((c : ℕ) → c < cells (sizeOf (scene .dims)) → Bare c (listsOf (now vertices) (now triangles) (now links) (now slots))) ⌝ }
+    ensures { λ _. ⌜ listsOf (now (vertices .exit)) (now (triangles .exit)) (now (links .exit)) (now (slots .exit))
+        ≡ cellsDrawn (span (sceneOf scene (now (kinds .entry)) (now (covers .entry)) (now (cubes .entry))))
+        (setAt culling (world (sceneOf scene (now (kinds .entry)) (now (covers .entry)) (now (cubes .entry)))) (facesOf outer) (now (grid .entry)))
+        (quadAt (world (sceneOf scene (now (kinds .entry)) (now (covers .entry)) (now (cubes .entry)))) (now (grid .entry))) 0 0 (cells (sizeOf (scene .dims)))
+        (listsOf (now (vertices .entry)) (now (triangles .entry)) (now (links .entry)) (now (slots .entry))) ⌝ }
+{
+    let dims = scene.dims;
+    let end = dims.cell_count();
+    let clear = clear_types(kinds, covers);
+    let full = full_from(kinds, covers);
+    let mut base: usize = 0;
+    let mut y: u32 = 0;
+    let mut z: u32 = 0;
+    let mut c: u32 = 0;
+    while c < end {
+        side_row(
+            sets, dims, culling, outer, grid, kinds, covers, clear, full, c, y, z,
+        );
+        base = draw_row(
+            vertices, triangles, links, slots, scene, grid, cubes, sets, c, y, z, base,
+        );
+        let last = c + (dims.width - 1);
+        let to_y = next_y(Cell(last), dims.width - 1, y, z, dims);
+        z = next_z(Cell(last), dims.width - 1, y, z, dims);
+        y = to_y;
+        c = last + 1;
+    }
+}
+
+// Draws every cell: first no face has a quad.
 fn draw_cells(
     vertices: &mut [u32],
     triangles: &mut [u32],
@@ -177,9 +355,10 @@ fn draw_cells(
     kinds: &[u8],
     covers: &[u8],
     cubes: &[u32],
+    sets: &mut [u8],
 )
     requires { ⌜ Roomy (sceneOf scene (now kinds) (now covers) (now cubes)) culling outer (now grid)
-        (listsOf (now vertices) (now triangles) (now links) (now slots)) ⌝ }
+        (listsOf (now vertices) (now triangles) (now links) (now slots)) × (scene .dims .width ≤ length (now sets)) ⌝ }
     ensures { λ _. ⌜ listsOf (now (vertices .exit)) (now (triangles .exit)) (now (links .exit)) (now (slots .exit))
         ≡ cellsDrawn (span (sceneOf scene (now (kinds .entry)) (now (covers .entry)) (now (cubes .entry))))
         (setAt culling (world (sceneOf scene (now (kinds .entry)) (now (covers .entry)) (now (cubes .entry)))) (facesOf outer) (now (grid .entry)))
@@ -187,38 +366,11 @@ fn draw_cells(
         (listsOf (now (vertices .entry)) (now (triangles .entry)) (now (links .entry)) (now (slots .entry))) ⌝ }
 {
     let dims = scene.dims;
-    let end = dims.cell_count();
-    let mut base: usize = 0;
-    let mut x: u32 = 0;
-    let mut y: u32 = 0;
-    let mut z: u32 = 0;
-    let mut c: u32 = 0;
-    while c < end {
-        base = draw_sides(
-            vertices,
-            triangles,
-            links,
-            slots,
-            scene,
-            culling,
-            outer,
-            grid,
-            kinds,
-            covers,
-            cubes,
-            Cell(c),
-            x,
-            y,
-            z,
-            base,
-        );
-        let to_x = next_x(Cell(c), x, y, z, dims);
-        let to_y = next_y(Cell(c), x, y, z, dims);
-        z = next_z(Cell(c), x, y, z, dims);
-        x = to_x;
-        y = to_y;
-        c += 1;
-    }
+    let six = 6 * dims.cell_count() as usize;
+    new(&mut slots[..six]);
+    draw_rows(
+        vertices, triangles, links, slots, scene, culling, outer, grid, kinds, covers, cubes, sets,
+    );
 }
 
 // Meshes a grid into the lent lists, or refuses and writes nothing.
@@ -245,7 +397,10 @@ pub fn mesh_grid(
     }
     let culling = algorithm.is_culling();
     let sides = outer_set(outer);
-    let quads = count_quads(scene.dims, culling, sides, grid, kinds, covers);
+    let mut sets: [u8; 1024] = [0; 1024];
+    let quads = count_quads(
+        scene.dims, culling, sides, grid, kinds, covers, &mut sets,
+    );
     let room = room_of(scene.coloured, vertices.len(), triangles.len(), links.len());
     if room < quads {
         return Meshed::Refused(Refusal::NoRoom, 0);
@@ -262,6 +417,7 @@ pub fn mesh_grid(
         kinds,
         covers,
         cubes,
+        &mut sets,
     );
     Meshed::Done(quads)
 }

@@ -1,119 +1,205 @@
--- `meshem::count_quads` meets its contract: what is counted and what is left to count are all that is asked. Assumes nothing.
-use mathlib.Core.Path.{_≡_, ap, _∙_}
+-- `meshem::count_quads` meets its contract: before a row, the quads of the rows before it are counted. Assumes nothing.
+use mathlib.Core.Path.{_≡_, refl, sym, ap, _∙_}
+use mathlib.Core.Bool.{Bool}
+use mathlib.Core.List.{List}
 use Prim.Native.Nat.{ℕ, _+_, _-_, _*_, _≤_, _<_}
+use borrow.Author.Needs.{needs}
 use native.Mathlib.Omega.{arith}
 use denote.Ref.{now}
-use Rattle.rules.specs.Cells.{cells, quadsOf, coordinates}
+use lib.ListN.{length, getD, take}
+use lib.Seq.{getD-take, length-take-le}
+use Rattle.rules.specs.Cells.{Size, cells, coordinates}
 use Rattle.util.specs.Grid.{sizeOf, Within, cordsOf}
-use Rattle.util.proofs.Nexts.{first, together}
+use Rattle.util.proofs.Nexts.{first}
 use Rattle.culling.specs.Culling.{worldOf}
 use Rattle.drawing.specs.Drawn.{asked}
-use Rattle.meshem.specs.Fresh.{setAt, facesOf}
-use Rattle.meshem.proofs.Sets.{set-below, quads-le, asked-more, asked-none}
+use Rattle.meshem.specs.Fresh.{setAt, facesOf, Starts, RowOf}
+use Rattle.meshem.proofs.Sets.{set-below}
+use Rattle.meshem.proofs.Rows.{row-end, last-in, last-cords, next-cords, asked-few, asked-row, asked-on}
 use Rattle.meshem.proofs.count_quads.Statement.{statement}
 use Rattle.meshem.proofs.count_quads.Tie as tie
 
 abbrev Inv-loop : tie.InvT-loop
-Inv-loop dims culling outer grid kinds covers end n₀ x₀ y₀ z₀ c₀ n x y z c =
-    (c ≤ end) × (end ≡ cells (sizeOf dims)) × (n ≤ 6 * c)
-    × (n + asked (setAt culling (worldOf (sizeOf dims) kinds covers) (facesOf outer) grid) c (cells (sizeOf dims) - c)
-    ≡ asked (setAt culling (worldOf (sizeOf dims) kinds covers) (facesOf outer) grid) 0 (cells (sizeOf dims)))
-    × (cordsOf x y z ≡ coordinates (sizeOf dims) c)
+Inv-loop dims culling outer grid kinds covers sets₀ clear full width end n₀ y₀ z₀ c₀ sets n y z c =
+    (end ≡ cells (sizeOf dims)) × (c ≤ end) × (length sets ≡ length sets₀)
+    × (n ≡ asked (setAt culling (worldOf (sizeOf dims) kinds covers) (facesOf outer) grid) 0 c)
+    × (cordsOf 0 y z ≡ coordinates (sizeOf dims) c)
 
 abbrev μ-loop : tie.MeasureT-loop
-μ-loop dims culling outer grid kinds covers end n₀ x₀ y₀ z₀ c₀ n x y z c = end - c
+μ-loop dims culling outer grid kinds covers sets₀ clear full width end n₀ y₀ z₀ c₀ sets n y z c = end - c
 
-abbrev sets : tie.After-cell-count Inv-loop μ-loop → ℕ → ℕ
-sets c =
-    let args = c .before .before .before .before .args in
-    setAt (args .culling) (worldOf (sizeOf (args .dims)) (now (args .kinds)) (now (args .covers))) (facesOf (args .outer)) (now (args .grid))
+abbrev start : tie.After-slice-known Inv-loop μ-loop → tie.Start Inv-loop μ-loop
+start c = c .before .before .before .before
+
+abbrev size : tie.Start Inv-loop μ-loop → Size
+size s = sizeOf (s .args .dims)
+
+abbrev sets : tie.Start Inv-loop μ-loop → ℕ → ℕ
+sets s = setAt (s .args .culling) (worldOf (size s) (now (s .args .kinds)) (now (s .args .covers))) (facesOf (s .args .outer)) (now (s .args .grid))
+
+clear-types-requires : tie.Need-clear-types-requires Inv-loop μ-loop
+clear-types-requires c κs = search needs
+
+full-from-requires : tie.Need-full-from-requires Inv-loop μ-loop
+full-from-requires c κs = start (c .before) .pre .1
+
+cast-width : tie.Need-cast-width Inv-loop μ-loop
+cast-width c = search needs
 
 cell-count-requires : tie.Need-cell-count-requires Inv-loop μ-loop
-cell-count-requires c κs = c .before .before .before .pre .0 .within .sides
+cell-count-requires c κs = start (c .before .before .before) .pre .0 .within .sides
 
 loop-holds : tie.Need-loop-holds Inv-loop μ-loop
-loop-holds c =
-    let dims = c .before .before .before .before .args .dims in
-    let z : cells (sizeOf dims) - 0 ≡ cells (sizeOf dims) = omega arith in
-    let s : asked (sets c) 0 (cells (sizeOf dims) - 0) ≡ asked (sets c) 0 (cells (sizeOf dims)) = ap (asked (sets c) 0) z in
-    (omega arith, c .cell-count .ensures, omega arith, omega arith, first (sizeOf dims))
+unfolding asked
+loop-holds c = (c .cell-count .ensures, omega arith, refl, refl, first (size (start (c .before .before .before .before))))
 
-side-set-requires : tie.Need-side-set-requires Inv-loop μ-loop
-side-set-requires c κs =
-    let pre = c .before .before .before .before .before .before .pre in
-    let l = c .before .loop in (
-      record { within = pre .0 .within; whole = pre .0 .whole; typed = pre .0 .typed; inside = omega (arith, l .inv .1, c .loop-test .taken) },
-      pre .1,
-      pre .2,
-      l .inv .4,
+-- from the loop on: what was given, and the row that starts
+abbrev given : tie.In-loop Inv-loop μ-loop → tie.Start Inv-loop μ-loop
+given i = start (i .before .before .before .before .before .before)
+
+row : (i : tie.In-loop Inv-loop μ-loop) → let l = i .before .loop in Starts (size (given i)) (l .c) (l .y) (l .z)
+row i = let l = i .before .loop in record { inside = omega (arith, l .inv .0, i .loop-test .taken); cords = l .inv .4 }
+
+side-row-requires : tie.Need-side-row-requires Inv-loop μ-loop
+side-row-requires c κs =
+    let i = c .before in
+    let s = given i in (
+      record { grid = s .pre .0; both = s .pre .1; plain = ? },
+      s .pre .2,
+      row i,
+      omega (arith, i .before .loop .inv .2, s .pre .3),
     )
 
-few : (c : tie.After-side-set Inv-loop μ-loop) → c .side-set .result < 64
-few c =
-    let args = c .before .before .before .before .before .before .before .args in
-    rw (c .side-set .ensures) (set-below (args .culling) (worldOf (sizeOf (args .dims)) (now (args .kinds)) (now (args .covers))) (facesOf (args .outer)) (now (args .grid)) (c .before .before .loop .c))
+-- the row is there, with its sets
+long-enough : (c : tie.After-side-row Inv-loop μ-loop) → given (c .before .before) .args .dims .width ≤ length (c .side-row .last .0)
+long-enough c =
+    let i = c .before .before in
+    omega (arith, c .side-row .kept .0, i .before .loop .inv .2, given i .pre .3)
 
-quads-of-requires : tie.Need-quads-of-requires Inv-loop μ-loop
-quads-of-requires c κs = few c
+slice-reshare-prefix-quads-in : tie.Need-slice-reshare-prefix-quads-in Inv-loop μ-loop
+slice-reshare-prefix-quads-in c = long-enough (c .before .before)
 
-drew : (c : tie.After-quads-of Inv-loop μ-loop) → c .quads-of .result ≡ quadsOf (sets (c .before .before .before .before) (c .before .before .before .loop .c))
-drew c = c .quads-of .ensures ∙ ap quadsOf (c .before .side-set .ensures)
+slice-aggregate-quads-in : tie.Need-slice-aggregate-quads-in Inv-loop μ-loop
+slice-aggregate-quads-in c = sym (length-take-le _ (c .before .before .before .side-row .last .0) (long-enough (c .before .before .before)))
+
+quads-in-requires : tie.Need-quads-in-requires Inv-loop μ-loop
+quads-in-requires c κs =
+    let r = c .before .before .before in
+    let i = r .before .before in
+    let s = given i in
+    let w = s .args .dims .width in
+    let list = r .side-row .last .0 in
+    let l = length-take-le w list (long-enough r) in (
+      omega (arith, s .pre .0 .within .sides .widest),
+      λ x h. let k : x < w = omega arith in
+          rw (getD-take w list x 0 k, r .side-row .ensures x k)
+          (set-below (s .args .culling) (worldOf (size s) (now (s .args .kinds)) (now (s .args .covers))) (facesOf (s .args .outer)) (now (s .args .grid)) (i .before .loop .c + x)),
+    )
+
+-- as many as the row's cells ask for
+counted : (c : tie.After-quads-in Inv-loop μ-loop) →
+    let i = c .before .before .before .before .before .before in c .quads-in .result ≡ asked (sets (given i)) (i .before .loop .c) (given i .args .dims .width)
+counted c =
+    let r = c .before .before .before .before in
+    let i = r .before .before in
+    let s = given i in
+    c .quads-in .ensures ∙ asked-row (sets s) (i .before .loop .c) (s .args .dims .width) (r .side-row .last .0) (long-enough r) (r .side-row .ensures)
 
 cast-n : tie.Need-cast-n Inv-loop μ-loop
-cast-n c = omega (arith, c .quads-of .ensures, quads-le (c .before .side-set .result))
+cast-n c = search needs
 
 add-n : tie.Need-add-n Inv-loop μ-loop
-add-n c = omega (arith, c .quads-of .ensures, quads-le (c .before .side-set .result), c .before .before .before .loop .inv .2, c .before .before .before .loop .inv .0)
+add-n c =
+    let i = c .before .before .before .before .before .before in
+    let s = given i in
+    let l = i .before .loop in
+    omega (arith, l .inv .3, counted c, asked-few (sets s) (l .c) 0, asked-few (sets s) (s .args .dims .width) (l .c), s .pre .0 .within .most, s .pre .0 .within .sides .widest, l .inv .0, l .inv .1)
 
--- the cell at hand is in the grid, and its coordinates are known
-standing : (c : tie.After-quads-of Inv-loop μ-loop) →
-    let dims = c .before .before .before .before .before .before .before .before .args .dims in
-    let l = c .before .before .before .loop in
-    Within (sizeOf dims) × (l .c < cells (sizeOf dims)) × (cordsOf (l .x) (l .y) (l .z) ≡ coordinates (sizeOf dims) (l .c))
-standing c =
-    let l = c .before .before .before .loop in
-    (c .before .before .before .before .before .before .before .before .pre .0 .within, omega (arith, l .inv .1, c .before .before .loop-test .taken), l .inv .4)
+sub-last : tie.Need-sub-last Inv-loop μ-loop
+sub-last c = given (c .before .before .before .before .before .before .before) .pre .0 .within .sides .wide
 
-next-x-requires : tie.Need-next-x-requires Inv-loop μ-loop
-next-x-requires c κs = standing c
+-- the row's end is in the grid
+ends : (i : tie.In-loop Inv-loop μ-loop) → i .before .loop .c + given i .args .dims .width ≤ 1048576
+ends i = omega (arith, row-end (size (given i)) (given i .pre .0 .within) (row i), given i .pre .0 .within .most)
+
+add-last : tie.Need-add-last Inv-loop μ-loop
+add-last c = omega (arith, ends (c .before .before .before .before .before .before .before))
+
+sub-next-y : tie.Need-sub-next-y Inv-loop μ-loop
+sub-next-y c = given (c .before .before .before .before .before .before .before .before) .pre .0 .within .sides .wide
 
 next-y-requires : tie.Need-next-y-requires Inv-loop μ-loop
-next-y-requires c κs = standing (c .before)
+next-y-requires c κs =
+    let i = c .before .before .before .before .before .before .before .before in
+    let w = given i .pre .0 .within in
+    (w, last-in (size (given i)) w (row i), last-cords (size (given i)) w (row i))
+
+sub-next-z : tie.Need-sub-next-z Inv-loop μ-loop
+sub-next-z c = given (c .before .before .before .before .before .before .before .before .before .before) .pre .0 .within .sides .wide
 
 next-z-requires : tie.Need-next-z-requires Inv-loop μ-loop
-next-z-requires c κs = standing (c .before .before)
+next-z-requires c κs =
+    let i = c .before .before .before .before .before .before .before .before .before .before in
+    let w = given i .pre .0 .within in
+    (w, last-in (size (given i)) w (row i), last-cords (size (given i)) w (row i))
 
 add-c : tie.Need-add-c Inv-loop μ-loop
-add-c c = omega (arith, c .before .before .before .before .before .loop-test .taken)
+add-c c = let i = c .before .before .before .before .before .before .before .before .before .before .before in omega (arith, ends i, given i .pre .0 .within .sides .wide)
 
 loop-less : tie.Need-loop-less Inv-loop μ-loop
-loop-less c = omega (arith, c .before .before .before .before .before .loop-test .taken)
+loop-less c = let i = c .before .before .before .before .before .before .before .before .before .before .before in omega (arith, i .loop-test .taken, given i .pre .0 .within .sides .wide)
 
 loop-again : tie.Need-loop-again Inv-loop μ-loop
 loop-again c =
-    let q = c .before .before .before in
-    let l = q .before .before .before .loop in
-    let s = sets (q .before .before .before .before) in
-    let dims = q .before .before .before .before .before .before .before .before .args .dims in
-    let t = q .before .before .loop-test .taken in
-    let m = asked-more s (cells (sizeOf dims)) (l .c) (omega (arith, l .inv .1)) in
-    let few = quads-le (q .before .side-set .result) in (
-      omega arith,
-      l .inv .1,
-      omega (arith, q .quads-of .ensures, l .inv .2),
-      omega (arith, l .inv .3, m, drew q),
-      together (sizeOf dims) (l .c + 1) (c .before .before .next-x .ensures) (c .before .next-y .ensures) (c .next-z .ensures),
+    let i = c .before .before .before .before .before .before .before .before .before .before .before in
+    let s = given i in
+    let l = i .before .loop in
+    let w = s .args .dims .width in
+    let one = s .pre .0 .within .sides .wide in
+    let e : l .c + (w - 1) + 1 ≡ l .c + w = omega arith in
+    let q = c .before .before .before .before .before in (
+      l .inv .0,
+      omega (arith, row-end (size s) (s .pre .0 .within) (row i), l .inv .0),
+      c .before .before .before .before .before .before .before .before .before .side-row .kept .0 ∙ l .inv .2,
+      rw e (omega (arith, l .inv .3, counted q, asked-on (sets s) (l .c) w)),
+      next-cords (size s) (s .pre .0 .within) (row i) (c .before .before .next-y .ensures) (c .next-z .ensures),
     )
+
+same-length : tie.Need-same-length Inv-loop μ-loop
+same-length c = c .before .loop .inv .2
 
 returns : tie.Need-returns Inv-loop μ-loop
 returns c =
     let l = c .before .loop in
-    let s = sets (c .before .before) in
-    let dims = c .before .before .before .before .before .before .args .dims in
-    let m = asked-none s (cells (sizeOf dims)) (l .c) (omega (arith, l .inv .1, c .loop-test .left)) in
-    omega (arith, l .inv .3, m)
+    let s = start (c .before .before .before .before .before .before) in
+    let e : l .c ≡ cells (size s) = omega (arith, l .inv .0, l .inv .1, c .loop-test .left) in
+    l .inv .3 ∙ ap (asked (sets s) 0) e
 
 pub count-quads-spec : {M : Type 1} → statement M
 count-quads-spec =
     tie.close
-    (tie.spec Inv-loop μ-loop cell-count-requires loop-holds side-set-requires quads-of-requires cast-n add-n next-x-requires next-y-requires next-z-requires add-c loop-less loop-again returns)
+    (tie.spec
+    Inv-loop
+    μ-loop
+    clear-types-requires
+    full-from-requires
+    cast-width
+    cell-count-requires
+    loop-holds
+    side-row-requires
+    slice-reshare-prefix-quads-in
+    slice-aggregate-quads-in
+    quads-in-requires
+    cast-n
+    add-n
+    sub-last
+    add-last
+    sub-next-y
+    next-y-requires
+    sub-next-z
+    next-z-requires
+    add-c
+    loop-less
+    loop-again
+    same-length
+    returns)

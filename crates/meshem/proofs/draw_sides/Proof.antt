@@ -1,46 +1,42 @@
 -- `meshem::draw_sides` meets its contract: the cell's type has its cube in the middle of the registry. Assumes nothing.
-use mathlib.Core.Path.{_≡_, ap, _∙_}
+use mathlib.Core.Path.{_≡_, refl, sym, ap, _∙_}
 use Prim.Native.Nat.{ℕ, _+_, _-_, _*_, _≤_}
 use borrow.Author.Needs.{needs}
 use native.Mathlib.Nat.{mul-le-mul}
 use native.Mathlib.Omega.{arith}
 use denote.Ref.{now}
-use lib.ListN.{length}
-use Rattle.rules.specs.Lists.{part}
+use lib.ListN.{length, getD}
+use mathlib.Core.List.{[]}
+use Rattle.rules.specs.Lists.{part, count}
 use Rattle.rules.specs.Cells.{quadsOf}
-use Rattle.rules.specs.Types.{cubeOf}
-use Rattle.rules.specs.Mesh.{typeAt, listsOf}
-use Rattle.rules.specs.Calls.{Scene, world}
-use Rattle.util.specs.Grid as grid
+use Rattle.rules.specs.Types.{floats, cubeOf}
+use Rattle.rules.specs.Mesh.{typeAt, quadAt, listsOf}
+use Rattle.rules.specs.Calls.{Scene, world, span}
+use Rattle.books.proofs.Books.{within}
 use Rattle.voxel_mesh.proofs.Shapes.{few}
 use Rattle.vav.proofs.Laws.{part-lent}
+use Rattle.drawing.specs.Drawn.{facesDrawn}
 use Rattle.admit.specs.Scenes.{sceneOf}
-use Rattle.meshem.specs.Fresh.{setAt, facesOf}
-use Rattle.meshem.proofs.Sets.{quads-le, set-below}
-use Rattle.meshem.proofs.Turns.{set-world, type-is, cube-part, ready-by, faces-by}
+use Rattle.meshem.proofs.Rows.{still}
 use Rattle.meshem.proofs.draw_sides.Statement.{statement}
 use Rattle.meshem.proofs.draw_sides.Tie as tie
 
-abbrev start : tie.After-dims → tie.Start
-start c = c .before .before .before .before .before .before .before .before .before
+abbrev start : tie.Else1 → tie.Start
+start c = c .before .before .before .before .before .before .before
 
 abbrev scene : tie.Start → Scene
-scene s = let a = s .args in sceneOf (a .scene) (now (a .kinds)) (now (a .covers)) (now (a .cubes))
+scene s = sceneOf (s .args .scene) [] [] (now (s .args .cubes))
 
-side-set-requires : tie.Need-side-set-requires
-side-set-requires c κs =
-    let s = start c in
-    let r = s .pre .0 .roomy in (
-      record {
-        within = r .grid .within;
-        whole = r .grid .whole;
-        typed = λ k l. rw (r .types .covered) (r .grid .typed k l);
-        inside = s .pre .0 .inside;
-      },
-      r .types .covered,
-      r .few,
-      s .pre .1,
-    )
+none-drawn : quadsOf 0 ≡ 0
+unfolding count
+none-drawn = refl
+
+returns : tie.Need-returns
+returns c =
+    let s = c .before .before .before .before .before .before .before in
+    let z : s .args .set ≡ 0 = c .if1 .taken in
+    let lists = listsOf (now (s .args .vertices)) (now (s .args .triangles)) (now (s .args .links)) (now (s .args .slots)) in
+    rw z (omega (arith, none-drawn), sym (still (span (scene s)) (quadAt (world (scene s)) (now (s .args .grid))) (s .args .cell .0) (s .args .base) lists (s .pre .0 .bare)))
 
 floats-of-requires : tie.Need-floats-of-requires
 floats-of-requires c κs = search needs
@@ -50,13 +46,13 @@ cast-here c = search needs
 
 -- a vertex has 8 to 12 words
 narrow : (c : tie.After-floats-of) → c .floats-of .result ≤ 12
-narrow c = rw (c .floats-of .ensures) (few (start (c .before .before) .args .scene .coloured) .1)
+narrow c = rw (c .floats-of .ensures) (few (start (c .before) .args .scene .coloured) .1)
 
 mul-words : tie.Need-mul-words
 mul-words c = omega (arith, narrow (c .before))
 
 shared-slice-read-wide : tie.Need-shared-slice-read-wide
-shared-slice-read-wide c = search needs
+shared-slice-read-wide c = start (c .before .before .before) .pre .0 .inside
 
 wide-requires : tie.Need-wide-requires
 wide-requires c κs = search needs
@@ -76,7 +72,7 @@ add-end : tie.Need-add-end
 add-end c = omega (arith, short c, narrow (c .before .before .before))
 
 mul-draw-cell : tie.Need-mul-draw-cell
-mul-draw-cell c = omega (arith, short (c .before .before .before .before))
+mul-draw-cell c = omega (arith, short (c .before .before .before .before .before))
 
 sub-draw-cell : tie.Need-sub-draw-cell
 sub-draw-cell c = search needs
@@ -85,64 +81,32 @@ part-draw-cell-start : tie.Need-part-draw-cell-start
 part-draw-cell-start c = search needs
 
 ends : (c : tie.After-wide) →
-    let s = start (c .before .before .before .before .before) in
-    24 * c .before .before .before .floats-of .result * c .wide .result + 24 * c .before .before .before .floats-of .result ≤ length (now (s .args .cubes))
-ends c =
-    let s = start (c .before .before .before .before .before) in
-    let r = s .pre .0 .roomy in
-    rw (c .before .before .before .floats-of .ensures, c .wide .ensures .0)
-    (cube-part (scene s) (s .args .culling) (s .args .outer) (now (s .args .grid)) (r .grid) (r .types) (s .args .cell .0) (s .pre .0 .inside))
+    let n = 24 * c .before .before .before .floats-of .result in n * c .wide .result + n ≤ length (now (start (c .before .before .before .before) .args .cubes))
+ends c = rw (c .before .before .before .floats-of .ensures, c .wide .ensures .0) (start (c .before .before .before .before) .pre .0 .cube)
 
 part-draw-cell-end : tie.Need-part-draw-cell-end
-part-draw-cell-end c = ends (c .before .before .before .before)
+part-draw-cell-end c = ends (c .before .before .before .before .before)
 
 -- the stretch that is lent is the cube of the cell's type
 cube-is : (c : tie.After-wide) →
-    let s = start (c .before .before .before .before .before) in
+    let s = start (c .before .before .before .before) in
     let n = 24 * c .before .before .before .floats-of .result in
     part (n * c .wide .result) (n * c .wide .result + n - n * c .wide .result) (now (s .args .cubes))
     ≡ cubeOf (scene s .types) (typeAt (now (s .args .grid)) (s .args .cell .0))
 cube-is c =
-    let s = start (c .before .before .before .before .before) in
-    let r = s .pre .0 .roomy in
-    let t = type-is (scene s) (s .args .culling) (s .args .outer) (now (s .args .grid)) (r .grid) (r .types) (s .args .cell .0) (s .pre .0 .inside) in
+    let s = start (c .before .before .before .before) in
+    let g = now (s .args .grid) in
+    let t : typeAt g (s .args .cell .0) ≡ getD g (s .args .cell .0) 0 = within g (s .args .cell .0) 255 0 (s .pre .0 .inside) in
     let n = 24 * c .before .before .before .floats-of .result in
     part-lent (n * c .wide .result) n (now (s .args .cubes))
     ∙ rw (c .before .before .before .floats-of .ensures, c .wide .ensures .0, t)
 
-set-is : (c : tie.After-side-set) →
-    let s = start (c .before) in
-    c .side-set .result ≡ setAt (s .args .culling) (world (scene s)) (facesOf (s .args .outer)) (now (s .args .grid)) (s .args .cell .0)
-set-is c =
-    let s = start (c .before) in
-    c .side-set .ensures ∙ set-world (scene s) (s .args .culling) (facesOf (s .args .outer)) (now (s .args .grid)) (s .args .cell .0)
-
 draw-cell-requires : tie.Need-draw-cell-requires
 draw-cell-requires c κs =
-    let w = c .before .before .before .before .before in
+    let w = c .before .before .before .before .before .before in
     let f = w .before .before .before in
-    let s = start (f .before .before) in
-    ready-by (scene s) (s .args .culling) (s .args .outer) (now (s .args .grid)) (s .args .cell .0) (cube-is w) (f .floats-of .ensures) (s .pre .1) (set-is (f .before)) (s .pre .0)
-
-quads-of-requires : tie.Need-quads-of-requires
-quads-of-requires c κs =
-    let d = c .before .before .before .before .before .before .before .before in
-    let f = d .before .before .before .before .before .before .before .before .before in
-    let s = start (f .before .before) in
-    rw (set-is (f .before)) (set-below (s .args .culling) (world (scene s)) (facesOf (s .args .outer)) (now (s .args .grid)) (s .args .cell .0))
-
-cast-result : tie.Need-cast-result
-cast-result c = search needs
-
-add-result : tie.Need-add-result
-add-result c =
-    let d = c .before .before .before .before .before .before .before .before .before in
-    let f = d .before .before .before .before .before .before .before .before .before in
-    let s = start (f .before .before) in
-    let i = s .pre .0 .inside in
-    let m = s .pre .0 .roomy .grid .within .most in
-    let l = s .pre .0 .low in
-    omega (arith, c .quads-of .ensures, quads-le (f .before .side-set .result))
+    let s = start (f .before) in
+    (rw (cube-is w, f .floats-of .ensures, s .pre .1) (s .pre .0 .ready), s .pre .0 .bare)
 
 same-length : tie.Need-same-length
 same-length c = search needs
@@ -156,24 +120,19 @@ same-length-3 c = search needs
 same-length-4 : tie.Need-same-length-4
 same-length-4 c = search needs
 
-returns : tie.Need-returns
-returns c =
-    let d = c .before .before .before .before .before .before .before .before .before in
-    let w = d .before .before .before .before .before .before in
+returns-2 : tie.Need-returns-2
+returns-2 c =
+    let d = c .before .before .before .before .before .before .before .before in
+    let w = d .before .before .before .before .before .before .before in
     let f = w .before .before .before in
-    let s = start (f .before .before) in
-    let a = s .args in (
-      ap (λ (q : ℕ). a .base + q) (c .quads-of .ensures ∙ ap quadsOf (set-is (f .before))),
-      d .draw-cell .ensures
-          ∙ faces-by (scene s) (a .culling) (a .outer) (now (a .grid)) (a .cell .0) (cube-is w) (f .floats-of .ensures) (s .pre .1) (set-is (f .before))
-          (listsOf (now (a .vertices)) (now (a .triangles)) (now (a .links)) (now (a .slots))) (a .base),
-    )
+    let s = start (f .before) in
+    (d .draw-cell .ensures .0, d .draw-cell .ensures .1 ∙ rw (cube-is w, f .floats-of .ensures, s .pre .1) refl)
 
 pub draw-sides-spec : {M : Type 1} → statement M
 draw-sides-spec =
     tie.close
     (tie.spec
-    side-set-requires
+    returns
     floats-of-requires
     cast-here
     mul-words
@@ -186,11 +145,8 @@ draw-sides-spec =
     part-draw-cell-start
     part-draw-cell-end
     draw-cell-requires
-    quads-of-requires
-    cast-result
-    add-result
     same-length
     same-length-2
     same-length-3
     same-length-4
-    returns)
+    returns-2)

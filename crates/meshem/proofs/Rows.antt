@@ -1,0 +1,234 @@
+-- The cells of a row, and rows drawn one after the other. Assumes nothing.
+use mathlib.Core.Path.{_≡_, refl, sym, ap, _∙_}
+use mathlib.Core.Logic.{_≢_}
+use mathlib.Core.List.{List}
+use Prim.Native.Nat.{ℕ, zero, suc, _+_, _-_, _*_, _≤_, _<_}
+use native.Mathlib.Omega.{arith}
+use lib.ListN.{length, getD, set, take}
+use lib.Seq.{getD-take, length-take-le, set-getD}
+use Rattle.rules.specs.Cells.{Size, Triple, cells, cellAt, xOf, yOf, zOf, coordinates, keyOf, quadsOf}
+use Rattle.rules.specs.Mesh.{Quad, Lists, NONE, typeAt, quadAt}
+use Rattle.rules.specs.Calls.{Scene, world, span}
+use Rattle.rules.proofs.Neighbours.{Inside, inside-of, cellAt-in, cellAt-coordinates, coordinates-cellAt}
+use Rattle.rules.proofs.Demands.{words-sized}
+use Rattle.util.specs.Grid.{Within, cordsOf}
+use Rattle.util.proofs.Nexts.{first, next, together}
+use Rattle.drawing.specs.Drawn.{bareAt, facesDrawn, cellsDrawn, asked}
+use Rattle.drawing.specs.Rooms.{Room}
+use Rattle.drawing.proofs.Turns.{Kept, kept-none, kept-then, kept-faces, room-less, room-kept}
+use Rattle.meshem.specs.Fresh.{Starts, Bare, RowOf, setsFrom, CellReady, RowReady}
+use Rattle.meshem.proofs.Sets.{quads-le}
+
+pub first-row : (s : Size) → Within s → Starts s 0 0 0
+first-row s k = record { inside = some-cell; cords = first s }
+  where
+    some-cell : 0 < cells s
+    some-cell =
+        let a : 0 < s .w = k .sides .wide in
+        let b : 0 < s .h = k .sides .high in
+        let c : 0 < s .l = k .sides .long in
+        omega (arith, cellAt-in s a b c)
+
+module _ (s : Size) {c y z : ℕ} (within : Within s) (starts : Starts s c y z) where
+  there : Inside s c
+  there = inside-of s c (within .sides .wide) (within .sides .long) (starts .inside)
+
+  y-is : y ≡ yOf s c
+  y-is = ap (λ (v : Triple). v .y) (starts .cords)
+
+  z-is : z ≡ zOf s c
+  z-is = ap (λ (v : Triple). v .z) (starts .cords)
+
+  pub high : y < s .h
+  high = rw y-is (there .y)
+
+  pub long : z < s .l
+  long = rw z-is (there .z)
+
+  start-is : cellAt s 0 y z ≡ c
+  start-is = (λ i. cellAt s (starts .cords i .x) (starts .cords i .y) (starts .cords i .z)) ∙ cellAt-coordinates s c
+
+  pub cell-is : (x : ℕ) → cellAt s x y z ≡ c + x
+  cell-is x = omega (arith, start-is)
+
+  pub row-end : c + s .w ≤ cells s
+  row-end =
+      let w = within .sides .wide in
+      let l : s .w - 1 < s .w = omega arith in
+      omega (arith, cellAt-in s l high long, cell-is (s .w - 1))
+
+  pub row-cords : (x : ℕ) → x < s .w → cordsOf x y z ≡ coordinates s (c + x)
+  row-cords x h = sym (coordinates-cellAt s h long) ∙ ap (coordinates s) (cell-is x)
+
+  -- its last cell, and the row after it
+  pub last-in : c + (s .w - 1) < cells s
+  last-in = let w = within .sides .wide in omega (arith, row-end)
+
+  pub last-cords : cordsOf (s .w - 1) y z ≡ coordinates s (c + (s .w - 1))
+  last-cords = let w = within .sides .wide in row-cords (s .w - 1) (omega arith)
+
+  pub next-cords : {y′ z′ : ℕ} → y′ ≡ yOf s (c + (s .w - 1) + 1) → z′ ≡ zOf s (c + (s .w - 1) + 1) → cordsOf 0 y′ z′ ≡ coordinates s (c + (s .w - 1) + 1)
+  next-cords p q =
+      let w = within .sides .wide in
+      let n = next s (c + (s .w - 1)) within last-in last-cords in
+      together s (c + (s .w - 1) + 1) (n .wraps (omega arith)) p q
+
+-- ---- cells drawn, some and then the others
+pub asked-split : (sets : ℕ → ℕ) (m n c : ℕ) → asked sets c (m + n) ≡ asked sets c m + asked sets (c + m) n
+unfolding asked
+asked-split sets zero n c =
+    let a : 0 + n ≡ n = omega arith in
+    let b : c + 0 ≡ c = omega arith in
+    rw (a, b) (omega arith)
+asked-split sets (suc m) n c =
+    let a : suc m + n ≡ suc (m + n) = omega arith in
+    let b : c + suc m ≡ suc c + m = omega arith in
+    rw (a, b) (omega (arith, asked-split sets m n (suc c)))
+
+pub asked-step : (sets : ℕ → ℕ) (n c : ℕ) → asked sets c (n + 1) ≡ asked sets c n + quadsOf (sets (c + n))
+unfolding asked
+asked-step sets n c = omega (arith, asked-split sets n 1 c)
+
+pub asked-le : (sets : ℕ → ℕ) (m n c : ℕ) → m ≤ n → asked sets c m ≤ asked sets c n
+asked-le sets m n c h =
+    let e : m + (n - m) ≡ n = omega arith in
+    let a = ap (asked sets c) e in
+    omega (arith, asked-split sets m (n - m) c)
+
+pub asked-few : (sets : ℕ → ℕ) (n c : ℕ) → asked sets c n ≤ 6 * n
+unfolding asked
+asked-few sets zero c = omega arith
+asked-few sets (suc n) c = omega (arith, quads-le (sets c), asked-few sets n (suc c))
+
+-- the same sets, elsewhere
+pub asked-moved : (s t : ℕ → ℕ) (n a c : ℕ) → ((x : ℕ) → x < n → s (a + x) ≡ t (c + x)) → asked s a n ≡ asked t c n
+unfolding asked
+asked-moved s t zero a c e = refl
+asked-moved s t (suc n) a c e =
+    let o : s a ≡ t c = ap s (omega arith) ∙ e 0 (omega arith) ∙ ap t (omega arith) in
+    rw (o, asked-moved s t n (suc a) (suc c) (λ x h. ap s (omega arith) ∙ e (x + 1) (omega arith) ∙ ap t (omega arith)))
+
+-- a row that holds the sets of its cells asks for what they ask for
+pub asked-row : (sets : ℕ → ℕ) (c n : ℕ) (list : List ℕ) → n ≤ length list → RowOf sets c n list
+    → asked (setsFrom 0 (take n list)) 0 (length (take n list)) ≡ asked sets c n
+asked-row sets c n list h r =
+    let l = length-take-le n list h in
+    ap (asked (setsFrom 0 (take n list)) 0) l
+    ∙ asked-moved (setsFrom 0 (take n list)) sets n 0 c
+    (λ x k. ap (λ (i : ℕ). getD (take n list) i 0) (omega arith) ∙ getD-take n list x 0 k ∙ r x k)
+
+-- the first cells, and a row more
+pub asked-on : (sets : ℕ → ℕ) (c n : ℕ) → asked sets 0 (c + n) ≡ asked sets 0 c + asked sets c n
+asked-on sets c n = asked-split sets c n 0 ∙ ap (λ (k : ℕ). asked sets 0 c + asked sets k n) (omega arith)
+
+module _ (w : ℕ) (quad : ℕ → ℕ → Quad) where
+  pub drawn-split : (sets : ℕ → ℕ) (m n base c : ℕ) (B : Lists)
+      → cellsDrawn w sets quad base c (m + n) B ≡ cellsDrawn w sets quad (base + asked sets c m) (c + m) n (cellsDrawn w sets quad base c m B)
+  unfolding cellsDrawn asked
+  drawn-split sets zero n base c B =
+      let a : 0 + n ≡ n = omega arith in
+      let b : base + 0 ≡ base = omega arith in
+      let d : c + 0 ≡ c = omega arith in
+      rw (a, b, d) refl
+  drawn-split sets (suc m) n base c B =
+      let a : suc m + n ≡ suc (m + n) = omega arith in
+      let b : base + (quadsOf (sets c) + asked sets (suc c) m) ≡ base + quadsOf (sets c) + asked sets (suc c) m = omega arith in
+      let d : c + suc m ≡ suc c + m = omega arith in
+      rw (a, b, d) (drawn-split sets m n (base + quadsOf (sets c)) (suc c) (facesDrawn w (sets c) (quad c) base c 0 6 B))
+
+  -- the first cells, and a row more
+  pub drawn-on : (sets : ℕ → ℕ) (c n : ℕ) (B : Lists) → cellsDrawn w sets quad (asked sets 0 c) c n (cellsDrawn w sets quad 0 0 c B) ≡ cellsDrawn w sets quad 0 0 (c + n) B
+  drawn-on sets c n B =
+      let a : asked sets 0 c ≡ 0 + asked sets 0 c = omega arith in
+      let d : c ≡ 0 + c = omega arith in
+      (λ i. cellsDrawn w sets quad (a i) (d i) n (cellsDrawn w sets quad 0 0 c B)) ∙ sym (drawn-split sets c n 0 0 B)
+
+  pub drawn-like : (n base c : ℕ) (s t : ℕ → ℕ) → ((k : ℕ) → c ≤ k → k < c + n → s k ≡ t k) → (B : Lists)
+      → cellsDrawn w s quad base c n B ≡ cellsDrawn w t quad base c n B
+  unfolding cellsDrawn
+  drawn-like zero base c s t e B = refl
+  drawn-like (suc n) base c s t e B =
+      rw (e c (omega arith) (omega arith))
+      (drawn-like n (base + quadsOf (t c)) (suc c) s t (λ k a b. e k (omega arith) (omega arith)) (facesDrawn w (t c) (quad c) base c 0 6 B))
+
+  -- the lists keep their lengths
+  pub kept-cells : (sets : ℕ → ℕ) → ((c f : ℕ) → length (quad c f .words) ≡ w) → (n base c : ℕ) (B : Lists) → Room w (base + asked sets c n) B
+      → Kept B (cellsDrawn w sets quad base c n B)
+  unfolding cellsDrawn asked
+  kept-cells sets sized zero base c B r = kept-none B
+  kept-cells sets sized (suc n) base c B r =
+      let k = kept-faces w (sets c) (quad c) base c (sized c) 6 0 B (omega arith) (room-less (omega arith) r) in
+      let a : base + quadsOf (sets c) + asked sets (suc c) n ≤ base + (quadsOf (sets c) + asked sets (suc c) n) = omega arith in
+      kept-then k (kept-cells sets sized n (base + quadsOf (sets c)) (suc c) (facesDrawn w (sets c) (quad c) base c 0 6 B) (room-kept k (room-less a r)))
+
+  -- one cell more
+  pub drawn-more : (sets : ℕ → ℕ) (n base c : ℕ) (B : Lists) → cellsDrawn w sets quad base c (n + 1) B
+      ≡ facesDrawn w (sets (c + n)) (quad (c + n)) (base + asked sets c n) (c + n) 0 6 (cellsDrawn w sets quad base c n B)
+  unfolding cellsDrawn
+  drawn-more sets n base c B = drawn-split sets n 1 base c B
+
+  -- STAND-IN
+  bare-faces : (set base c k : ℕ) (B : Lists) → ((f : ℕ) → quad c f .key ≡ keyOf c f) → c ≢ k → Bare k B → Bare k (facesDrawn w set (quad c) base c 0 6 B)
+  bare-faces = ?
+
+  -- and a cell that is not drawn stays bare
+  pub bare-cells : (sets : ℕ → ℕ) → ((c f : ℕ) → quad c f .key ≡ keyOf c f) → (n base c k : ℕ) (B : Lists) → c + n ≤ k → Bare k B
+      → Bare k (cellsDrawn w sets quad base c n B)
+  unfolding cellsDrawn
+  bare-cells sets keyed zero base c k B h b = b
+  bare-cells sets keyed (suc n) base c k B h b =
+      bare-cells sets keyed n (base + quadsOf (sets c)) (suc c) k (facesDrawn w (sets c) (quad c) base c 0 6 B) (omega arith)
+      (bare-faces (sets c) base c k B (keyed c) (λ e. absurd (omega (arith, e))) b)
+
+  -- a bare cell that asks for nothing is left as it is
+  pub still : (c base : ℕ) (B : Lists) → Bare c B → facesDrawn w 0 (quad c) base c 0 6 B ≡ B
+  unfolding facesDrawn bareAt
+  still c base B b = λ i. record { vertices = B .vertices; triangles = B .triangles; links = B .links; slots = all i }
+    where
+      one : (f : ℕ) → f < 6 → set (B .slots) (keyOf c f) NONE ≡ B .slots
+      one f h = ap (set (B .slots) (keyOf c f)) (sym (b f h)) ∙ set-getD (B .slots) (keyOf c f) NONE
+
+      all : set (set (set (set (set (set (B .slots) (keyOf c 0) NONE) (keyOf c 1) NONE) (keyOf c 2) NONE) (keyOf c 3) NONE) (keyOf c 4) NONE) (keyOf c 5) NONE ≡ B .slots
+      all =
+          rw (one 0 (omega arith), one 1 (omega arith), one 2 (omega arith), one 3 (omega arith), one 4 (omega arith), one 5 (omega arith)) refl
+
+-- ---- a row of cells, drawn by a list of sets
+module _ (S : Scene) (g list : List ℕ) {c base : ℕ} {B : Lists} (r : RowReady S g list c base B) {y z : ℕ} (starts : Starts (S .size) c y z) where
+  abbrev sets : ℕ → ℕ
+  sets = setsFrom c list
+
+  -- the lists when n cells are drawn
+  abbrev pub drawnTo : ℕ → Lists
+  drawnTo n = cellsDrawn (span S) sets (quadAt (world S) g) base c n B
+
+  set-is : (x : ℕ) → sets (c + x) ≡ getD list x 0
+  set-is x = ap (λ (k : ℕ). getD list k 0) (omega arith)
+
+  room-to : {n : ℕ} → n ≤ S .size .w → Room (span S) (base + asked sets c n) B
+  room-to {n} h = room-less (omega (arith, asked-le sets n (S .size .w) c h)) (r .room)
+
+  pub row-kept : {n : ℕ} → n ≤ S .size .w → Kept B (drawnTo n)
+  row-kept {n} h = kept-cells (span S) (quadAt (world S) g) sets (λ c f. words-sized S (typeAt g c) f c) n base c B (room-to h)
+
+  pub cell-ready : {x : ℕ} → x < S .size .w → CellReady S g (getD list x 0) (c + x) (base + asked sets c x) (drawnTo x)
+  cell-ready {x} h =
+      let e = row-end (S .size) (r .within) starts in
+      let k = row-kept {n = x} (omega arith) in
+      let a = asked-step sets x c in
+      let q : quadsOf (sets (c + x)) ≡ quadsOf (getD list x 0) = ap quadsOf (set-is x) in
+      let n : x + 1 ≤ S .size .w = omega arith in
+      record {
+        inside = omega (arith, r .whole);
+        cube = r .cube x h;
+        ready = record {
+          few = r .few x h;
+          drawable = r .drawable x h;
+          room = room-kept k (room-less (omega arith) (room-to n));
+          slotted = record { fits = omega (arith, r .within .most); six = omega (arith, k .slots, r .slots) };
+        };
+        bare = bare-cells (span S) (quadAt (world S) g) sets (λ c f. refl) x base c (c + x) B (omega arith) (r .bare x h);
+      }
+
+  pub row-more : (x : ℕ) {A : Lists} → A ≡ facesDrawn (span S) (getD list x 0) (quadAt (world S) g (c + x)) (base + asked sets c x) (c + x) 0 6 (drawnTo x)
+      → A ≡ drawnTo (x + 1)
+  row-more x e = e ∙ sym (rw (sym (set-is x)) (drawn-more (span S) (quadAt (world S) g) sets x base c B))
