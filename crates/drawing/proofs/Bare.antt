@@ -1,26 +1,26 @@
 -- Slots that hold no quad: what drawing leaves bare, and drawing over bare slots. Assumes nothing.
 use mathlib.Core.Path.{_≡_, refl, sym, ap, _∙_}
 use mathlib.Core.Logic.{_≢_}
-use mathlib.Core.Bool.{cond}
-use mathlib.Core.List.{List}
+use mathlib.Core.Bool.{Bool, cond}
+use mathlib.Core.List.{List, _++_}
 use Prim.Native.Nat.{ℕ, zero, suc, _+_, _-_, _*_, _≤_, _<_}
 use native.Mathlib.Decide.{ℕ-discrete, decLt}
 use native.Mathlib.Omega.{arith}
-use lib.ListN.{length, getD, set, replicate, length-set, length-replicate}
-use lib.Seq.{ext-getD, getD-set-same, getD-set-other}
+use lib.ListN.{length, getD, set, take, drop, replicate, length-set, length-replicate, List·getD-append}
+use lib.Seq.{ext-getD, length-take-le, getD-append-add, getD-set-same, getD-set-other}
 use Rattle.rules.specs.Cells.{keyOf, linkOf, firstVertex, has, rank, quadsOf}
 use Rattle.rules.specs.Mesh.{Quad, Lists, NONE, pattern}
 use Rattle.rules.proofs.ListLaws.{split}
 use Rattle.vav.specs.Rows.{put}
-use Rattle.vav.proofs.Laws.{length-put, put-before, put-within, put-past}
+use Rattle.vav.proofs.Laws.{length-put, put-before, put-past}
 use Rattle.drawing.specs.Drawn.{drawnAt, bareAt, faceDrawn, facesDrawn, cellsDrawn, bareCells}
 use Rattle.drawing.specs.Rooms.{Bare}
-use Rattle.drawing.proofs.Turns.{Kept, slot-other}
+use Rattle.drawing.proofs.Turns.{Kept, slot-other, bare-already, zero-has}
 
 -- ---- what a cell's faces leave
 module _ (s set : ℕ) (quad : ℕ → Quad) (base c : ℕ) (keyed : (f : ℕ) → quad f .key ≡ keyOf c f) where
   pub slot-outside : (n f k : ℕ) (B : Lists) → ((g : ℕ) → f ≤ g → g < f + n → k ≢ keyOf c g)
-      → getD (facesDrawn s set quad base c f n B .slots) k 0 ≡ getD (B .slots) k 0
+      → getD (facesDrawn s set quad base c f n B .slots) k NONE ≡ getD (B .slots) k NONE
   unfolding facesDrawn
   slot-outside zero f k B h = refl
   slot-outside (suc n) f k B h =
@@ -28,15 +28,25 @@ module _ (s set : ℕ) (quad : ℕ → Quad) (base c : ℕ) (keyed : (f : ℕ) �
       ∙ slot-other s set quad base c keyed f k B (h f (omega arith) (omega arith))
 
   -- LAW: another cell stays bare
-  pub stays-bare : (k : ℕ) (B : Lists) → k ≢ c → Bare k B → Bare k (facesDrawn s set quad base c 0 6 B)
+  pub stays-bare : (k : ℕ) (B : Lists) → c ≢ k → Bare k B → Bare k (facesDrawn s set quad base c 0 6 B)
   stays-bare k B h b f l =
-      slot-outside 6 0 (keyOf k f) B (λ g a u e. let same : k ≡ c = omega arith in h same) ∙ b f l
+      slot-outside 6 0 (keyOf k f) B (λ g a u e. let same : c ≡ k = omega arith in h same) ∙ b f l
+
+  -- LAW: a bare cell that shows nothing is left as it is
+  pub still-bare : (n f : ℕ) (B : Lists) → f + n ≤ 6 → Bare c B → set ≡ 0 → facesDrawn s set quad base c f n B ≡ B
+  unfolding facesDrawn
+  still-bare zero f B h b e = refl
+  still-bare (suc n) f B h b e =
+      let none : faceDrawn s set quad base c f B ≡ B =
+      ap (λ (t : Bool). cond t (drawnAt s (base + rank set f) (quad f) B) (bareAt (keyOf c f) B)) (ap (λ (m : ℕ). has m f) e ∙ zero-has f)
+      ∙ bare-already (keyOf c f) B (b f (omega arith)) in
+      ap (facesDrawn s set quad base c (suc f) n) none ∙ still-bare n (suc f) B (omega arith) b e
 
 -- ---- cells made bare
-getD-replicate : (n k v d : ℕ) → k < n → getD (replicate n v) k d ≡ v
-getD-replicate zero k v d h = absurd (omega arith)
-getD-replicate (suc n) zero v d h = refl
-getD-replicate (suc n) (suc k) v d h = getD-replicate n k v d (omega arith)
+getD-replicate : (n k v : ℕ) → getD (replicate n v) k v ≡ v
+getD-replicate zero k v = refl
+getD-replicate (suc n) zero v = refl
+getD-replicate (suc n) (suc k) v = getD-replicate n k v
 
 module _ (c n : ℕ) (B : Lists) (fits : 6 * (c + n) ≤ length (B .slots)) where
   pub kept-bare-cells : Kept B (bareCells c n B)
@@ -51,12 +61,16 @@ module _ (c n : ℕ) (B : Lists) (fits : 6 * (c + n) ≤ length (B .slots)) wher
 
   -- LAW: each of them is bare
   pub bared : (k : ℕ) → c ≤ k → k < c + n → Bare k (bareCells c n B)
-  unfolding bareCells
+  unfolding bareCells put
   bared k l u f h =
-      let e : keyOf k f ≡ 6 * c + (keyOf k f - 6 * c) = omega arith in
-      ap (λ (j : ℕ). getD (put (6 * c) (replicate (6 * n) NONE) (B .slots)) j 0) e
-      ∙ put-within (6 * c) (replicate (6 * n) NONE) (B .slots) (keyOf k f - 6 * c) (omega arith) (omega (arith, length-replicate (6 * n) NONE))
-      ∙ getD-replicate (6 * n) (keyOf k f - 6 * c) NONE 0 (omega arith)
+      let bare = replicate (6 * n) NONE in
+      let j = keyOf k f - 6 * c in
+      let front : length (take (6 * c) (B .slots)) ≡ 6 * c = length-take-le (6 * c) (B .slots) (omega arith) in
+      let e : keyOf k f ≡ length (take (6 * c) (B .slots)) + j = omega arith in
+      ap (λ (i : ℕ). getD (put (6 * c) bare (B .slots)) i NONE) e
+      ∙ getD-append-add (take (6 * c) (B .slots)) (bare ++ drop (6 * c + length bare) (B .slots)) j NONE
+      ∙ List·getD-append bare (drop (6 * c + length bare) (B .slots)) NONE j (omega (arith, length-replicate (6 * n) NONE))
+      ∙ getD-replicate (6 * n) j NONE
 
 -- ---- lists that differ in a stretch alone, which is written word by word
 record Agree (from to : ℕ) (xs ys : List ℕ) : Type 0 where

@@ -107,18 +107,18 @@ kept-bare key B = record { vertices = refl; triangles = refl; links = refl; slot
 -- ---- a face whose quad has its key
 module _ (s set : ℕ) (quad : ℕ → Quad) (base c : ℕ) (keyed : (f : ℕ) → quad f .key ≡ keyOf c f) where
   -- any other slot stays as it is
-  pub slot-other : (f k : ℕ) (B : Lists) → k ≢ keyOf c f → getD (faceDrawn s set quad base c f B .slots) k 0 ≡ getD (B .slots) k 0
+  pub slot-other : (f k : ℕ) (B : Lists) → k ≢ keyOf c f → getD (faceDrawn s set quad base c f B .slots) k NONE ≡ getD (B .slots) k NONE
   unfolding drawnAt bareAt
   slot-other f k B h =
-      split (λ b. getD ((cond b (drawnAt s (base + rank set f) (quad f) B) (bareAt (keyOf c f) B)) .slots) k 0 ≡ getD (B .slots) k 0) (has set f)
-      (λ e. getD-set-other (B .slots) (quad f .key) k (firstVertex (base + rank set f)) 0 (λ x. h (x ∙ keyed f)))
-      (λ e. getD-set-other (B .slots) (keyOf c f) k NONE 0 h)
+      split (λ b. getD ((cond b (drawnAt s (base + rank set f) (quad f) B) (bareAt (keyOf c f) B)) .slots) k NONE ≡ getD (B .slots) k NONE) (has set f)
+      (λ e. getD-set-other (B .slots) (quad f .key) k (firstVertex (base + rank set f)) NONE (λ x. h (x ∙ keyed f)))
+      (λ e. getD-set-other (B .slots) (keyOf c f) k NONE NONE h)
 
 -- a face that is bare already
-pub bare-already : (key : ℕ) (B : Lists) → getD (B .slots) key 0 ≡ NONE → bareAt key B ≡ B
+pub bare-already : (key : ℕ) (B : Lists) → getD (B .slots) key NONE ≡ NONE → bareAt key B ≡ B
 unfolding bareAt
 bare-already key B e =
-    let z : set (B .slots) key NONE ≡ B .slots = ap (set (B .slots) key) (sym e) ∙ set-getD (B .slots) key 0 in
+    let z : set (B .slots) key NONE ≡ B .slots = ap (set (B .slots) key) (sym e) ∙ set-getD (B .slots) key NONE in
     λ i. record { vertices = B .vertices; triangles = B .triangles; links = B .links; slots = z i }
 
 -- ---- face after face
@@ -143,7 +143,7 @@ module _ (s set : ℕ) (quad : ℕ → Quad) (base c : ℕ) (wide : (f : ℕ) �
     pub whole : facesDrawn s set quad base c f (6 - f) B ≡ facesDrawn s set quad base c 0 6 B₀
     pub kept : Kept B₀ B
     pub place : q ≡ base + rank set f
-    pub bare : (g : ℕ) → f ≤ g → g < 6 → getD (B .slots) (keyOf c g) 0 ≡ NONE
+    pub bare : (g : ℕ) → f ≤ g → g < 6 → getD (B .slots) (keyOf c g) NONE ≡ NONE
 
   pub start : (B : Lists) → Bare c B → Turn 0 base B B
   unfolding count

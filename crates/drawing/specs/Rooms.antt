@@ -28,4 +28,4 @@ pub record Ready (cube : List ℕ) (floats : ℕ) (a d : Triple) (set base c : �
 
 -- the six slots of a cell hold no quad
 abbrev pub Bare : ℕ → Lists → Type 0
-Bare c B = (f : ℕ) → f < 6 → getD (B .slots) (keyOf c f) 0 ≡ NONE
+Bare c B = (f : ℕ) → f < 6 → getD (B .slots) (keyOf c f) NONE ≡ NONE
