@@ -2,7 +2,7 @@
 use Prim.Native.Nat.{ℕ, zero, suc, _+_, _*_}
 use mathlib.Core.Bool.{cond}
 use mathlib.Core.List.{List}
-use lib.ListN.{set}
+use lib.ListN.{set, replicate}
 use Rattle.rules.specs.Cells.{keyOf, linkOf, firstVertex, has, rank, quadsOf}
 use Rattle.rules.specs.Mesh.{Quad, Lists, NONE, pattern}
 use Rattle.vav.specs.Rows.{put}
@@ -40,3 +40,13 @@ cellsDrawn s sets quad base c (suc n) B =
 unfoldable pub asked : (ℕ → ℕ) → ℕ → ℕ → ℕ
 asked sets c zero = 0
 asked sets c (suc n) = quadsOf (sets c) + asked sets (suc c) n
+
+-- the slots of cells c, c + 1, .., n of them, with no quad
+unfoldable pub bareCells : ℕ → ℕ → Lists → Lists
+bareCells c n B =
+    record {
+      vertices = B .vertices;
+      triangles = B .triangles;
+      links = B .links;
+      slots = put (6 * c) (replicate (6 * n) NONE) (B .slots);
+    }

@@ -1,8 +1,9 @@
 -- What drawing asks for: room in the four lists, and what a cell's six faces ask. Definitions only.
 use Prim.Native.Nat.{ℕ, _+_, _*_, _≤_, _<_}
 use mathlib.Core.List.{List}
-use lib.ListN.{length}
-use Rattle.rules.specs.Cells.{Triple, UNIT, quadsOf}
+use mathlib.Core.Path.{_≡_}
+use lib.ListN.{length, getD}
+use Rattle.rules.specs.Cells.{Triple, UNIT, keyOf, quadsOf}
 use Rattle.rules.specs.Mesh.{Lists, NONE}
 use Rattle.quads.specs.Quads.{Drawable}
 
@@ -24,3 +25,7 @@ pub record Ready (cube : List ℕ) (floats : ℕ) (a d : Triple) (set base c : �
   pub drawable : 0 < quadsOf set → Drawable cube floats a d
   pub room : Room (4 * floats) (base + quadsOf set) B
   pub slotted : Slotted c B
+
+-- the six slots of a cell hold no quad
+abbrev pub Bare : ℕ → Lists → Type 0
+Bare c B = (f : ℕ) → f < 6 → getD (B .slots) (keyOf c f) NONE ≡ NONE

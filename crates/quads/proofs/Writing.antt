@@ -1,27 +1,28 @@
 -- Laws of the words that are written: corners, positions, a vertex, a quad. Assumes nothing.
 use mathlib.Core.Path.{_≡_, refl, sym, ap, _∙_}
 use mathlib.Core.Bool.{Bool, true, false, cond, _&&_}
-use mathlib.Core.List.{List, append-nil}
-use Prim.Native.Nat.{ℕ, zero, suc, _+_, _*_, _≤_, _<_}
-use native.Mathlib.Nat.{mul-le-mul-left}
+use mathlib.Core.List.{List, [], _∷_, _++_, append-nil, append-assoc}
+use Prim.Native.Nat.{ℕ, zero, suc, _+_, _-_, _*_, _≤_, _<_}
+use native.Mathlib.Nat.{mul-le-mul-left, add-zero, zero-add}
+use native.Mathlib.Decide.{decLt}
 use native.Mathlib.Omega.{arith}
 use lib.Dec.{T, eqb}
-use lib.ListN.{length, getD, set, length-set, drop-of-length-le}
-use lib.Seq.{getD-set-same, getD-set-other}
+use lib.ListN.{length, getD, take, drop, length-append, length-take, drop-of-length-le}
+use lib.Seq.{ext-getD, sets, sets-eq, take-at, drop-append-add, drop-drop}
 use lib.Ieee.Fits.{and-l, and-r}
 use borrow.Author.Tests.{le-ltb}
-use Rattle.rules.specs.Lists.{row, table}
+use Rattle.rules.specs.Lists.{each, table}
 use Rattle.rules.specs.Cells.{Triple, along}
 use Rattle.rules.specs.Floats.{finite}
 use Rattle.rules.specs.Types.{movedWord, order, quadWord, quadWords}
-use Rattle.rules.proofs.ListLaws.{table-is, length-table, length-each}
+use Rattle.rules.proofs.ListLaws.{length-row, getD-row, length-table, getD-table, length-each}
+use Rattle.rules.proofs.Rows.{each-more}
 use Rattle.face.specs.declared.Face.{Face}
 use Rattle.face.specs.Face.{number}
 use Rattle.face.proofs.Laws.{number-below}
-use Rattle.rules.proofs.Rows.{written}
 use Rattle.vav.specs.Rows.{put}
-use Rattle.vav.proofs.Laws.{length-part, part-at}
-use Rattle.quads.specs.Quads.{vertexWord, vertexWords, Drawable}
+use Rattle.vav.proofs.Laws.{length-put, put-before, put-within, put-past, put-none}
+use Rattle.quads.specs.Quads.{four, wordAt, vertexWord, vertexWords, Drawable}
 
 -- ---- corners
 
@@ -66,48 +67,123 @@ module _ {cube : List ℕ} {n : ℕ} {a d : Triple} (h : Drawable cube n a d) wh
   pub low-along : (k : ℕ) → along a k ≤ 1024
   low-along k = along-of (λ x. x ≤ 1024) a k (h .x) (h .y) (h .z)
 
--- ---- a vertex
+-- ---- words written over a list
 
--- a whole list is put over another
-put-whole : (n : ℕ) (ys xs : List ℕ) → length ys ≡ length xs → put (n * 0) ys xs ≡ ys
+-- word after word
+pub stored : (at : ℕ) (ys xs : List ℕ) → at + length ys ≤ length xs → sets xs at ys ≡ put at ys xs
 unfolding put
-put-whole n ys xs e =
-    let z : n * 0 ≡ 0 = omega arith in
-    rw (z, drop-of-length-le xs {i = 0 + length ys} (omega arith)) (append-nil ys)
+stored at ys xs h = sets-eq ys xs at h ∙ append-assoc (take at xs) ys (drop (at + length ys) xs)
 
+-- a list where another one ends
+pub put-next : (at : ℕ) (ys zs xs : List ℕ) → at ≤ length xs → put (at + length ys) zs (put at ys xs) ≡ put at (ys ++ zs) xs
+unfolding put
+put-next at ys zs xs h =
+    let front = take at xs ++ ys in
+    let rest = drop (at + length ys) xs in
+    let l : length front ≡ at + length ys = simp (length-append, length-take) (omega arith) in
+    let e : at + length ys + length zs ≡ at + length (ys ++ zs) = simp length-append (omega arith) in
+    let d : drop (at + length ys + length zs) (front ++ rest) ≡ drop (at + length (ys ++ zs)) xs =
+    ap (λ (k : ℕ). drop (k + length zs) (front ++ rest)) (sym l) ∙ drop-append-add front rest (length zs)
+    ∙ drop-drop (length zs) (at + length ys) xs ∙ ap (λ (k : ℕ). drop k xs) e in
+    ap (λ (r : List ℕ). take (at + length ys) r ++ (zs ++ drop (at + length ys + length zs) r)) (sym (append-assoc (take at xs) ys rest))
+    ∙ rw (take-at front rest (at + length ys) l, d) (simp append-assoc)
+
+-- a whole list over another
+pub put-whole : (ys xs : List ℕ) → length ys ≡ length xs → put 0 ys xs ≡ ys
+unfolding put
+put-whole ys xs e = rw (drop-of-length-le xs {i = 0 + length ys} (omega arith)) (append-nil ys)
+
+-- m words from word i on, over the first j, which reach as far at least
+module _ (v : ℕ → ℕ) (to i m j : ℕ) (xs : List ℕ) (a : i ≤ j) (b : j ≤ i + m) (h : to + (i + m) ≤ length xs) where
+  within : (n k : ℕ) → to ≤ k → k < to + n → getD (put to (table n v) xs) k 0 ≡ v (k - to)
+  within n k l u =
+      let e : k ≡ to + (k - to) = omega arith in
+      ap (λ (q : ℕ). getD (put to (table n v) xs) q 0) e
+      ∙ put-within to (table n v) xs (k - to) (omega arith) (omega (arith, length-table v n)) ∙ getD-table v n (k - to) 0 (omega arith)
+
+  abbrev under : List ℕ
+  under = put to (table j v) xs
+
+  abbrev over : List ℕ
+  over = each m i (λ k. v k ∷ [])
+
+  length-under : length under ≡ length xs
+  length-under = length-put to (table j v) xs (omega (arith, length-table v j))
+
+  word-over : (k : ℕ) → Dec (k < to) → Dec (k < to + i) → Dec (k < to + (i + m))
+      → getD (put (to + i) over under) k 0 ≡ getD (put to (table (i + m) v) xs) k 0
+  word-over k (yes p) q r =
+      put-before (to + i) over under k (omega (arith, length-under)) (omega arith)
+      ∙ put-before to (table j v) xs k (omega arith) p ∙ sym (put-before to (table (i + m) v) xs k (omega arith) p)
+  word-over k (no p) (yes q) r =
+      put-before (to + i) over under k (omega (arith, length-under)) q
+      ∙ within j k (omega arith) (omega arith) ∙ sym (within (i + m) k (omega arith) (omega arith))
+  word-over k (no p) (no q) (yes r) =
+      let e : k ≡ to + i + (k - (to + i)) = omega arith in
+      let f : i + (k - (to + i)) ≡ k - to = omega arith in
+      ap (λ (q : ℕ). getD (put (to + i) over under) q 0) e
+      ∙ put-within (to + i) over under (k - (to + i)) (omega (arith, length-under)) (omega (arith, length-row v m i))
+      ∙ getD-row v m i (k - (to + i)) 0 (omega arith) ∙ ap v f ∙ sym (within (i + m) k (omega arith) r)
+  word-over k (no p) (no q) (no r) =
+      put-past (to + i) over under k (omega (arith, length-under)) (omega (arith, length-row v m i))
+      ∙ put-past to (table j v) xs k (omega arith) (omega (arith, length-table v j))
+      ∙ sym (put-past to (table (i + m) v) xs k (omega arith) (omega (arith, length-table v (i + m))))
+
+  pub stitched : put (to + i) over under ≡ put to (table (i + m) v) xs
+  stitched =
+      ext-getD 0 (put (to + i) over under) (put to (table (i + m) v) xs)
+      (length-put (to + i) over under (omega (arith, length-under, length-row v m i)) ∙ length-under
+      ∙ sym (length-put to (table (i + m) v) xs (omega (arith, length-table v (i + m)))))
+      (λ k l. word-over k (decLt k to) (decLt k (to + i)) (decLt k (to + (i + m))))
+
+-- ---- a vertex
 module _ (cube : List ℕ) (n : ℕ) (d a : Triple) (v : ℕ) where
   abbrev moved : ℕ → ℕ
-  moved k = movedWord (getD cube (n * v + k) 0) (along a k) (along d k)
+  moved k = movedWord (wordAt cube n v k) (along a k) (along d k)
 
-  abbrev pub vertexOver : List ℕ → List ℕ
-  vertexOver xs = set (set (set xs 0 (moved 0)) 1 (moved 1)) 2 (moved 2)
+  -- its position, and the word after it
+  abbrev pub head : List ℕ
+  head = moved 0 ∷ moved 1 ∷ moved 2 ∷ wordAt cube n v 3 ∷ []
 
-  vertex-at : (xs : List ℕ) → 3 ≤ length xs → ((k : ℕ) → k < length xs → getD xs k 0 ≡ getD cube (n * v + k) 0)
-      → (k : ℕ) → k < length xs → getD (vertexOver xs) k 0 ≡ vertexWord cube n d a v k
+  head-is : head ≡ table 4 (vertexWord cube n d a v)
+  unfolding vertexWord each
+  head-is = refl
+
+  kept-word : (k : ℕ) → 3 ≤ k → wordAt cube n v k ≡ vertexWord cube n d a v k
   unfolding vertexWord
-  vertex-at xs l e zero h =
-      getD-set-other (set (set xs 0 (moved 0)) 1 (moved 1)) 2 0 (moved 2) 0 (λ x. omega arith)
-      ∙ getD-set-other (set xs 0 (moved 0)) 1 0 (moved 1) 0 (λ x. omega arith) ∙ getD-set-same xs 0 (moved 0) 0 (omega arith)
-  vertex-at xs l e (suc zero) h =
-      getD-set-other (set (set xs 0 (moved 0)) 1 (moved 1)) 2 1 (moved 2) 0 (λ x. omega arith)
-      ∙ getD-set-same (set xs 0 (moved 0)) 1 (moved 1) 0 (simp length-set (omega arith))
-  vertex-at xs l e (suc (suc zero)) h =
-      getD-set-same (set (set xs 0 (moved 0)) 1 (moved 1)) 2 (moved 2) 0 (simp length-set (omega arith))
-  vertex-at xs l e (suc (suc (suc k))) h =
-      rw (le-ltb (suc (suc (suc k))) 3 (omega arith))
-      (getD-set-other (set (set xs 0 (moved 0)) 1 (moved 1)) 2 (suc (suc (suc k))) (moved 2) 0 (λ x. omega arith)
-      ∙ getD-set-other (set xs 0 (moved 0)) 1 (suc (suc (suc k))) (moved 1) 0 (λ x. omega arith)
-      ∙ getD-set-other xs 0 (suc (suc (suc k))) (moved 0) 0 (λ x. omega arith) ∙ e (suc (suc (suc k))) h)
+  kept-word k h = sym (rw (le-ltb k 3 h))
 
-  -- a vertex's row, and its positions over it
-  pub vertex-written : (out : List ℕ) → n * v + n ≤ length cube → length out ≡ n → 3 ≤ n
-      → vertexOver (put (n * 0) (row n cube v) out) ≡ vertexWords cube n d a v
-  vertex-written out h e l =
-      let r : length (row n cube v) ≡ n = length-part (n * v) n cube h in
-      let o : length (vertexOver (row n cube v)) ≡ n = simp length-set r in
-      ap vertexOver (put-whole n (row n cube v) out (r ∙ sym e))
-      ∙ sym (table-is (vertexWord cube n d a v) n (vertexOver (row n cube v)) 0 o
-      (λ k b. vertex-at (row n cube v) (omega arith) (λ j c. part-at (n * v) n cube j (omega arith)) k (omega arith)))
+  -- four words past its position
+  four-is : (k : ℕ) → 3 ≤ k → four (wordAt cube n v) k ≡ each 4 k (λ j. vertexWord cube n d a v j ∷ [])
+  unfolding each
+  four-is k h =
+      let one : k + 1 ≡ suc k = omega arith in
+      let two : k + 2 ≡ suc (suc k) = omega arith in
+      let three : k + 3 ≡ suc (suc (suc k)) = omega arith in
+      rw (one, two, three)
+      (λ i. kept-word k h i ∷ kept-word (suc k) (omega arith) i ∷ kept-word (suc (suc k)) (omega arith) i
+      ∷ kept-word (suc (suc (suc k))) (omega arith) i ∷ [])
+
+  module _ (to : ℕ) (xs : List ℕ) (fits : to + n ≤ length xs) where
+    abbrev pub eight : List ℕ
+    eight = put (to + 4) (four (wordAt cube n v) 4) (put to head xs)
+
+    eight-is : 8 ≤ n → eight ≡ put to (table 8 (vertexWord cube n d a v)) xs
+    eight-is h =
+        ap (λ (ys : List ℕ). put (to + 4) ys (put to head xs)) (four-is 4 (omega arith))
+        ∙ ap (λ (ys : List ℕ). put (to + 4) (each 4 4 (λ j. vertexWord cube n d a v j ∷ [])) (put to ys xs)) head-is
+        ∙ stitched (vertexWord cube n d a v) to 4 4 4 xs (omega arith) (omega arith) (omega arith)
+
+    pub vertex-of-eight : n ≡ 8 → eight ≡ put to (vertexWords cube n d a v) xs
+    vertex-of-eight e = eight-is (omega arith) ∙ ap (λ (k : ℕ). put to (table k (vertexWord cube n d a v)) xs) (sym e)
+
+    pub vertex-written : 8 ≤ n → n ≤ 12 → put (to + (n - 4)) (four (wordAt cube n v) (n - 4)) eight ≡ put to (vertexWords cube n d a v) xs
+    vertex-written l u =
+        let e : n - 4 + 4 ≡ n = omega arith in
+        ap (λ (ys : List ℕ). put (to + (n - 4)) ys eight) (four-is (n - 4) (omega arith))
+        ∙ ap (put (to + (n - 4)) (each 4 (n - 4) (λ j. vertexWord cube n d a v j ∷ []))) (eight-is l)
+        ∙ stitched (vertexWord cube n d a v) to (n - 4) 4 8 xs (omega arith) (omega arith) (omega arith)
+        ∙ ap (λ (k : ℕ). put to (table k (vertexWord cube n d a v)) xs) e
 
 -- ---- a quad
 
@@ -121,8 +197,41 @@ pub length-quad : (cube : List ℕ) (n : ℕ) (d : Triple) (f : ℕ) (a : Triple
 unfolding quadWords
 length-quad cube n d f a = length-each n 4 0 (λ i. table n (quadWord cube n d f a i)) (λ i. length-table (quadWord cube n d f a i) n)
 
+-- row after row
+row-next : (n : ℕ) (p : ℕ → List ℕ) → ((k : ℕ) → length (p k) ≡ n) → (k at : ℕ) (xs : List ℕ) → at ≡ k * n
+    → put at (p k) (put 0 (each k 0 p) xs) ≡ put 0 (each (suc k) 0 p) xs
+row-next n p wide k at xs e =
+    let l : at ≡ 0 + length (each k 0 p) = omega (arith, length-each n k 0 p wide) in
+    ap (λ (j : ℕ). put j (p k) (put 0 (each k 0 p) xs)) l ∙ put-next 0 (each k 0 p) (p k) xs (omega arith)
+    ∙ ap (λ (r : List ℕ). put 0 r xs) (ap (λ (j : ℕ). each k 0 p ++ p j) (sym (zero-add k)) ∙ sym (each-more k 0 p))
+
 -- its four vertices fill its stretch
-pub quad-whole : (cube : List ℕ) (n : ℕ) (d : Triple) (f : ℕ) (a : Triple) (xs : List ℕ) → length xs ≡ 4 * n
-    → written n (λ i. table n (quadWord cube n d f a i)) 4 xs ≡ quadWords cube n d f a
-unfolding quadWords
-quad-whole cube n d f a xs e = rw (drop-of-length-le xs {i = 4 * n} (omega arith)) (append-nil (quadWords cube n d f a))
+module _ (cube : List ℕ) (n : ℕ) (d : Triple) (f : ℕ) (a : Triple) (xs : List ℕ) where
+  abbrev quadRow : ℕ → List ℕ
+  quadRow i = table n (quadWord cube n d f a i)
+
+  next : (k at : ℕ) → at ≡ k * n → put at (quadRow k) (put 0 (each k 0 quadRow) xs) ≡ put 0 (each (suc k) 0 quadRow) xs
+  next k at e = row-next n quadRow (λ i. length-table (quadWord cube n d f a i) n) k at xs e
+
+  abbrev vertex : ℕ → List ℕ
+  vertex v = vertexWords cube n d a v
+
+  abbrev vertices : ℕ → List ℕ
+  vertices g = put (3 * n) (vertex (4 * g + 2)) (put (2 * n) (vertex (4 * g + 3)) (put n (vertex (4 * g + 1)) (put 0 (vertex (4 * g)) xs)))
+
+  vertices-are : length xs ≡ 4 * n → vertices f ≡ quadWords cube n d f a
+  unfolding quadWords order each
+  vertices-are e =
+      let z : vertex (4 * f) ≡ quadRow 0 = ap vertex (sym (add-zero (4 * f))) ∙ quad-vertex cube n d a f 0 in
+      rw (z, quad-vertex cube n d a f 1, quad-vertex cube n d a f 2, quad-vertex cube n d a f 3, put-none 0 xs)
+      (ap (λ (r : List ℕ). put (3 * n) (quadRow 3) (put (2 * n) (quadRow 2) (put n (quadRow 1) r))) (next 0 0 (omega arith))
+      ∙ ap (λ (r : List ℕ). put (3 * n) (quadRow 3) (put (2 * n) (quadRow 2) r)) (next 1 n (omega arith))
+      ∙ ap (put (3 * n) (quadRow 3)) (next 2 (2 * n) refl) ∙ next 3 (3 * n) refl
+      ∙ put-whole (quadWords cube n d f a) xs (length-quad cube n d f a ∙ sym e))
+
+  pub quad-written : {g : ℕ} {first second third fourth : List ℕ} → g ≡ f → length xs ≡ 4 * n → first ≡ put 0 (vertex (4 * g)) xs
+      → second ≡ put n (vertex (4 * g + 1)) first → third ≡ put (2 * n) (vertex (4 * g + 3)) second
+      → fourth ≡ put (3 * n) (vertex (4 * g + 2)) third → fourth ≡ quadWords cube n d f a
+  quad-written {g} g≡f e one two three four =
+      four ∙ ap (put (3 * n) (vertex (4 * g + 2))) (three ∙ ap (put (2 * n) (vertex (4 * g + 3))) (two ∙ ap (put n (vertex (4 * g + 1))) one))
+      ∙ ap vertices g≡f ∙ vertices-are e

@@ -1,7 +1,7 @@
 -- The words of one vertex and of a cell's quads, and what drawing them asks for. Definitions only.
 use Prim.Native.Nat.{ℕ, _+_, _*_, _≤_}
 use mathlib.Core.Bool.{cond}
-use mathlib.Core.List.{List}
+use mathlib.Core.List.{List, [], _∷_}
 use lib.ListN.{getD}
 use lib.Dec.{T, ltb}
 use Rattle.rules.specs.Lists.{table}
@@ -10,6 +10,14 @@ use Rattle.rules.specs.Floats.{finite3}
 use Rattle.rules.specs.Types.{movedWord, quadWords}
 use Rattle.rules.specs.Mesh.{Quad}
 use Rattle.types.specs.Tests.{Words, Placed}
+
+-- four of the words v 0, v 1, .., from word k on
+abbrev pub four : (ℕ → ℕ) → ℕ → List ℕ
+four v k = v k ∷ v (k + 1) ∷ v (k + 2) ∷ v (k + 3) ∷ []
+
+-- word k of vertex v of a cube
+abbrev pub wordAt : List ℕ → ℕ → ℕ → ℕ → ℕ
+wordAt cube n v k = getD cube (n * v + k) 0
 
 -- word k of vertex v of a cube that is drawn at `a`: each position plus (coordinate as f32 · d)
 unfoldable pub vertexWord : List ℕ → ℕ → Triple → Triple → ℕ → ℕ → ℕ

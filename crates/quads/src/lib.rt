@@ -3,17 +3,19 @@ use face::Face;
 use floats::Triple;
 use floats::moved_word;
 use util::Coordinates;
-use vav::select;
 ghost use mathlib.Core.Path.{_≡_};
-ghost use Prim.Native.Nat.{_+_, _*_, _<_};
+ghost use mathlib.Core.List.{[], _∷_};
+ghost use Prim.Native.Nat.{_+_, _*_, _≤_, _<_};
 ghost use lib.ListN.{length, getD};
 ghost use Rattle.rules.specs.Cells.{along};
 ghost use Rattle.rules.specs.Types.{order, quadWord, quadWords};
 ghost use Rattle.face.specs.Face.{number};
+ghost use Rattle.util.specs.Grid.{cordsOf};
 ghost use Rattle.util.specs.Grid as grid;
 ghost use Rattle.floats.specs.Triples.{tripleOf};
 ghost use Rattle.types.specs.Tests.{Words};
-ghost use Rattle.quads.specs.Quads.{vertexWords, Drawable};
+ghost use Rattle.vav.specs.Rows.{put};
+ghost use Rattle.quads.specs.Quads.{four, wordAt, vertexWords, Drawable};
 
 // The order in which a quad takes the four vertices of its face.
 const ORDER: [usize; 4] = [0, 1, 3, 2];
@@ -73,48 +75,101 @@ pub fn quad_word(
     }
 }
 
-// Writes a vertex of a cube into its own stretch, its position moved.
+// Writes four words.
+fn write_four(out: &mut [u32], at: usize, a: u32, b: u32, c: u32, d: u32)
+    requires { ⌜ at + 4 ≤ length (now out) ⌝ }
+    ensures { λ _. ⌜ now (out .exit) ≡ put at (a ∷ b ∷ c ∷ d ∷ []) (now (out .entry)) ⌝ }
+{
+    out[at] = a;
+    out[at + 1] = b;
+    out[at + 2] = c;
+    out[at + 3] = d;
+}
+
+// Copies four words of a vertex of a cube, from word k on, into the vertex at `to`.
+fn copy_four(out: &mut [u32], cube: &[u32], floats: usize, vertex: usize, k: usize, to: usize)
+    requires { ⌜ Words (now cube) floats × (vertex < 24) × (k + 4 ≤ floats) × (to + floats ≤ length (now out)) ⌝ }
+    ensures { λ _. ⌜ now (out .exit) ≡ put (to + k) (four (wordAt (now (cube .entry)) floats vertex) k) (now (out .entry)) ⌝ }
+{
+    let a = word_of(cube, floats, vertex, k);
+    let b = word_of(cube, floats, vertex, k + 1);
+    let c = word_of(cube, floats, vertex, k + 2);
+    let d = word_of(cube, floats, vertex, k + 3);
+    write_four(out, to + k, a, b, c, d);
+}
+
+// Writes a vertex of a cube at `to`, its position moved. The last four words overlap the four before where there are fewer than 12.
 fn write_vertex(
     out: &mut [u32],
     cube: &[u32],
     floats: usize,
     vertex: usize,
-    at: Coordinates,
-    d: Triple,
+    to: usize,
+    x: u32,
+    y: u32,
+    z: u32,
+    dx: u32,
+    dy: u32,
+    dz: u32,
 )
-    requires { ⌜ Drawable (now cube) floats (grid.tripleOf at) (tripleOf d) × (vertex < 24) × (length (now out) ≡ floats) ⌝ }
-    ensures { λ _. ⌜ now (out .exit) ≡ vertexWords (now (cube .entry)) floats (tripleOf d) (grid.tripleOf at) vertex ⌝ }
+    requires { ⌜ Drawable (now cube) floats (cordsOf x y z) (cordsOf dx dy dz) × (vertex < 24) × (to + floats ≤ length (now out)) ⌝ }
+    ensures { λ _. ⌜ now (out .exit) ≡ put to (vertexWords (now (cube .entry)) floats (cordsOf dx dy dz) (cordsOf x y z) vertex) (now (out .entry)) ⌝ }
 {
-    select(out, cube, floats, vertex, 0);
-    out[0] = moved_word(word_of(cube, floats, vertex, 0), at.x, d.x);
-    out[1] = moved_word(word_of(cube, floats, vertex, 1), at.y, d.y);
-    out[2] = moved_word(word_of(cube, floats, vertex, 2), at.z, d.z);
+    let a = moved_word(word_of(cube, floats, vertex, 0), x, dx);
+    let b = moved_word(word_of(cube, floats, vertex, 1), y, dy);
+    let c = moved_word(word_of(cube, floats, vertex, 2), z, dz);
+    let d = word_of(cube, floats, vertex, 3);
+    write_four(out, to, a, b, c, d);
+    copy_four(out, cube, floats, vertex, 4, to);
+    if floats == 8 {
+        return;
+    }
+    copy_four(out, cube, floats, vertex, floats - 4, to);
 }
 
-// Writes a quad into its own stretch.
+// Writes a quad into its own stretch, its vertices in the order 0, 1, 3, 2.
 pub fn write_quad(
     out: &mut [u32],
     cube: &[u32],
     floats: usize,
     face: Face,
-    at: Coordinates,
-    d: Triple,
+    x: u32,
+    y: u32,
+    z: u32,
+    dx: u32,
+    dy: u32,
+    dz: u32,
 )
-    requires { ⌜ Drawable (now cube) floats (grid.tripleOf at) (tripleOf d) × (length (now out) ≡ 4 * floats) ⌝ }
-    ensures { λ _. ⌜ now (out .exit) ≡ quadWords (now (cube .entry)) floats (tripleOf d) (number face) (grid.tripleOf at) ⌝ }
+    requires { ⌜ Drawable (now cube) floats (cordsOf x y z) (cordsOf dx dy dz) × (length (now out) ≡ 4 * floats) ⌝ }
+    ensures { λ _. ⌜ now (out .exit) ≡ quadWords (now (cube .entry)) floats (cordsOf dx dy dz) (number face) (cordsOf x y z) ⌝ }
 {
-    let mut i: usize = 0;
-    while i < 4 {
-        let start = i * floats;
-        let end = start + floats;
-        write_vertex(
-            &mut out[start..end],
-            cube,
-            floats,
-            vertex_of(face, i),
-            at,
-            d,
-        );
-        i += 1;
-    }
+    let first = 4 * (face.number() as usize);
+    write_vertex(out, cube, floats, first, 0, x, y, z, dx, dy, dz);
+    write_vertex(out, cube, floats, first + 1, floats, x, y, z, dx, dy, dz);
+    write_vertex(
+        out,
+        cube,
+        floats,
+        first + 3,
+        2 * floats,
+        x,
+        y,
+        z,
+        dx,
+        dy,
+        dz,
+    );
+    write_vertex(
+        out,
+        cube,
+        floats,
+        first + 2,
+        3 * floats,
+        x,
+        y,
+        z,
+        dx,
+        dy,
+        dz,
+    );
 }

@@ -3,8 +3,7 @@ use Prim.Native.Nat.{_*_}
 use borrow.Author.Needs.{needs}
 use Rattle.rules.specs.Types.{quadWords}
 use Rattle.face.specs.Face.{number}
-use Rattle.util.specs.Grid as grid
-use Rattle.floats.specs.Triples.{tripleOf}
+use Rattle.util.specs.Grid.{cordsOf}
 use Rattle.vav.proofs.Laws.{lent}
 use Rattle.quads.proofs.Writing.{length-quad}
 use Rattle.drawing.proofs.write_place.Statement.{statement}
@@ -43,8 +42,8 @@ returns c =
     let a = wrote .before .before .before .before .args in
     let n = a .floats in
     lent (4 * n * a .q) (4 * n) (a .vertices .now) (wrote .write-quad .last .0)
-    (quadWords (a .cube .now) n (tripleOf (a .d)) (number (a .face)) (grid.tripleOf (a .at))) (wrote .write-quad .ensures)
-    (length-quad (a .cube .now) n (tripleOf (a .d)) (number (a .face)) (grid.tripleOf (a .at)))
+    (quadWords (a .cube .now) n (cordsOf (a .dx) (a .dy) (a .dz)) (number (a .face)) (cordsOf (a .x) (a .y) (a .z))) (wrote .write-quad .ensures)
+    (length-quad (a .cube .now) n (cordsOf (a .dx) (a .dy) (a .dz)) (number (a .face)) (cordsOf (a .x) (a .y) (a .z)))
 
 pub write-place-spec : {M : Type 1} → statement M
 write-place-spec =
