@@ -23,7 +23,7 @@ use Rattle.util.specs.Grid.{Within}
 use Rattle.books.proofs.Books.{within}
 use Rattle.culling.specs.Culling.{worldOf, outerSet}
 use Rattle.culling.specs.Rows.{ClearBelow, FullFrom, Plainly, Plain, six, edgeSet, plainSet, plainShown, plainAt, isBeside, rowSides, Rows, Placed}
-use Rattle.culling.proofs.Sides.{setOf-cong}
+use Rattle.culling.proofs.Sides.{weight-le, setOf-cong}
 
 -- ---- faces of a set that is made bit by bit
 
@@ -307,22 +307,61 @@ module _ (s : Size) (within : Within s) {y z : ℕ} (high : y < s .h) (long : z 
 
 -- ---- the sides of a cell, from its row's
 
-weight : (b : Bool) (n : ℕ) → cond b n 0 ≤ n
-weight true n = omega arith
-weight false n = omega arith
+pub few-sides : (s : Size) {y z at up down back forward sides : ℕ} → Rows s y z at up down back forward sides → sides ≤ 51
+few-sides s {y} {z} r =
+    omega (arith, r .sides-are, weight-le (ltb (y + 1) (s .h)) 1, weight-le (ltb 0 y) 2, weight-le (ltb (z + 1) (s .l)) 16, weight-le (ltb 0 z) 32)
 
-pub few-sides : (s : Size) (y z : ℕ) → rowSides s y z ≤ 51
-few-sides s y z = omega (arith, weight (ltb (y + 1) (s .h)) 1, weight (ltb 0 y) 2, weight (ltb (z + 1) (s .l)) 16, weight (ltb 0 z) 32)
+pub few-beside : (s : Size) (x y z : ℕ) {keep : ℕ} → keep ≡ setOf (isBeside s x y z) → keep < 64
+few-beside s x y z e = let l = setOf-lt (isBeside s x y z) in omega arith
 
-pub sides-of-cell : (s : Size) (x y z : ℕ) → rowSides s y z + cond (ltb (x + 1) (s .w)) 4 0 + cond (ltb 0 x) 8 0 ≡ setOf (isBeside s x y z)
+sides-of-cell : (s : Size) (x y z : ℕ) → rowSides s y z + cond (ltb (x + 1) (s .w)) 4 0 + cond (ltb 0 x) 8 0 ≡ setOf (isBeside s x y z)
 sides-of-cell s x y z = omega arith
 
-pub sides-of-inner : (s : Size) (x y z : ℕ) → 0 < x → x + 1 < s .w → rowSides s y z + 12 ≡ setOf (isBeside s x y z)
+sides-of-inner : (s : Size) (x y z : ℕ) → 0 < x → x + 1 < s .w → rowSides s y z + 12 ≡ setOf (isBeside s x y z)
 sides-of-inner s x y z a b =
     omega (arith, weighed 8 (lt-ltb 0 x a), weighed 4 (lt-ltb (x + 1) (s .w) b))
   where
     weighed : {t : Bool} (n : ℕ) → t ≡ true → cond t n 0 ≡ n
     weighed {t} n e = ap (λ (b : Bool). cond b n 0) e
+
+module _ (s : Size) (x : ℕ) {y z at up down back forward sides : ℕ} (r : Rows s y z at up down back forward sides) where
+  pub lone-kept : {keep : ℕ} → keep ≡ sides + cond (ltb (x + 1) (s .w)) 4 0 + cond (ltb 0 x) 8 0 → keep ≡ setOf (isBeside s x y z)
+  lone-kept e = e ∙ ap (λ (n : ℕ). n + cond (ltb (x + 1) (s .w)) 4 0 + cond (ltb 0 x) 8 0) (r .sides-are) ∙ sides-of-cell s x y z
+
+  -- any cell; a neighbour that is not there is read as the cell itself
+  pub lone-placed : {outer keep edge right left : ℕ} → x < s .w → keep ≡ sides + cond (ltb (x + 1) (s .w)) 4 0 + cond (ltb 0 x) 8 0 → edge ≡ edgeSet keep outer
+      → (x + 1 < s .w → right ≡ at + x + 1) × (s .w ≤ x + 1 → right ≡ at + x)
+      → (0 < x → left + 1 ≡ at + x) × (x ≤ 0 → left ≡ at + x) → Placed s outer x y z at keep edge right left
+  lone-placed {outer} {keep} {edge} {right} {left} wide k e on off = record {
+    wide = wide;
+    kept = lone-kept k;
+    edged = e;
+    on = on .0;
+    off = off .0;
+    right-in = right-in (ltb (x + 1) (s .w)) refl;
+    left-in = left-in (ltb 0 x) refl;
+  }
+    where
+      right-in : (t : Bool) → ltb (x + 1) (s .w) ≡ t → right < cells s
+      right-in true t = let h : x + 1 < s .w = ltb-true _ _ t in let p = on .0 h in omega (arith, r .at-in)
+      right-in false t = let p = on .1 (ltb-false _ _ t) in omega (arith, r .at-in)
+
+      left-in : (t : Bool) → ltb 0 x ≡ t → left < cells s
+      left-in true t = let p = off .0 (ltb-true _ _ t) in omega (arith, r .at-in)
+      left-in false t = let p = off .1 (ltb-false _ _ t) in omega (arith, r .at-in)
+
+  -- a cell that is no end of its row
+  pub inner-placed : {outer edge : ℕ} → 0 < x → x + 1 < s .w → edge ≡ edgeSet (sides + 12) outer
+      → Placed s outer x y z at (sides + 12) edge (at + x + 1) (at + x - 1)
+  inner-placed a b e = record {
+    wide = omega arith;
+    kept = ap (λ (n : ℕ). n + 12) (r .sides-are) ∙ sides-of-inner s x y z a b;
+    edged = e;
+    on = λ h. refl;
+    off = λ h. omega arith;
+    right-in = omega (arith, r .at-in);
+    left-in = omega (arith, r .at-in);
+  }
 
 -- ---- no odd types, no odd codes
 

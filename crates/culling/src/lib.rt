@@ -211,6 +211,21 @@ fn step_behind(at: usize, step: usize, here: usize) -> usize
     if 0 < here { at - step } else { at }
 }
 
+// The first cell of the row at y and z.
+fn row_start(dims: Dimensions, y: u32, z: u32) -> u32
+    requires { ⌜ Within (sizeOf dims) × (y < dims .height) × (z < dims .length) ⌝ }
+    ensures { λ r. ⌜ (r ≡ cellAt (sizeOf dims) 0 y z) × (r + dims .width ≤ cells (sizeOf dims)) ⌝ }
+{
+    (y * dims.length + z) * dims.width
+}
+
+fn layer_size(dims: Dimensions) -> usize
+    requires { ⌜ Within (sizeOf dims) ⌝ }
+    ensures { λ r. ⌜ (r ≡ dims .length * dims .width) × (r ≤ 1048576) ⌝ }
+{
+    (dims.length * dims.width) as usize
+}
+
 // The sides on which a row has rows beside it.
 fn row_sides(dims: Dimensions, y: u32, z: u32) -> u8
     requires { ⌜ (y < 1024) × (z < 1024) ⌝ }
@@ -419,8 +434,8 @@ fn plain_row(sets: &mut [u8], dims: Dimensions, outer: u8, grid: &[u8], full: u8
     ensures { λ _. ⌜ PlainRow (sizeOf dims) full outer (now (grid .entry)) y z (now (sets .exit)) ⌝ }
 {
     let row = dims.width as usize;
-    let layer = (dims.length * dims.width) as usize;
-    let at = ((y * dims.length + z) * dims.width) as usize;
+    let layer = layer_size(dims);
+    let at = row_start(dims, y, z) as usize;
     let up = step_ahead(at, layer, y as usize, dims.height as usize);
     let down = step_behind(at, layer, y as usize);
     let back = step_ahead(at, row, z as usize, dims.length as usize);
@@ -456,7 +471,7 @@ fn row_by_cells(
     requires { ⌜ Whole (sizeOf dims) (now grid) (length (now covers)) × (length (now covers) ≡ length (now kinds)) × (y < dims .height) × (z < dims .length) × (dims .width ≤ length (now sets)) ⌝ }
     ensures { λ _. ⌜ ((faces : List ℕ) → outer ≡ outerSet faces → RowShown (sizeOf dims) (now (kinds .entry)) (now (covers .entry)) faces (now (grid .entry)) y z (now (sets .exit))) ⌝ }
 {
-    let start = (y * dims.length + z) * dims.width;
+    let start = row_start(dims, y, z);
     let mut x: u32 = 0;
     while x < dims.width {
         let set = drawn_set(dims, outer, grid, kinds, covers, Cell(start + x), x, y, z);

@@ -44,7 +44,9 @@ loop-less : tie.Need-loop-less Inv-loop μ-loop
 loop-less c = search needs
 
 loop-again : tie.Need-loop-again Inv-loop μ-loop
-loop-again c = ?
+loop-again c =
+    let l = c .before .before .before .before .before .loop in
+    (omega arith, one-clear _ _ (l .t) (l .inv .1) (c .before .before .if1 .left) (c .if2 .left))
 
 cast-result-3 : tie.Need-cast-result-3 Inv-loop μ-loop
 cast-result-3 c = search needs

@@ -1,5 +1,5 @@
 -- `culling::full_from` meets its contract: every type passed is full. Assumes nothing.
-use mathlib.Core.Path.{_≡_}
+use mathlib.Core.Path.{_≡_, subst}
 use Prim.Native.Nat.{ℕ, _-_, _≤_, _<_}
 use denote.Ref.{now}
 use lib.ListN.{length, getD}
@@ -44,10 +44,15 @@ loop-less : tie.Need-loop-less Inv-loop μ-loop
 loop-less c = search needs
 
 loop-again : tie.Need-loop-again Inv-loop μ-loop
-loop-again c = ?
+loop-again c =
+    let l = c .before .before .before .before .before .loop in
+    (omega arith, one-full _ _ (l .t) (l .t - 1) (l .inv .1) (omega arith) (c .before .before .if1 .left) (c .if2 .left))
 
 returns-3 : tie.Need-returns-3 Inv-loop μ-loop
-returns-3 c = ?
+returns-3 c =
+    let l = c .before .loop in
+    let e : l .t ≡ 0 = omega arith in
+    subst (λ (n : ℕ). FullFrom (now (c .before .before .args .kinds)) (now (c .before .before .args .covers)) n) e (l .inv .1)
 
 pub full-from-spec : {M : Type 1} → statement M
 full-from-spec =

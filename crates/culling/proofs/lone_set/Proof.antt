@@ -1,47 +1,48 @@
+-- `culling::lone_set` meets its contract. Assumes nothing.
+use mathlib.Core.Path.{_≡_, _∙_}
+use denote.Ref.{now}
+use Rattle.util.specs.Grid.{sizeOf}
+use Rattle.culling.proofs.Plain.{few-sides, few-beside, lone-kept, lone-placed}
 use borrow.Author.Needs.{needs}
+use native.Mathlib.Omega.{arith}
 use Rattle.culling.proofs.lone_set.Statement.{statement}
 use Rattle.culling.proofs.lone_set.Tie as tie
-use Rattle.culling.proofs.lone_set.Reads as reads
-use Rattle.culling.proofs.lone_set.Lts as lts
-use Rattle.culling.proofs.cell_set.Reads as cell-set-reads
-use Rattle.culling.proofs.cell_sides.Reads as cell-sides-reads
-use Rattle.culling.proofs.edge_set.Reads as edge-set-reads
-use Rattle.culling.proofs.step_ahead.Reads as step-ahead-reads
-use Rattle.culling.proofs.step_behind.Reads as step-behind-reads
 
--- src/lib.rt:289:17
 cast-width : tie.Need-cast-width
 cast-width c = search needs
 
--- src/lib.rt:290:9
 cell-sides-requires : tie.Need-cell-sides-requires
-cell-sides-requires c κs = ?
+cell-sides-requires c κs =
+    let s = c .before .before in
+    (few-sides (sizeOf (s .args .dims)) (s .pre .0), omega (arith, s .pre .0 .within .sides .widest))
 
--- src/lib.rt:291:9
 edge-set-requires : tie.Need-edge-set-requires
-edge-set-requires c κs = ?
+edge-set-requires c κs =
+    let s = c .before .before .before in
+    (few-beside (sizeOf (s .args .dims)) (s .args .x) (s .args .y) (s .args .z) (lone-kept (sizeOf (s .args .dims)) (s .args .x) (s .pre .0) (c .cell-sides .ensures)), s .pre .2)
 
--- src/lib.rt:292:28
 add-step-ahead : tie.Need-add-step-ahead
 add-step-ahead c = search needs
 
--- src/lib.rt:292:9
 step-ahead-requires : tie.Need-step-ahead-requires
 step-ahead-requires c κs = search needs
 
--- src/lib.rt:293:28
 add-step-behind : tie.Need-add-step-behind
 add-step-behind c = search needs
 
--- src/lib.rt:293:9
 step-behind-requires : tie.Need-step-behind-requires
 step-behind-requires c κs = search needs
 
--- src/lib.rt:294:5
 cell-set-requires : tie.Need-cell-set-requires
-cell-set-requires c κs = ?
+cell-set-requires c κs =
+    let s = c .before .before .before .before .before .before in
+    (
+      s .pre .0,
+      lone-placed (sizeOf (s .args .dims)) (s .args .x) (s .pre .0) (s .pre .3) (c .before .before .before .cell-sides .ensures) (c .before .before .edge-set .ensures .1)
+      (c .before .step-ahead .ensures) (c .step-behind .ensures),
+      s .pre .1,
+    )
 
--- src/lib.rt:271:1
 returns : tie.Need-returns
 returns c = search needs
 

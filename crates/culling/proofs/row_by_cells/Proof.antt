@@ -1,64 +1,57 @@
--- `culling::row_by_cells` meets its contract. Assumes nothing.
-use mathlib.Core.Path.{_≡_, refl, sym, _∙_}
-use mathlib.Core.List.{List}
-use Prim.Native.Nat.{ℕ, _+_, _-_, _≤_, _<_}
-use denote.Ref.{now}
-use lib.ListN.{length, getD}
-use Rattle.rules.specs.Cells.{cellAt, setOf}
-use Rattle.rules.specs.Mesh.{drawn}
-use Rattle.util.specs.Grid.{sizeOf}
-use Rattle.culling.specs.Culling.{worldOf, outerSet}
-use Rattle.culling.proofs.Plain.{Passed, passed, pass}
-use borrow.Author.Needs.{needs}
-use native.Mathlib.Omega.{arith}
 use Rattle.culling.proofs.row_by_cells.Statement.{statement}
 use Rattle.culling.proofs.row_by_cells.Tie as tie
+use Rattle.culling.proofs.row_by_cells.Reads as reads
+use Rattle.culling.proofs.row_by_cells.Lts as lts
+use Rattle.culling.proofs.drawn_set.Reads as drawn-set-reads
+use Rattle.culling.proofs.row_start.Reads as row-start-reads
 
 abbrev Inv-loop : tie.InvT-loop
-Inv-loop sets₀ dims outer grid kinds covers y z start x₀ sets x =
-    (x ≤ dims .width) × ((faces : List ℕ) → outer ≡ outerSet faces
-    → Passed (λ k. setOf (drawn (worldOf (sizeOf dims) kinds covers) faces grid (cellAt (sizeOf dims) k y z))) sets₀ sets x)
-    × (length sets ≡ length sets₀)
+Inv-loop sets₀ dims outer grid kinds covers y z start x₀ sets x = ?
 
 abbrev μ-loop : tie.MeasureT-loop
-μ-loop sets₀ dims outer grid kinds covers y z start x₀ sets x = dims .width - x
+μ-loop sets₀ dims outer grid kinds covers y z start x₀ sets x = ?
 
-mul-start : tie.Need-mul-start Inv-loop μ-loop
-mul-start c = ?
+-- src/lib.rt:474:9
+row-start-requires : tie.Need-row-start-requires Inv-loop μ-loop
+row-start-requires c κs = ?
 
-add-start : tie.Need-add-start Inv-loop μ-loop
-add-start c = ?
-
-mul-start-2 : tie.Need-mul-start-2 Inv-loop μ-loop
-mul-start-2 c = ?
-
+-- src/lib.rt:476:5
 loop-holds : tie.Need-loop-holds Inv-loop μ-loop
-loop-holds c = (omega arith, λ faces e. passed _ _, refl)
+loop-holds c = ?
 
-add-t15 : tie.Need-add-t15 Inv-loop μ-loop
-add-t15 c = ?
+-- src/lib.rt:477:68
+add-t13 : tie.Need-add-t13 Inv-loop μ-loop
+add-t13 c = ?
 
+-- src/lib.rt:477:13
 drawn-set-requires : tie.Need-drawn-set-requires Inv-loop μ-loop
 drawn-set-requires c κs = ?
 
+-- src/lib.rt:478:14
 cast-sets : tie.Need-cast-sets Inv-loop μ-loop
-cast-sets c = search needs
+cast-sets c = ?
 
+-- src/lib.rt:478:9
 slice-write-sets : tie.Need-slice-write-sets Inv-loop μ-loop
-slice-write-sets c = search needs
+slice-write-sets c = ?
 
+-- src/lib.rt:479:9
 add-x : tie.Need-add-x Inv-loop μ-loop
-add-x c = search needs
+add-x c = ?
 
+-- src/lib.rt:476:5
 loop-less : tie.Need-loop-less Inv-loop μ-loop
-loop-less c = search needs
+loop-less c = ?
 
+-- src/lib.rt:476:5
 loop-again : tie.Need-loop-again Inv-loop μ-loop
 loop-again c = ?
 
+-- src/lib.rt:461:1
 same-length : tie.Need-same-length Inv-loop μ-loop
 same-length c = ?
 
+-- src/lib.rt:461:1
 returns : tie.Need-returns Inv-loop μ-loop
 returns c = ?
 
@@ -68,11 +61,9 @@ row-by-cells-spec =
     (tie.spec
     Inv-loop
     μ-loop
-    mul-start
-    add-start
-    mul-start-2
+    row-start-requires
     loop-holds
-    add-t15
+    add-t13
     drawn-set-requires
     cast-sets
     slice-write-sets

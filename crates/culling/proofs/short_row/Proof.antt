@@ -38,13 +38,15 @@ loop-less : tie.Need-loop-less Inv-loop μ-loop
 loop-less c = search needs
 
 loop-again : tie.Need-loop-again Inv-loop μ-loop
-loop-again c = ?
+loop-again c =
+    let l = c .before .before .loop in
+    (omega arith, pass _ _ (l .inv .1) (omega (arith, l .inv .1 .long)) (c .lone-set .ensures))
 
 same-length : tie.Need-same-length Inv-loop μ-loop
-same-length c = ?
+same-length c = c .before .loop .inv .1 .long
 
 returns : tie.Need-returns Inv-loop μ-loop
-returns c = ?
+returns c = λ x h. c .before .loop .inv .1 .right x (omega arith)
 
 pub short-row-spec : {M : Type 1} → statement M
 short-row-spec =

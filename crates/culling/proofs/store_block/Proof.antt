@@ -34,13 +34,17 @@ loop-less : tie.Need-loop-less Inv-loop μ-loop
 loop-less c = search needs
 
 loop-again : tie.Need-loop-again Inv-loop μ-loop
-loop-again c = ?
+loop-again c =
+    let l = c .before .loop in
+    (omega arith, store _ (l .inv .1) (omega (arith, l .inv .1 .long)) refl)
 
 same-length : tie.Need-same-length Inv-loop μ-loop
-same-length c = ?
+same-length c = c .before .loop .inv .1 .long
 
 returns : tie.Need-returns Inv-loop μ-loop
-returns c = ?
+returns c =
+    let s = c .before .loop .inv .1 in
+    (s .long, s .kept, λ i h. s .here i (omega arith))
 
 pub store-block-spec : {M : Type 1} → statement M
 store-block-spec =
