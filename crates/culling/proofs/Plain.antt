@@ -19,10 +19,10 @@ use Rattle.rules.specs.Mesh.{typeAt, isNormalCube, shown, drawn}
 use Rattle.rules.proofs.Searches.{every-at}
 use Rattle.rules.proofs.Sets.{setOf-lt, set-is, has-setOf}
 use Rattle.rules.proofs.Neighbours.{coordinates-cellAt, cellAt-in}
-use Rattle.util.specs.Grid.{Within}
+use Rattle.util.specs.Grid.{cordsOf, Within}
 use Rattle.books.proofs.Books.{within}
-use Rattle.culling.specs.Culling.{worldOf, outerSet}
-use Rattle.culling.specs.Rows.{ClearBelow, FullFrom, Plainly, Plain, six, edgeSet, plainSet, plainShown, plainAt, isBeside, rowSides, Rows, Placed}
+use Rattle.culling.specs.Culling.{worldOf, outerSet, Laid}
+use Rattle.culling.specs.Rows.{Whole, ClearBelow, FullFrom, Plainly, Plain, six, edgeSet, plainSet, plainShown, plainAt, isBeside, rowSides, Rows, Placed}
 use Rattle.culling.proofs.Sides.{weight-le, setOf-cong}
 
 -- ---- faces of a set that is made bit by bit
@@ -245,13 +245,14 @@ module _ (s : Size) (within : Within s) {y z : ℕ} (high : y < s .h) (long : z 
   pub row-start : (y * s .l + z) * s .w ≡ cellAt s 0 y z
   row-start = let e = add-mul (y * s .l) z (s .w) in omega arith
 
-  row-in : {y z : ℕ} → y < s .h → z < s .l → cellAt s 0 y z + s .w ≤ cells s
-  row-in {y} {z} a b =
+  pub row-in : cellAt s 0 y z + s .w ≤ cells s
+  row-in =
       let wide = within .sides .wide in
       let last : s .w - 1 < s .w = omega arith in
-      let c : cellAt s (s .w - 1) y z < cells s = cellAt-in s last a b in
+      let c : cellAt s (s .w - 1) y z < cells s = cellAt-in s last high long in
       omega arith
 
+module _ (s : Size) (in-limits : Within s) {y z : ℕ} (high : y < s .h) (long : z < s .l) where
   pub layer-back : 0 < y → s .l * s .w ≤ cellAt s 0 y z
   layer-back a =
       let e : y ≡ y - 1 + 1 = omega arith in
@@ -271,9 +272,9 @@ module _ (s : Size) (within : Within s) {y z : ℕ} (high : y < s .h) (long : z 
       → (0 < z → forward + s .w ≡ at) × (z ≤ 0 → forward ≡ at)
       → sides ≡ rowSides s y z → Rows s y z at up down back forward sides
   rows-of {at} {up} {down} {back} {forward} start u d b f e =
-      let own : at + s .w ≤ cells s = (let r = row-in high long in omega arith) in
+      let own : at + s .w ≤ cells s = (let r = row-in s in-limits high long in omega arith) in
       record {
-        within = within;
+        within = in-limits;
         high = high;
         long = long;
         start = start;
@@ -290,7 +291,7 @@ module _ (s : Size) (within : Within s) {y z : ℕ} (high : y < s .h) (long : z 
       }
     where
       up-in : (t : Bool) → ltb (y + 1) (s .h) ≡ t → at + s .w ≤ cells s → up + s .w ≤ cells s
-      up-in true t own = let h : y + 1 < s .h = ltb-true _ _ t in let r = row-in h long in let e = u .0 h in let m = layer-on y (s .l) (s .w) in omega arith
+      up-in true t own = let h : y + 1 < s .h = ltb-true _ _ t in let r = row-in s in-limits h long in let e = u .0 h in let m = layer-on y (s .l) (s .w) in omega arith
       up-in false t own = let e = u .1 (ltb-false _ _ t) in omega arith
 
       down-in : (t : Bool) → ltb 0 y ≡ t → at + s .w ≤ cells s → down + s .w ≤ cells s
@@ -298,12 +299,27 @@ module _ (s : Size) (within : Within s) {y z : ℕ} (high : y < s .h) (long : z 
       down-in false t own = let e = d .1 (ltb-false _ _ t) in omega arith
 
       back-in : (t : Bool) → ltb (z + 1) (s .l) ≡ t → at + s .w ≤ cells s → back + s .w ≤ cells s
-      back-in true t own = let h : z + 1 < s .l = ltb-true _ _ t in let r = row-in high h in let e = b .0 h in let m = row-on z (s .w) in omega arith
+      back-in true t own = let h : z + 1 < s .l = ltb-true _ _ t in let r = row-in s in-limits high h in let e = b .0 h in let m = row-on z (s .w) in omega arith
       back-in false t own = let e = b .1 (ltb-false _ _ t) in omega arith
 
       forward-in : (t : Bool) → ltb 0 z ≡ t → at + s .w ≤ cells s → forward + s .w ≤ cells s
       forward-in true t own = let e = f .0 (ltb-true _ _ t) in omega arith
       forward-in false t own = let e = f .1 (ltb-false _ _ t) in omega arith
+
+-- a cell of the row, and its coordinates
+pub laid-row : (s : Size) (g : List ℕ) {types start x y z : ℕ} → Whole s g types → y < s .h → z < s .l → x < s .w → start ≡ cellAt s 0 y z
+    → Laid s g types (start + x) × (cordsOf x y z ≡ coordinates s (start + x))
+laid-row s g {types} {start} {x} {y} {z} w high long wide e =
+    let c : cellAt s x y z ≡ start + x = omega arith in
+    (
+      record {
+        within = w .within;
+        whole = w .whole;
+        typed = w .typed;
+        inside = subst (λ (n : ℕ). n < cells s) c (cellAt-in s wide high long);
+      },
+      sym (coordinates-cellAt s wide long) ∙ ap (coordinates s) c,
+    )
 
 -- ---- the sides of a cell, from its row's
 
@@ -435,3 +451,25 @@ store {old} {x} {block} {sets} {n} v p h e = record {
   here = below-more (λ i. getD (set sets (x + n) v) (x + i) 0 ≡ getD block i 0) n
       (λ i l. getD-set-other sets (x + n) (x + i) v 0 (λ q. omega arith) ∙ p .here i l) (getD-set-same sets (x + n) v 0 h ∙ e);
 }
+
+-- the first n are what they ought to be, but for the very first
+pub record Inner (rule : ℕ → ℕ) (old sets : List ℕ) (n : ℕ) : Type 0 where
+  pub long : length sets ≡ length old
+  pub right : (k : ℕ) → 0 < k → k < n → getD sets k 0 ≡ rule k
+
+pub inner : (rule : ℕ → ℕ) (old : List ℕ) → Inner rule old old 1
+inner rule old = record { long = refl; right = λ k h l. absurd (omega arith) }
+
+-- a block stored at a place that was reached
+pub fill : (rule : ℕ → ℕ) (block : List ℕ) {old sets new : List ℕ} {x start : ℕ} → Inner rule old sets x → start ≤ x
+    → (length new ≡ length sets) × ((k : ℕ) → k < start → getD new k 0 ≡ getD sets k 0) × ((i : ℕ) → i < 16 → getD new (start + i) 0 ≡ getD block i 0)
+    → ((i : ℕ) → i < 16 → getD block i 0 ≡ rule (start + i)) → Inner rule old new (start + 16)
+fill rule block {old} {sets} {new} {x} {start} p h s b = record { long = s .0 ∙ p .long; right = λ k a l. go k a l (ltb k start) refl }
+  where
+    go : (k : ℕ) → 0 < k → k < start + 16 → (t : Bool) → ltb k start ≡ t → getD new k 0 ≡ rule k
+    go k a l true t = let m : k < start = ltb-true k start t in s .1 k m ∙ p .right k a (omega arith)
+    go k a l false t =
+        let m : start ≤ k = ltb-false k start t in
+        let i : k - start < 16 = omega arith in
+        let e : start + (k - start) ≡ k = omega arith in
+        ap (λ (n : ℕ). getD new n 0) (sym e) ∙ s .2 (k - start) i ∙ b (k - start) i ∙ ap rule e

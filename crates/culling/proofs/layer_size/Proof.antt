@@ -1,19 +1,19 @@
+-- `culling::layer_size` meets its contract. Assumes nothing.
+use Rattle.util.specs.Grid.{sizeOf}
+use Rattle.util.proofs.Cells.{layer-fits}
+use borrow.Author.Needs.{needs}
+use native.Mathlib.Omega.{arith}
 use Rattle.culling.proofs.layer_size.Statement.{statement}
 use Rattle.culling.proofs.layer_size.Tie as tie
-use Rattle.culling.proofs.layer_size.Reads as reads
-use Rattle.culling.proofs.layer_size.Lts as lts
 
--- src/lib.rt:226:6
 mul-result : tie.Need-mul-result
-mul-result c = ?
+mul-result c = omega (arith, layer-fits (sizeOf (c .before .args .dims)) (c .before .pre .sides))
 
--- src/lib.rt:226:5
 cast-result : tie.Need-cast-result
-cast-result c = ?
+cast-result c = omega (arith, layer-fits (sizeOf (c .before .args .dims)) (c .before .pre .sides))
 
--- src/lib.rt:222:1
 returns : tie.Need-returns
-returns c = ?
+returns c = (omega arith, layer-fits (sizeOf (c .before .args .dims)) (c .before .pre .sides))
 
 pub layer-size-spec : {M : Type 1} → statement M
 layer-size-spec = tie.close (tie.spec mul-result cast-result returns)
