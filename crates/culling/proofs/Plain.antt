@@ -18,7 +18,7 @@ use Rattle.rules.specs.Cells.{Size, Triple, cells, cellAt, xOf, yOf, zOf, coord
 use Rattle.rules.specs.Mesh.{typeAt, isNormalCube, shown, drawn}
 use Rattle.rules.proofs.Searches.{every-at}
 use Rattle.rules.proofs.Sets.{setOf-lt, set-is, has-setOf}
-use Rattle.rules.proofs.Neighbours.{coordinates-cellAt, cellAt-in}
+use Rattle.rules.proofs.Neighbours.{coordinates-cellAt, cellAt-in, beside}
 use Rattle.util.specs.Grid.{cordsOf, Within}
 use Rattle.books.proofs.Books.{within}
 use Rattle.culling.specs.Culling.{worldOf, outerSet, Laid}
@@ -265,21 +265,21 @@ module _ (s : Size) (in-limits : Within s) {y z : ℕ} (high : y < s .h) (long :
       let f : z * s .w ≡ (z - 1) * s .w + s .w = ap (λ (n : ℕ). n * s .w) e ∙ row-on (z - 1) (s .w) in
       omega arith
 
-  pub rows-of : {at up down back forward sides : ℕ} → at ≡ cellAt s 0 y z
-      → (y + 1 < s .h → up ≡ at + s .l * s .w) × (s .h ≤ y + 1 → up ≡ at)
-      → (0 < y → down + s .l * s .w ≡ at) × (y ≤ 0 → down ≡ at)
+  pub rows-of : {layer at up down back forward sides : ℕ} → layer ≡ s .l * s .w → at ≡ cellAt s 0 y z
+      → (y + 1 < s .h → up ≡ at + layer) × (s .h ≤ y + 1 → up ≡ at)
+      → (0 < y → down + layer ≡ at) × (y ≤ 0 → down ≡ at)
       → (z + 1 < s .l → back ≡ at + s .w) × (s .l ≤ z + 1 → back ≡ at)
       → (0 < z → forward + s .w ≡ at) × (z ≤ 0 → forward ≡ at)
       → sides ≡ rowSides s y z → Rows s y z at up down back forward sides
-  rows-of {at} {up} {down} {back} {forward} start u d b f e =
+  rows-of {layer} {at} {up} {down} {back} {forward} size start u d b f e =
       let own : at + s .w ≤ cells s = (let r = row-in s in-limits high long in omega arith) in
       record {
         within = in-limits;
         high = high;
         long = long;
         start = start;
-        above = u .0;
-        below = d .0;
+        above = λ h. u .0 h ∙ ap (λ (n : ℕ). at + n) size;
+        below = λ h. ap (λ (n : ℕ). down + n) (sym size) ∙ d .0 h;
         behind = b .0;
         before = f .0;
         at-in = own;
@@ -310,8 +310,7 @@ module _ (s : Size) (in-limits : Within s) {y z : ℕ} (high : y < s .h) (long :
 pub laid-row : (s : Size) (g : List ℕ) {types start x y z : ℕ} → Whole s g types → y < s .h → z < s .l → x < s .w → start ≡ cellAt s 0 y z
     → Laid s g types (start + x) × (cordsOf x y z ≡ coordinates s (start + x))
 laid-row s g {types} {start} {x} {y} {z} w high long wide e =
-    let c : cellAt s x y z ≡ start + x = omega arith in
-    (
+    let c : cellAt s x y z ≡ start + x = omega arith in (
       record {
         within = w .within;
         whole = w .whole;
@@ -473,3 +472,39 @@ fill rule block {old} {sets} {new} {x} {start} p h s b = record { long = s .0 �
         let i : k - start < 16 = omega arith in
         let e : start + (k - start) ≡ k = omega arith in
         ap (λ (n : ℕ). getD new n 0) (sym e) ∙ s .2 (k - start) i ∙ b (k - start) i ∙ ap rule e
+
+-- the two ends, after all between
+pub ended : (rule : ℕ → ℕ) (sets : List ℕ) {a b : ℕ} (w : ℕ) → 2 ≤ w → w ≤ length sets → ((x : ℕ) → 0 < x → x + 1 < w → getD sets x 0 ≡ rule x)
+    → a ≡ rule 0 → b ≡ rule (w - 1) → (x : ℕ) → x < w → getD (set (set sets 0 a) (w - 1) b) x 0 ≡ rule x
+ended rule sets {a} {b} w two long between p q x h = go (eqb x (w - 1)) refl (eqb x 0) refl
+  where
+    go : (t : Bool) → eqb x (w - 1) ≡ t → (u : Bool) → eqb x 0 ≡ u → getD (set (set sets 0 a) (w - 1) b) x 0 ≡ rule x
+    go true t u v =
+        let e : x ≡ w - 1 = eqb-true x (w - 1) t in
+        let l : w - 1 < length (set sets 0 a) = simp length-set (omega arith) in
+        ap (λ (n : ℕ). getD (set (set sets 0 a) (w - 1) b) n 0) e ∙ getD-set-same (set sets 0 a) (w - 1) b 0 l ∙ q ∙ ap rule (sym e)
+    go false t true v =
+        let e : x ≡ 0 = eqb-true x 0 v in
+        let l : 0 < length sets = omega arith in
+        getD-set-other (set sets 0 a) (w - 1) x b 0 (eqb-false x (w - 1) t)
+        ∙ ap (λ (n : ℕ). getD (set sets 0 a) n 0) e ∙ getD-set-same sets 0 a 0 l ∙ p ∙ ap rule (sym e)
+    go false t false v =
+        let m = eqb-false x (w - 1) t in
+        let n = eqb-false x 0 v in
+        getD-set-other (set sets 0 a) (w - 1) x b 0 m ∙ getD-set-other sets 0 x a 0 n ∙ between x (omega arith) (omega arith)
+
+-- LAW: in a whole grid, where the cell's code and its neighbours' are plain
+pub row-is-drawn : (s : Size) (g kinds covers : List ℕ) {clear full outer x y z : ℕ} → Whole s g (length covers) → length covers ≡ length kinds
+    → Plainly kinds covers clear full → y < s .h → z < s .l → (faces : List ℕ) → outer ≡ outerSet faces → x < s .w
+    → Plain clear full (getD g (cellAt s x y z) 0)
+    → ((f n : ℕ) → f < 6 → neighbour s (cellAt s x y z) f ≡ some n → Plain clear full (getD g n 0))
+    → plainAt s full outer g (cellAt s x y z) ≡ setOf (drawn (worldOf s kinds covers) faces g (cellAt s x y z))
+row-is-drawn s g kinds covers {clear} {full} {outer} {x} {y} {z} w same p high long faces e wide own next =
+    let c : cellAt s x y z < cells s = cellAt-in s wide high long in
+    ap (λ (o : ℕ). plainAt s full o g (cellAt s x y z)) e
+    ∙ plain-is-drawn s kinds covers clear full p g (λ k h. subst (λ (n : ℕ). getD g k 0 < n) same (w .typed k h)) faces (cellAt s x y z)
+    (subst (λ (n : ℕ). cellAt s x y z < n) (sym (w .whole)) c) own
+    (λ f n l q. (
+      subst (λ (m : ℕ). n < m) (sym (w .whole)) (beside s (w .within .sides .wide) (w .within .sides .long) (cellAt s x y z) c f n q .inside),
+      next f n l q,
+    ))

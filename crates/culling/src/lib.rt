@@ -307,7 +307,22 @@ fn lone_set(
     let right = step_ahead(at + x, 1, x, width);
     let left = step_behind(at + x, 1, x);
     cell_set(
-        dims, outer, grid, full, y, z, at, up, down, back, forward, sides, x, keep, edge, right,
+        dims,
+        outer,
+        grid,
+        full,
+        y,
+        z,
+        at,
+        up,
+        down,
+        back,
+        forward,
+        sides,
+        x,
+        keep,
+        edge,
+        right,
         left,
     )
 }
@@ -340,8 +355,23 @@ fn block_of(
         let right = at + on + 1;
         let left = at + on - 1;
         block[i] = cell_set(
-            dims, outer, grid, full, y, z, at, up, down, back, forward, sides, on, keep, edge,
-            right, left,
+            dims,
+            outer,
+            grid,
+            full,
+            y,
+            z,
+            at,
+            up,
+            down,
+            back,
+            forward,
+            sides,
+            on,
+            keep,
+            edge,
+            right,
+            left,
         );
         i += 1;
     }
@@ -394,7 +424,19 @@ fn inner_row(
     while x < end {
         let start = block_start(x, end);
         let block = block_of(
-            dims, outer, grid, full, y, z, at, up, down, back, forward, sides, start,
+            dims,
+            outer,
+            grid,
+            full,
+            y,
+            z,
+            at,
+            up,
+            down,
+            back,
+            forward,
+            sides,
+            start,
         );
         store_block(sets, start, block);
         x = start + 16;
@@ -423,7 +465,21 @@ fn short_row(
     let width = dims.width as usize;
     let mut x: usize = 0;
     while x < width {
-        sets[x] = lone_set(dims, outer, grid, full, y, z, at, up, down, back, forward, sides, x);
+        sets[x] = lone_set(
+            dims,
+            outer,
+            grid,
+            full,
+            y,
+            z,
+            at,
+            up,
+            down,
+            back,
+            forward,
+            sides,
+            x,
+        );
         x += 1;
     }
 }
@@ -443,17 +499,67 @@ fn plain_row(sets: &mut [u8], dims: Dimensions, outer: u8, grid: &[u8], full: u8
     let sides = row_sides(dims, y, z);
     if row < 18 {
         short_row(
-            sets, dims, outer, grid, full, y, z, at, up, down, back, forward, sides,
+            sets,
+            dims,
+            outer,
+            grid,
+            full,
+            y,
+            z,
+            at,
+            up,
+            down,
+            back,
+            forward,
+            sides,
         );
         return;
     }
     inner_row(
-        sets, dims, outer, grid, full, y, z, at, up, down, back, forward, sides,
+        sets,
+        dims,
+        outer,
+        grid,
+        full,
+        y,
+        z,
+        at,
+        up,
+        down,
+        back,
+        forward,
+        sides,
     );
     let end = row - 1;
-    sets[0] = lone_set(dims, outer, grid, full, y, z, at, up, down, back, forward, sides, 0);
+    sets[0] = lone_set(
+        dims,
+        outer,
+        grid,
+        full,
+        y,
+        z,
+        at,
+        up,
+        down,
+        back,
+        forward,
+        sides,
+        0,
+    );
     sets[end] = lone_set(
-        dims, outer, grid, full, y, z, at, up, down, back, forward, sides, end,
+        dims,
+        outer,
+        grid,
+        full,
+        y,
+        z,
+        at,
+        up,
+        down,
+        back,
+        forward,
+        sides,
+        end,
     );
 }
 

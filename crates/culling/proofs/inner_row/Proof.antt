@@ -45,8 +45,7 @@ loop-less c = omega arith
 
 loop-again : tie.Need-loop-again Inv-loop μ-loop
 loop-again c =
-    let l = c .before .before .before .before .before .before .before .loop in
-    (
+    let l = c .before .before .before .before .before .before .before .loop in (
       omega arith,
       omega arith,
       fill _ (c .before .before .before .before .block-of .result) (l .inv .2) (omega arith) (c .before .before .store-block .ensures) (c .before .before .before .before .block-of .ensures),

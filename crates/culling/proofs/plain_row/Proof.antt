@@ -1,104 +1,102 @@
+-- `culling::plain_row` meets its contract: the blocks, then the two ends. Assumes nothing.
+use mathlib.Core.Path.{_≡_, _∙_}
+use Prim.Native.Nat.{ℕ, _-_, _<_}
+use denote.Ref.{now}
+use lib.ListN.{length, length-set}
+use Rattle.rules.specs.Cells.{Size, cellAt}
+use Rattle.util.specs.Grid.{sizeOf}
+use Rattle.culling.specs.Rows.{Rows, plainAt}
+use Rattle.culling.proofs.Plain.{layer-back, row-back, rows-of, ended}
 use borrow.Author.Needs.{needs}
+use native.Mathlib.Omega.{arith}
 use Rattle.culling.proofs.plain_row.Statement.{statement}
 use Rattle.culling.proofs.plain_row.Tie as tie
-use Rattle.culling.proofs.plain_row.Reads as reads
-use Rattle.culling.proofs.plain_row.Lts as lts
-use Rattle.culling.proofs.inner_row.Reads as inner-row-reads
-use Rattle.culling.proofs.layer_size.Reads as layer-size-reads
-use Rattle.culling.proofs.lone_set.Reads as lone-set-reads
-use Rattle.culling.proofs.row_sides.Reads as row-sides-reads
-use Rattle.culling.proofs.row_start.Reads as row-start-reads
-use Rattle.culling.proofs.short_row.Reads as short-row-reads
-use Rattle.culling.proofs.step_ahead.Reads as step-ahead-reads
-use Rattle.culling.proofs.step_behind.Reads as step-behind-reads
 
--- src/lib.rt:436:15
+abbrev start : tie.After-row-sides → tie.Start
+start c = c .before .before .before .before .before .before .before .before .before .before .before .before
+
+abbrev size : tie.After-row-sides → Size
+size c = sizeOf (start c .args .dims)
+
+rows : (c : tie.After-row-sides) → Rows (size c) (start c .args .y) (start c .args .z) (c .before .before .before .before .before .before .before .row-start .result) (c .before .before .before .before .before .step-ahead .result)
+    (c .before .before .before .before .step-behind .result) (c .before .before .step-ahead2 .result) (c .before .step-behind2 .result) (c .row-sides .result)
+rows c =
+    rows-of (size c) (start c .pre .0) (start c .pre .2) (start c .pre .3) (c .before .before .before .before .before .before .before .before .layer-size .ensures .0) (c .before .before .before .before .before .before .before .row-start .ensures .0)
+    (c .before .before .before .before .before .step-ahead .ensures) (c .before .before .before .before .step-behind .ensures) (c .before .before .step-ahead2 .ensures) (c .before .step-behind2 .ensures) (c .row-sides .ensures)
+
 cast-row : tie.Need-cast-row
 cast-row c = search needs
 
--- src/lib.rt:437:9
 layer-size-requires : tie.Need-layer-size-requires
 layer-size-requires c κs = search needs
 
--- src/lib.rt:438:14
 row-start-requires : tie.Need-row-start-requires
 row-start-requires c κs = search needs
 
--- src/lib.rt:438:14
 cast-at : tie.Need-cast-at
 cast-at c = search needs
 
--- src/lib.rt:439:48
 cast-step-ahead : tie.Need-cast-step-ahead
 cast-step-ahead c = search needs
 
--- src/lib.rt:439:9
 step-ahead-requires : tie.Need-step-ahead-requires
 step-ahead-requires c κs = search needs
 
--- src/lib.rt:440:9
 step-behind-requires : tie.Need-step-behind-requires
-step-behind-requires c κs = ?
+step-behind-requires c κs =
+    λ h. let s = c .before .before .before .before .before .before .before in
+    omega (arith, c .before .before .before .layer-size .ensures .0, c .before .before .row-start .ensures .0, layer-back (sizeOf (s .args .dims)) (s .pre .0) (s .pre .2) (s .pre .3) h)
 
--- src/lib.rt:441:48
 cast-step-ahead-2 : tie.Need-cast-step-ahead-2
 cast-step-ahead-2 c = search needs
 
--- src/lib.rt:441:9
 step-ahead-requires-2 : tie.Need-step-ahead-requires-2
 step-ahead-requires-2 c κs = search needs
 
--- src/lib.rt:442:9
 step-behind-requires-2 : tie.Need-step-behind-requires-2
-step-behind-requires-2 c κs = ?
+step-behind-requires-2 c κs =
+    λ h. let s = c .before .before .before .before .before .before .before .before .before .before in
+    omega (arith, c .before .before .before .before .before .row-start .ensures .0, row-back (sizeOf (s .args .dims)) (s .pre .0) (s .pre .2) (s .pre .3) h)
 
--- src/lib.rt:443:9
 row-sides-requires : tie.Need-row-sides-requires
 row-sides-requires c κs = search needs
 
--- src/lib.rt:445:9
 short-row-requires : tie.Need-short-row-requires
-short-row-requires c κs = ?
+short-row-requires c κs = let r = c .before .before in let s = start r in (rows r, s .pre .1, s .pre .5, s .pre .4)
 
--- src/lib.rt:448:9
 same-length : tie.Need-same-length
 same-length c = search needs
 
--- src/lib.rt:448:9
 returns : tie.Need-returns
-returns c = search needs
+returns c = c .before .before .short-row .ensures
 
--- src/lib.rt:450:5
 inner-row-requires : tie.Need-inner-row-requires
-inner-row-requires c κs = ?
+inner-row-requires c κs = let r = c .before .before in let s = start r in (rows r, s .pre .1, s .pre .5, omega arith, s .pre .4)
 
--- src/lib.rt:453:15
 sub-end : tie.Need-sub-end
 sub-end c = search needs
 
--- src/lib.rt:454:15
 lone-set-requires : tie.Need-lone-set-requires
-lone-set-requires c κs = ?
+lone-set-requires c κs = let r = c .before .before .before .before .before in let s = start r in (rows r, s .pre .1, s .pre .5, omega arith)
 
--- src/lib.rt:454:5
 slice-write-sets : tie.Need-slice-write-sets
-slice-write-sets c = ?
+slice-write-sets c = let s = start (c .before .before .before .before .before .before) in omega (arith, c .before .before .before .inner-row .ensures .0, s .pre .4)
 
--- src/lib.rt:455:17
 lone-set-requires-2 : tie.Need-lone-set-requires-2
-lone-set-requires-2 c κs = ?
+lone-set-requires-2 c κs = let r = c .before .before .before .before .before .before in let s = start r in (rows r, s .pre .1, s .pre .5, omega arith)
 
--- src/lib.rt:455:5
 slice-write-sets-2 : tie.Need-slice-write-sets-2
-slice-write-sets-2 c = ?
+slice-write-sets-2 c = let s = start (c .before .before .before .before .before .before .before) in simp length-set (omega (arith, c .before .before .before .before .inner-row .ensures .0, s .pre .4))
 
--- src/lib.rt:432:1
 same-length-2 : tie.Need-same-length-2
 same-length-2 c = search needs
 
--- src/lib.rt:432:1
 returns-2 : tie.Need-returns-2
-returns-2 c = ?
+returns-2 c =
+    let r = c .before .before .before .before .before .before .before in
+    let s = start r in
+    ended (λ k. plainAt (size r) (s .args .full) (s .args .outer) (now (s .args .grid)) (cellAt (size r) k (s .args .y) (s .args .z))) (c .before .before .before .before .inner-row .last .0) (s .args .dims .width)
+    (omega arith) (omega (arith, c .before .before .before .before .inner-row .ensures .0, s .pre .4)) (c .before .before .before .before .inner-row .ensures .1) (c .before .lone-set .ensures) (c .lone-set2 .ensures)
 
 pub plain-row-spec : {M : Type 1} → statement M
 plain-row-spec =

@@ -54,8 +54,7 @@ loop-again c =
     let l = c .before .before .before .loop in
     let s = c .before .before .before .before .before .before .before .before .before in
     let size = sizeOf (s .args .dims) in
-    let here : c .before .before .before .before .row-start .result + l .x ≡ cellAt size (l .x) (s .args .y) (s .args .z) = omega (arith, c .before .before .before .before .row-start .ensures .0) in
-    (
+    let here : c .before .before .before .before .row-start .result + l .x ≡ cellAt size (l .x) (s .args .y) (s .args .z) = omega (arith, c .before .before .before .before .row-start .ensures .0) in (
       omega arith,
       simp length-set (l .inv .1),
       λ faces e. pass _ _ (l .inv .2 faces e) (omega arith)
