@@ -1,1 +1,2 @@
 pub mod Culling
+pub mod Rows

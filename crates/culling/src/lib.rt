@@ -9,13 +9,15 @@ use util::wide;
 ghost use mathlib.Core.Path.{_≡_};
 ghost use mathlib.Core.Bool.{cond};
 ghost use mathlib.Core.List.{List};
-ghost use Prim.Native.Nat.{ℕ, _≤_, _<_};
+ghost use Prim.Native.Nat.{ℕ, _+_, _-_, _*_, _≤_, _<_};
+ghost use lib.Dec.{ltb};
 ghost use lib.ListN.{length, getD};
-ghost use Rattle.rules.specs.Cells.{setOf, coordinates};
+ghost use Rattle.rules.specs.Cells.{cells, cellAt, setOf, coordinates};
 ghost use Rattle.rules.specs.Mesh.{drawn};
 ghost use Rattle.face.specs.Face.{number};
-ghost use Rattle.util.specs.Grid.{sizeOf, cordsOf};
+ghost use Rattle.util.specs.Grid.{sizeOf, cordsOf, Within};
 ghost use Rattle.culling.specs.Culling.{worldOf, outerSet, shownAt, Laid};
+ghost use Rattle.culling.specs.Rows.{Whole, RowShown, ClearBelow, FullFrom, Plainly, six, edgeSet, plainSet, plainAt, PlainRow, rowSides, Rows, Placed};
 
 // The faces of the outer list.
 pub fn outer_set(outer: &[u8]) -> u8
@@ -107,4 +109,502 @@ pub fn drawn_set(
         + shown_side(dims, outer, grid, covers, cell, x, y, z, Face::Left, 8)
         + shown_side(dims, outer, grid, covers, cell, x, y, z, Face::Back, 16)
         + shown_side(dims, outer, grid, covers, cell, x, y, z, Face::Forward, 32)
+}
+
+// How many of the first types are no NormalCubes and cover nothing.
+pub fn clear_types(kinds: &[u8], covers: &[u8]) -> u8
+    requires { ⌜ (length (now covers) ≡ length (now kinds)) × (length (now kinds) ≤ 255) ⌝ }
+    ensures { λ r. ⌜ ClearBelow (now (kinds .entry)) (now (covers .entry)) r ⌝ }
+{
+    let mut t: usize = 0;
+    while t < kinds.len() {
+        if kinds[t] == 1 {
+            return t as u8;
+        }
+        if covers[t] != 0 {
+            return t as u8;
+        }
+        t += 1;
+    }
+    t as u8
+}
+
+// From this type on all are NormalCubes that cover every side.
+pub fn full_from(kinds: &[u8], covers: &[u8]) -> u8
+    requires { ⌜ (length (now covers) ≡ length (now kinds)) × (length (now kinds) ≤ 255) ⌝ }
+    ensures { λ r. ⌜ FullFrom (now (kinds .entry)) (now (covers .entry)) r ⌝ }
+{
+    let mut t: usize = kinds.len();
+    while 0 < t {
+        let last = t - 1;
+        if kinds[last] != 1 {
+            return t as u8;
+        }
+        if covers[last] != 63 {
+            return t as u8;
+        }
+        t = last;
+    }
+    0
+}
+
+// A side's bit, or none.
+fn bit_if(on: bool, bit: u8) -> u8
+    ensures { λ r. ⌜ (r ≡ cond on bit 0) × (r ≤ bit) ⌝ }
+{
+    bit * (on as u8)
+}
+
+// The sides beside types that are not full.
+fn open_set(up: u8, down: u8, right: u8, left: u8, back: u8, forward: u8, full: u8) -> u8
+    ensures { λ r. ⌜ r ≡ setOf (λ f. ltb (six up down right left back forward f) full) ⌝ }
+{
+    bit_if(up < full, 1)
+        + bit_if(down < full, 2)
+        + bit_if(right < full, 4)
+        + bit_if(left < full, 8)
+        + bit_if(back < full, 16)
+        + bit_if(forward < full, 32)
+}
+
+// The sides at the grid's edge that are not in the outer set.
+fn edge_set(keep: u8, outer: u8) -> u8
+    requires { ⌜ (keep < 64) × (outer < 64) ⌝ }
+    ensures { λ r. ⌜ (r < 64) × (r ≡ edgeSet keep outer) ⌝ }
+{
+    63 - (keep | outer)
+}
+
+// The side set of a cell by its code and its neighbours', with no branch, so that it can be done for many cells at once.
+fn plain_set(
+    own: u8,
+    up: u8,
+    down: u8,
+    right: u8,
+    left: u8,
+    back: u8,
+    forward: u8,
+    full: u8,
+    keep: u8,
+    edge: u8,
+) -> u8
+    requires { ⌜ (keep < 64) × (edge < 64) ⌝ }
+    ensures { λ r. ⌜ r ≡ plainSet full keep edge own (six up down right left back forward) ⌝ }
+{
+    let open = open_set(up, down, right, left, back, forward, full);
+    bit_if(full <= own, (open & keep) | edge)
+}
+
+// A step ahead along an axis, or none at its end.
+fn step_ahead(at: usize, step: usize, here: usize, size: usize) -> usize
+    requires { ⌜ (at + step < 4294967296) × (here < 1024) ⌝ }
+    ensures { λ r. ⌜ (here + 1 < size → r ≡ at + step) × (size ≤ here + 1 → r ≡ at) ⌝ }
+{
+    if here + 1 < size { at + step } else { at }
+}
+
+// A step back along an axis, or none at its start.
+fn step_behind(at: usize, step: usize, here: usize) -> usize
+    requires { ⌜ (0 < here → step ≤ at) ⌝ }
+    ensures { λ r. ⌜ (0 < here → r + step ≡ at) × (here ≤ 0 → r ≡ at) ⌝ }
+{
+    if 0 < here { at - step } else { at }
+}
+
+// The first cell of the row at y and z.
+fn row_start(dims: Dimensions, y: u32, z: u32) -> u32
+    requires { ⌜ Within (sizeOf dims) × (y < dims .height) × (z < dims .length) ⌝ }
+    ensures { λ r. ⌜ (r ≡ cellAt (sizeOf dims) 0 y z) × (r + dims .width ≤ cells (sizeOf dims)) ⌝ }
+{
+    (y * dims.length + z) * dims.width
+}
+
+fn layer_size(dims: Dimensions) -> usize
+    requires { ⌜ Within (sizeOf dims) ⌝ }
+    ensures { λ r. ⌜ (r ≡ dims .length * dims .width) × (r ≤ 1048576) ⌝ }
+{
+    (dims.length * dims.width) as usize
+}
+
+// The sides on which a row has rows beside it.
+fn row_sides(dims: Dimensions, y: u32, z: u32) -> u8
+    requires { ⌜ (y < 1024) × (z < 1024) ⌝ }
+    ensures { λ r. ⌜ r ≡ rowSides (sizeOf dims) y z ⌝ }
+{
+    bit_if(y + 1 < dims.height, 1)
+        + bit_if(0 < y, 2)
+        + bit_if(z + 1 < dims.length, 16)
+        + bit_if(0 < z, 32)
+}
+
+// And the sides on which a cell of it has cells beside it.
+fn cell_sides(sides: u8, x: usize, width: usize) -> u8
+    requires { ⌜ (sides ≤ 51) × (x < 1024) ⌝ }
+    ensures { λ r. ⌜ r ≡ sides + cond (ltb (x + 1) width) 4 0 + cond (ltb 0 x) 8 0 ⌝ }
+{
+    sides + bit_if(x + 1 < width, 4) + bit_if(0 < x, 8)
+}
+
+// The side set of a cell of a row, its neighbours in the row given.
+fn cell_set(
+    dims: Dimensions,
+    outer: u8,
+    grid: &[u8],
+    full: u8,
+    y: u32,
+    z: u32,
+    at: usize,
+    up: usize,
+    down: usize,
+    back: usize,
+    forward: usize,
+    sides: u8,
+    x: usize,
+    keep: u8,
+    edge: u8,
+    right: usize,
+    left: usize,
+) -> u8
+    requires { ⌜ Rows (sizeOf dims) y z at up down back forward sides × Placed (sizeOf dims) outer x y z at keep edge right left × (length (now grid) ≡ cells (sizeOf dims)) ⌝ }
+    ensures { λ r. ⌜ r ≡ plainAt (sizeOf dims) full outer (now (grid .entry)) (cellAt (sizeOf dims) x y z) ⌝ }
+{
+    plain_set(
+        grid[at + x],
+        grid[up + x],
+        grid[down + x],
+        grid[right],
+        grid[left],
+        grid[back + x],
+        grid[forward + x],
+        full,
+        keep,
+        edge,
+    )
+}
+
+// The side set of any cell of a row.
+fn lone_set(
+    dims: Dimensions,
+    outer: u8,
+    grid: &[u8],
+    full: u8,
+    y: u32,
+    z: u32,
+    at: usize,
+    up: usize,
+    down: usize,
+    back: usize,
+    forward: usize,
+    sides: u8,
+    x: usize,
+) -> u8
+    requires { ⌜ Rows (sizeOf dims) y z at up down back forward sides × (length (now grid) ≡ cells (sizeOf dims)) × (outer < 64) × (x < dims .width) ⌝ }
+    ensures { λ r. ⌜ r ≡ plainAt (sizeOf dims) full outer (now (grid .entry)) (cellAt (sizeOf dims) x y z) ⌝ }
+{
+    let width = dims.width as usize;
+    let keep = cell_sides(sides, x, width);
+    let edge = edge_set(keep, outer);
+    let right = step_ahead(at + x, 1, x, width);
+    let left = step_behind(at + x, 1, x);
+    cell_set(
+        dims,
+        outer,
+        grid,
+        full,
+        y,
+        z,
+        at,
+        up,
+        down,
+        back,
+        forward,
+        sides,
+        x,
+        keep,
+        edge,
+        right,
+        left,
+    )
+}
+
+// The side sets of sixteen cells of a row that are not its ends, apart from the list they go to: so they are done at once.
+fn block_of(
+    dims: Dimensions,
+    outer: u8,
+    grid: &[u8],
+    full: u8,
+    y: u32,
+    z: u32,
+    at: usize,
+    up: usize,
+    down: usize,
+    back: usize,
+    forward: usize,
+    sides: u8,
+    x: usize,
+) -> [u8; 16]
+    requires { ⌜ Rows (sizeOf dims) y z at up down back forward sides × (length (now grid) ≡ cells (sizeOf dims)) × (outer < 64) × (0 < x) × (x + 16 < dims .width) ⌝ }
+    ensures { λ r. ⌜ ((i : ℕ) → i < 16 → getD r i 0 ≡ plainAt (sizeOf dims) full outer (now (grid .entry)) (cellAt (sizeOf dims) (x + i) y z)) ⌝ }
+{
+    let keep = sides + 12;
+    let edge = edge_set(keep, outer);
+    let mut block: [u8; 16] = [0; 16];
+    let mut i: usize = 0;
+    while i < 16 {
+        let on = x + i;
+        let right = at + on + 1;
+        let left = at + on - 1;
+        block[i] = cell_set(
+            dims,
+            outer,
+            grid,
+            full,
+            y,
+            z,
+            at,
+            up,
+            down,
+            back,
+            forward,
+            sides,
+            on,
+            keep,
+            edge,
+            right,
+            left,
+        );
+        i += 1;
+    }
+    block
+}
+
+fn store_block(sets: &mut [u8], x: usize, block: [u8; 16])
+    requires { ⌜ x + 16 ≤ length (now sets) ⌝ }
+    ensures { λ _. ⌜ (length (now (sets .exit)) ≡ length (now (sets .entry)))
+        × ((k : ℕ) → k < x → getD (now (sets .exit)) k 0 ≡ getD (now (sets .entry)) k 0)
+        × ((i : ℕ) → i < 16 → getD (now (sets .exit)) (x + i) 0 ≡ getD block i 0) ⌝ }
+{
+    let mut i: usize = 0;
+    while i < 16 {
+        sets[x + i] = block[i];
+        i += 1;
+    }
+}
+
+// Where the next block starts: at x, or so that it ends with the row.
+fn block_start(x: usize, end: usize) -> usize
+    requires { ⌜ (0 < x) × (x < end) × (17 ≤ end) × (end ≤ 1024) ⌝ }
+    ensures { λ r. ⌜ (0 < r) × (r ≤ x) × (x < r + 16) × (r + 16 ≤ end) ⌝ }
+{
+    if x + 16 <= end { x } else { end - 16 }
+}
+
+// The side sets of a row's cells, but for its ends.
+fn inner_row(
+    sets: &mut [u8],
+    dims: Dimensions,
+    outer: u8,
+    grid: &[u8],
+    full: u8,
+    y: u32,
+    z: u32,
+    at: usize,
+    up: usize,
+    down: usize,
+    back: usize,
+    forward: usize,
+    sides: u8,
+)
+    requires { ⌜ Rows (sizeOf dims) y z at up down back forward sides × (length (now grid) ≡ cells (sizeOf dims)) × (outer < 64) × (18 ≤ dims .width) × (dims .width ≤ length (now sets)) ⌝ }
+    ensures { λ _. ⌜ (length (now (sets .exit)) ≡ length (now (sets .entry)))
+        × ((x : ℕ) → 0 < x → x + 1 < dims .width → getD (now (sets .exit)) x 0 ≡ plainAt (sizeOf dims) full outer (now (grid .entry)) (cellAt (sizeOf dims) x y z)) ⌝ }
+{
+    let end = dims.width as usize - 1;
+    let mut x: usize = 1;
+    while x < end {
+        let start = block_start(x, end);
+        let block = block_of(
+            dims,
+            outer,
+            grid,
+            full,
+            y,
+            z,
+            at,
+            up,
+            down,
+            back,
+            forward,
+            sides,
+            start,
+        );
+        store_block(sets, start, block);
+        x = start + 16;
+    }
+}
+
+// The side sets of a row that has no room for a block.
+fn short_row(
+    sets: &mut [u8],
+    dims: Dimensions,
+    outer: u8,
+    grid: &[u8],
+    full: u8,
+    y: u32,
+    z: u32,
+    at: usize,
+    up: usize,
+    down: usize,
+    back: usize,
+    forward: usize,
+    sides: u8,
+)
+    requires { ⌜ Rows (sizeOf dims) y z at up down back forward sides × (length (now grid) ≡ cells (sizeOf dims)) × (outer < 64) × (dims .width ≤ length (now sets)) ⌝ }
+    ensures { λ _. ⌜ PlainRow (sizeOf dims) full outer (now (grid .entry)) y z (now (sets .exit)) ⌝ }
+{
+    let width = dims.width as usize;
+    let mut x: usize = 0;
+    while x < width {
+        sets[x] = lone_set(
+            dims,
+            outer,
+            grid,
+            full,
+            y,
+            z,
+            at,
+            up,
+            down,
+            back,
+            forward,
+            sides,
+            x,
+        );
+        x += 1;
+    }
+}
+
+// The side sets of a row whose codes and whose neighbours' are all plain.
+fn plain_row(sets: &mut [u8], dims: Dimensions, outer: u8, grid: &[u8], full: u8, y: u32, z: u32)
+    requires { ⌜ Within (sizeOf dims) × (length (now grid) ≡ cells (sizeOf dims)) × (y < dims .height) × (z < dims .length) × (dims .width ≤ length (now sets)) × (outer < 64) ⌝ }
+    ensures { λ _. ⌜ PlainRow (sizeOf dims) full outer (now (grid .entry)) y z (now (sets .exit)) ⌝ }
+{
+    let row = dims.width as usize;
+    let layer = layer_size(dims);
+    let at = row_start(dims, y, z) as usize;
+    let up = step_ahead(at, layer, y as usize, dims.height as usize);
+    let down = step_behind(at, layer, y as usize);
+    let back = step_ahead(at, row, z as usize, dims.length as usize);
+    let forward = step_behind(at, row, z as usize);
+    let sides = row_sides(dims, y, z);
+    if row < 18 {
+        short_row(
+            sets,
+            dims,
+            outer,
+            grid,
+            full,
+            y,
+            z,
+            at,
+            up,
+            down,
+            back,
+            forward,
+            sides,
+        );
+        return;
+    }
+    inner_row(
+        sets,
+        dims,
+        outer,
+        grid,
+        full,
+        y,
+        z,
+        at,
+        up,
+        down,
+        back,
+        forward,
+        sides,
+    );
+    let end = row - 1;
+    sets[0] = lone_set(
+        dims,
+        outer,
+        grid,
+        full,
+        y,
+        z,
+        at,
+        up,
+        down,
+        back,
+        forward,
+        sides,
+        0,
+    );
+    sets[end] = lone_set(
+        dims,
+        outer,
+        grid,
+        full,
+        y,
+        z,
+        at,
+        up,
+        down,
+        back,
+        forward,
+        sides,
+        end,
+    );
+}
+
+// The side sets of a row, cell by cell.
+fn row_by_cells(
+    sets: &mut [u8],
+    dims: Dimensions,
+    outer: u8,
+    grid: &[u8],
+    kinds: &[u8],
+    covers: &[u8],
+    y: u32,
+    z: u32,
+)
+    requires { ⌜ Whole (sizeOf dims) (now grid) (length (now covers)) × (length (now covers) ≡ length (now kinds)) × (y < dims .height) × (z < dims .length) × (dims .width ≤ length (now sets)) ⌝ }
+    ensures { λ _. ⌜ ((faces : List ℕ) → outer ≡ outerSet faces → RowShown (sizeOf dims) (now (kinds .entry)) (now (covers .entry)) faces (now (grid .entry)) y z (now (sets .exit))) ⌝ }
+{
+    let start = row_start(dims, y, z);
+    let mut x: u32 = 0;
+    while x < dims.width {
+        let set = drawn_set(dims, outer, grid, kinds, covers, Cell(start + x), x, y, z);
+        sets[x as usize] = set;
+        x += 1;
+    }
+}
+
+// The side sets of the row of cells at y and z: by bytes where every type is plainly clear or full, else cell by cell.
+pub fn drawn_row(
+    sets: &mut [u8],
+    dims: Dimensions,
+    outer: u8,
+    grid: &[u8],
+    kinds: &[u8],
+    covers: &[u8],
+    clear: u8,
+    full: u8,
+    y: u32,
+    z: u32,
+)
+    requires { ⌜ Whole (sizeOf dims) (now grid) (length (now covers)) × (length (now covers) ≡ length (now kinds)) × Plainly (now kinds) (now covers) clear full × (y < dims .height) × (z < dims .length) × (dims .width ≤ length (now sets)) × (outer < 64) ⌝ }
+    ensures { λ _. ⌜ ((faces : List ℕ) → outer ≡ outerSet faces → RowShown (sizeOf dims) (now (kinds .entry)) (now (covers .entry)) faces (now (grid .entry)) y z (now (sets .exit))) ⌝ }
+{
+    if clear < full {
+        row_by_cells(sets, dims, outer, grid, kinds, covers, y, z);
+        return;
+    }
+    plain_row(sets, dims, outer, grid, full, y, z);
 }
