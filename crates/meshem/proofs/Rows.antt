@@ -4,19 +4,20 @@ use mathlib.Core.Logic.{_≢_}
 use mathlib.Core.List.{List}
 use Prim.Native.Nat.{ℕ, zero, suc, _+_, _-_, _*_, _≤_, _<_}
 use native.Mathlib.Omega.{arith}
-use lib.ListN.{length, getD, set, take}
-use lib.Seq.{getD-take, length-take-le, set-getD}
+use lib.ListN.{length, getD, take}
+use lib.Seq.{getD-take, length-take-le}
 use Rattle.rules.specs.Cells.{Size, Triple, cells, cellAt, xOf, yOf, zOf, coordinates, keyOf, quadsOf}
-use Rattle.rules.specs.Mesh.{Quad, Lists, NONE, typeAt, quadAt}
+use Rattle.rules.specs.Mesh.{Quad, Lists, typeAt, quadAt}
 use Rattle.rules.specs.Calls.{Scene, world, span}
 use Rattle.rules.proofs.Neighbours.{Inside, inside-of, cellAt-in, cellAt-coordinates, coordinates-cellAt}
 use Rattle.rules.proofs.Demands.{words-sized}
 use Rattle.util.specs.Grid.{Within, cordsOf}
 use Rattle.util.proofs.Nexts.{first, next, together}
-use Rattle.drawing.specs.Drawn.{bareAt, facesDrawn, cellsDrawn, asked}
-use Rattle.drawing.specs.Rooms.{Room}
+use Rattle.drawing.specs.Drawn.{facesDrawn, cellsDrawn, asked}
+use Rattle.drawing.specs.Rooms.{Room, Bare}
+use Rattle.drawing.proofs.Bare.{stays-bare}
 use Rattle.drawing.proofs.Turns.{Kept, kept-none, kept-then, kept-faces, room-less, room-kept}
-use Rattle.meshem.specs.Fresh.{Starts, Bare, RowOf, setsFrom, CellReady, RowReady}
+use Rattle.meshem.specs.Fresh.{Starts, RowOf, setsFrom, CellReady, RowReady}
 use Rattle.meshem.proofs.Sets.{quads-le}
 
 pub first-row : (s : Size) → Within s → Starts s 0 0 0
@@ -167,10 +168,6 @@ module _ (w : ℕ) (quad : ℕ → ℕ → Quad) where
   unfolding cellsDrawn
   drawn-more sets n base c B = drawn-split sets n 1 base c B
 
-  -- STAND-IN
-  bare-faces : (set base c k : ℕ) (B : Lists) → ((f : ℕ) → quad c f .key ≡ keyOf c f) → c ≢ k → Bare k B → Bare k (facesDrawn w set (quad c) base c 0 6 B)
-  bare-faces = ?
-
   -- and a cell that is not drawn stays bare
   pub bare-cells : (sets : ℕ → ℕ) → ((c f : ℕ) → quad c f .key ≡ keyOf c f) → (n base c k : ℕ) (B : Lists) → c + n ≤ k → Bare k B
       → Bare k (cellsDrawn w sets quad base c n B)
@@ -178,19 +175,7 @@ module _ (w : ℕ) (quad : ℕ → ℕ → Quad) where
   bare-cells sets keyed zero base c k B h b = b
   bare-cells sets keyed (suc n) base c k B h b =
       bare-cells sets keyed n (base + quadsOf (sets c)) (suc c) k (facesDrawn w (sets c) (quad c) base c 0 6 B) (omega arith)
-      (bare-faces (sets c) base c k B (keyed c) (λ e. absurd (omega (arith, e))) b)
-
-  -- a bare cell that asks for nothing is left as it is
-  pub still : (c base : ℕ) (B : Lists) → Bare c B → facesDrawn w 0 (quad c) base c 0 6 B ≡ B
-  unfolding facesDrawn bareAt
-  still c base B b = λ i. record { vertices = B .vertices; triangles = B .triangles; links = B .links; slots = all i }
-    where
-      one : (f : ℕ) → f < 6 → set (B .slots) (keyOf c f) NONE ≡ B .slots
-      one f h = ap (set (B .slots) (keyOf c f)) (sym (b f h)) ∙ set-getD (B .slots) (keyOf c f) NONE
-
-      all : set (set (set (set (set (set (B .slots) (keyOf c 0) NONE) (keyOf c 1) NONE) (keyOf c 2) NONE) (keyOf c 3) NONE) (keyOf c 4) NONE) (keyOf c 5) NONE ≡ B .slots
-      all =
-          rw (one 0 (omega arith), one 1 (omega arith), one 2 (omega arith), one 3 (omega arith), one 4 (omega arith), one 5 (omega arith)) refl
+      (stays-bare w (sets c) (quad c) base c (keyed c) k B (λ e. absurd (omega (arith, e))) b)
 
 -- ---- a row of cells, drawn by a list of sets
 module _ (S : Scene) (g list : List ℕ) {c base : ℕ} {B : Lists} (r : RowReady S g list c base B) {y z : ℕ} (starts : Starts (S .size) c y z) where

@@ -20,14 +20,16 @@ use Rattle.types.proofs.Known.{cube-placed}
 use Rattle.admit.specs.declared.Scene as declared
 use Rattle.admit.specs.Scenes.{Typed, sceneOf}
 use Rattle.culling.specs.Culling.{worldOf}
+use Rattle.culling.specs.Rows.{Whole}
 use Rattle.books.proofs.Books.{within}
 use Rattle.culling.proofs.Sides.{setOf-cong, drawn-by}
 use Rattle.vav.proofs.Laws.{length-part}
-use Rattle.drawing.specs.Drawn.{cellsDrawn, asked}
+use Rattle.drawing.specs.Drawn.{cellsDrawn, asked, bareCells}
+use Rattle.drawing.proofs.Bare.{kept-bare-cells}
 use Rattle.quads.specs.Quads.{Drawable}
-use Rattle.drawing.specs.Rooms.{Room}
+use Rattle.drawing.specs.Rooms.{Room, Bare}
 use Rattle.drawing.proofs.Turns.{Kept, room-less, room-kept}
-use Rattle.meshem.specs.Fresh.{setAt, facesOf, Whole, Roomy, Bare, Starts, RowOf, setsFrom, RowReady}
+use Rattle.meshem.specs.Fresh.{setAt, facesOf, Roomy, Starts, RowOf, setsFrom, RowReady}
 use Rattle.meshem.proofs.Sets.{set-below}
 use Rattle.meshem.proofs.Rows.{row-end, asked-le, asked-few, asked-moved, asked-on, kept-cells, bare-cells, drawn-like, drawn-on}
 
@@ -110,6 +112,13 @@ module _ (scene : declared.Scene) (kinds covers cubes : List ℕ) (culling : Boo
 
     pub kept-to : {c : ℕ} → c ≤ cells (S .size) → Kept B (before c B)
     kept-to {c} h = kept-cells (span S) (quadAt (world S) g) sets (λ c f. words-sized S (typeAt g c) f c) c 0 0 B (room-less (omega arith) (room-to h))
+
+    -- bare slots take none of the room
+    pub roomy-bare : Roomy S culling outer g (bareCells 0 (cells (S .size)) B)
+    unfolding bareCells roomOf
+    roomy-bare =
+        let k = kept-bare-cells 0 (cells (S .size)) B (omega (arith, r .slots)) in
+        record { grid = r .grid; types = r .types; few = r .few; slots = omega (arith, k .slots, r .slots); quads = r .quads }
 
     module _ (bare : (c : ℕ) → c < cells (S .size) → Bare c B) {c y z : ℕ} (starts : Starts (S .size) c y z) (list : List ℕ) (row : RowOf sets c (S .size .w) list) where
       end : c + S .size .w ≤ cells (S .size)

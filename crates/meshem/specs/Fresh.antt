@@ -5,14 +5,14 @@ use mathlib.Core.Bool.{Bool, cond}
 use mathlib.Core.List.{List}
 use lib.ListN.{length, getD}
 use Rattle.rules.specs.Lists.{each, only}
-use Rattle.rules.specs.Cells.{Size, cells, cellAt, coordinates, keyOf, has, setOf, quadsOf}
+use Rattle.rules.specs.Cells.{Size, cells, coordinates, has, setOf, quadsOf}
 use Rattle.rules.specs.Types.{floats, cubeOf}
-use Rattle.rules.specs.Mesh.{World, Lists, NONE, typeAt, isNormalCube, drawn}
+use Rattle.rules.specs.Mesh.{World, Lists, typeAt, isNormalCube, drawn}
 use Rattle.rules.specs.Calls.{Scene, world, span, faces, room}
 use Rattle.util.specs.Grid.{Within, cordsOf}
-use Rattle.culling.specs.Culling.{worldOf}
+use Rattle.culling.specs.Rows.{Whole, Plainly}
 use Rattle.quads.specs.Quads.{Drawable}
-use Rattle.drawing.specs.Rooms.{Room, Ready}
+use Rattle.drawing.specs.Rooms.{Room, Ready, Bare}
 use Rattle.admit.specs.Scenes.{Typed}
 use Rattle.drawing.specs.Drawn.{asked}
 
@@ -26,25 +26,6 @@ setAt culling W outer g c = setOf (sideDrawn culling W outer g c)
 -- the faces of a side set
 abbrev pub facesOf : ℕ → List ℕ
 facesOf set = each 6 0 (λ f. only (has set f) f)
-
--- STAND-IN for culling and drawing
-pub record Whole (size : Size) (g : List ℕ) (types : ℕ) : Type 0 where
-  pub within : Within size
-  pub whole : length g ≡ cells size
-  pub typed : (k : ℕ) → k < length g → getD g k 0 < types
-
-abbrev pub RowShown : Size → List ℕ → List ℕ → List ℕ → List ℕ → ℕ → ℕ → List ℕ → Type 0
-RowShown size kinds covers faces g y z sets =
-    (x : ℕ) → x < size .w → getD sets x 0 ≡ setOf (drawn (worldOf size kinds covers) faces g (cellAt size x y z))
-
-pub record Plainly (kinds covers : List ℕ) (clear full : ℕ) : Type 0 where
-  pub clears : (t : ℕ) → t < clear → getD covers t 0 ≡ 0
-  pub fulls : (t : ℕ) → full ≤ t → t < length kinds → getD covers t 0 ≡ 63
-
-abbrev pub Bare : ℕ → Lists → Type 0
-Bare c B = (f : ℕ) → f < 6 → getD (B .slots) (keyOf c f) NONE ≡ NONE
-
--- END
 
 -- the row of y and z starts at cell c
 pub record Starts (size : Size) (c y z : ℕ) : Type 0 where

@@ -4,7 +4,11 @@ use admit::input_verdict;
 use admit::room_of;
 use answers::Refusal;
 use answers::Verdict;
+use culling::clear_types;
+use culling::drawn_row;
+use culling::full_from;
 use culling::outer_set;
+use drawing::draw_cell;
 use face::Cell;
 use face::quads_of;
 use mesh_metadata::new;
@@ -22,11 +26,11 @@ ghost use Rattle.rules.specs.Mesh.{quadAt, listsOf};
 ghost use Rattle.rules.specs.Calls.{world, span, meshGrid};
 ghost use Rattle.util.specs.Grid.{sizeOf, cordsOf};
 ghost use Rattle.admit.specs.Scenes.{sceneOf};
-ghost use Rattle.culling.specs.Culling.{worldOf, outerSet};
-ghost use Rattle.quads.specs.Quads.{quadOf};
-ghost use Rattle.drawing.specs.Rooms.{Ready};
+ghost use Rattle.culling.specs.Culling.{worldOf};
+ghost use Rattle.culling.specs.Rows.{Whole};
+ghost use Rattle.drawing.specs.Rooms.{Bare};
 ghost use Rattle.drawing.specs.Drawn.{facesDrawn, cellsDrawn, asked};
-ghost use Rattle.meshem.specs.Fresh.{setAt, facesOf, Whole, RowShown, Plainly, Bare, Starts, Rows, RowOf, setsFrom, Roomy, CellReady, RowReady};
+ghost use Rattle.meshem.specs.Fresh.{setAt, facesOf, Starts, Rows, RowOf, setsFrom, Roomy, CellReady, RowReady};
 ghost use Rattle.meshem.specs.Outcome.{isCulling, outcome};
 
 pub enum MeshingAlgorithm {
@@ -50,53 +54,6 @@ impl MeshingAlgorithm {
         }
     }
 }
-
-// STAND-IN
-fn clear_types(kinds: &[u8], covers: &[u8]) -> u8
-    ensures { λ r. ⌜ r ≡ 7 ⌝ }
-{
-    7
-}
-
-fn full_from(kinds: &[u8], covers: &[u8]) -> u8
-    requires { ⌜ length (now covers) ≡ length (now kinds) ⌝ }
-    ensures { λ r. ⌜ Plainly (now (kinds .entry)) (now (covers .entry)) 7 r ⌝ }
-{
-    7
-}
-
-fn drawn_row(sets: &mut [u8], dims: Dimensions, outer: u8, grid: &[u8], kinds: &[u8], covers: &[u8], clear: u8, full: u8, y: u32, z: u32)
-    requires { ⌜ Whole (sizeOf dims) (now grid) (length (now covers)) × (length (now covers) ≡ length (now kinds)) × Plainly (now kinds) (now covers) clear full × (y < dims .height) × (z < dims .length) × (dims .width ≤ length (now sets)) × (outer < 64) ⌝ }
-    ensures { λ _. ⌜ ((faces : List ℕ) → outer ≡ outerSet faces → RowShown (sizeOf dims) (now (kinds .entry)) (now (covers .entry)) faces (now (grid .entry)) y z (now (sets .exit))) ⌝ }
-{
-}
-
-fn draw_cell(
-    vertices: &mut [u32],
-    triangles: &mut [u32],
-    links: &mut [u32],
-    slots: &mut [u32],
-    cube: &[u32],
-    floats: usize,
-    cell: Cell,
-    x: u32,
-    y: u32,
-    z: u32,
-    dx: u32,
-    dy: u32,
-    dz: u32,
-    set: u8,
-    base: usize,
-) -> usize
-    requires { ⌜ Ready (now cube) floats (cordsOf x y z) (cordsOf dx dy dz) set base (cell .0)
-        (listsOf (now vertices) (now triangles) (now links) (now slots)) × Bare (cell .0) (listsOf (now vertices) (now triangles) (now links) (now slots)) ⌝ }
-    ensures { λ r. ⌜ (r ≡ base + quadsOf set) × (listsOf (now (vertices .exit)) (now (triangles .exit)) (now (links .exit)) (now (slots .exit))
-        ≡ facesDrawn (4 * floats) set (quadOf (now (cube .entry)) floats (cordsOf dx dy dz) (cordsOf x y z) (cell .0))
-        base (cell .0) 0 6 (listsOf (now (vertices .entry)) (now (triangles .entry)) (now (links .entry)) (now (slots .entry)))) ⌝ }
-{
-    base
-}
-// END
 
 fn wide(x: u8) -> usize
     ensures { λ r. ⌜ (r ≡ x) × (r < 256) ⌝ }
@@ -170,7 +127,7 @@ fn count_quads(
     sets: &mut [u8],
 ) -> usize
     requires { ⌜ Whole (sizeOf dims) (now grid) (length (now covers)) × (length (now covers) ≡ length (now kinds)) × (outer < 64)
-        × (dims .width ≤ length (now sets)) ⌝ }
+        × (dims .width ≤ length (now sets)) × (length (now kinds) ≤ 255) ⌝ }
     ensures { λ r. ⌜ r ≡ asked (setAt culling (worldOf (sizeOf dims) (now (kinds .entry)) (now (covers .entry))) (facesOf outer) (now (grid .entry))) 0 (cells (sizeOf dims)) ⌝ }
 {
     let clear = clear_types(kinds, covers);
@@ -183,7 +140,18 @@ fn count_quads(
     let mut c: u32 = 0;
     while c < end {
         side_row(
-            sets, dims, culling, outer, grid, kinds, covers, clear, full, c, y, z,
+            sets,
+            dims,
+            culling,
+            outer,
+            grid,
+            kinds,
+            covers,
+            clear,
+            full,
+            c,
+            y,
+            z,
         );
         n += quads_in(&sets[..width]) as usize;
         let last = c + (dims.width - 1);
@@ -329,10 +297,32 @@ fn draw_rows(
     let mut c: u32 = 0;
     while c < end {
         side_row(
-            sets, dims, culling, outer, grid, kinds, covers, clear, full, c, y, z,
+            sets,
+            dims,
+            culling,
+            outer,
+            grid,
+            kinds,
+            covers,
+            clear,
+            full,
+            c,
+            y,
+            z,
         );
         base = draw_row(
-            vertices, triangles, links, slots, scene, grid, cubes, sets, c, y, z, base,
+            vertices,
+            triangles,
+            links,
+            slots,
+            scene,
+            grid,
+            cubes,
+            sets,
+            c,
+            y,
+            z,
+            base,
         );
         let last = c + (dims.width - 1);
         let to_y = next_y(Cell(last), dims.width - 1, y, z, dims);
@@ -369,7 +359,18 @@ fn draw_cells(
     let six = 6 * dims.cell_count() as usize;
     new(&mut slots[..six]);
     draw_rows(
-        vertices, triangles, links, slots, scene, culling, outer, grid, kinds, covers, cubes, sets,
+        vertices,
+        triangles,
+        links,
+        slots,
+        scene,
+        culling,
+        outer,
+        grid,
+        kinds,
+        covers,
+        cubes,
+        sets,
     );
 }
 
@@ -398,9 +399,7 @@ pub fn mesh_grid(
     let culling = algorithm.is_culling();
     let sides = outer_set(outer);
     let mut sets: [u8; 1024] = [0; 1024];
-    let quads = count_quads(
-        scene.dims, culling, sides, grid, kinds, covers, &mut sets,
-    );
+    let quads = count_quads(scene.dims, culling, sides, grid, kinds, covers, &mut sets);
     let room = room_of(scene.coloured, vertices.len(), triangles.len(), links.len());
     if room < quads {
         return Meshed::Refused(Refusal::NoRoom, 0);

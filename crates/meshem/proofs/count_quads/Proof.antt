@@ -38,10 +38,10 @@ abbrev sets : tie.Start Inv-loop μ-loop → ℕ → ℕ
 sets s = setAt (s .args .culling) (worldOf (size s) (now (s .args .kinds)) (now (s .args .covers))) (facesOf (s .args .outer)) (now (s .args .grid))
 
 clear-types-requires : tie.Need-clear-types-requires Inv-loop μ-loop
-clear-types-requires c κs = search needs
+clear-types-requires c κs = (start c .pre .1, start c .pre .4)
 
 full-from-requires : tie.Need-full-from-requires Inv-loop μ-loop
-full-from-requires c κs = start (c .before) .pre .1
+full-from-requires c κs = (start (c .before) .pre .1, start (c .before) .pre .4)
 
 cast-width : tie.Need-cast-width Inv-loop μ-loop
 cast-width c = search needs
@@ -64,7 +64,7 @@ side-row-requires : tie.Need-side-row-requires Inv-loop μ-loop
 side-row-requires c κs =
     let i = c .before in
     let s = given i in (
-      record { grid = s .pre .0; both = s .pre .1; plain = ? },
+      record { grid = s .pre .0; both = s .pre .1; plain = record { below = i .before .before .before .before .before .clear-types .ensures; from = i .before .before .before .before .full-from .ensures } },
       s .pre .2,
       row i,
       omega (arith, i .before .loop .inv .2, s .pre .3),

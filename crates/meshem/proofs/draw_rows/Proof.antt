@@ -52,10 +52,10 @@ cell-count-requires : tie.Need-cell-count-requires Inv-loop μ-loop
 cell-count-requires c κs = start c .pre .0 .grid .within .sides
 
 clear-types-requires : tie.Need-clear-types-requires Inv-loop μ-loop
-clear-types-requires c κs = search needs
+clear-types-requires c κs = let t = start (c .before) .pre .0 .types in (t .covered, t .counted .few)
 
 full-from-requires : tie.Need-full-from-requires Inv-loop μ-loop
-full-from-requires c κs = start (c .before .before) .pre .0 .types .covered
+full-from-requires c κs = let t = start (c .before .before) .pre .0 .types in (t .covered, t .counted .few)
 
 loop-holds : tie.Need-loop-holds Inv-loop μ-loop
 unfolding asked cellsDrawn
@@ -76,7 +76,7 @@ side-row-requires c κs =
     let i = c .before in
     let s = given i in
     let r = s .pre .0 in (
-      record { grid = record { within = r .grid .within; whole = r .grid .whole; typed = λ k l. rw (r .types .covered) (r .grid .typed k l) }; both = r .types .covered; plain = ? },
+      record { grid = record { within = r .grid .within; whole = r .grid .whole; typed = λ k l. rw (r .types .covered) (r .grid .typed k l) }; both = r .types .covered; plain = record { below = i .before .before .before .clear-types .ensures; from = i .before .before .full-from .ensures } },
       r .few,
       row i,
       omega (arith, i .before .loop .inv .2, s .pre .1),

@@ -17,7 +17,7 @@ use Rattle.voxel_mesh.proofs.Shapes.{few}
 use Rattle.vav.proofs.Laws.{part-lent}
 use Rattle.drawing.specs.Drawn.{facesDrawn}
 use Rattle.admit.specs.Scenes.{sceneOf}
-use Rattle.meshem.proofs.Rows.{still}
+use Rattle.drawing.proofs.Bare.{still-bare}
 use Rattle.meshem.proofs.draw_sides.Statement.{statement}
 use Rattle.meshem.proofs.draw_sides.Tie as tie
 
@@ -36,7 +36,7 @@ returns c =
     let s = c .before .before .before .before .before .before .before in
     let z : s .args .set ≡ 0 = c .if1 .taken in
     let lists = listsOf (now (s .args .vertices)) (now (s .args .triangles)) (now (s .args .links)) (now (s .args .slots)) in
-    rw z (omega (arith, none-drawn), sym (still (span (scene s)) (quadAt (world (scene s)) (now (s .args .grid))) (s .args .cell .0) (s .args .base) lists (s .pre .0 .bare)))
+    rw z (omega (arith, none-drawn), sym (still-bare (span (scene s)) 0 (quadAt (world (scene s)) (now (s .args .grid)) (s .args .cell .0)) (s .args .base) (s .args .cell .0) (λ f. refl) 6 0 lists (omega arith) (s .pre .0 .bare) refl))
 
 floats-of-requires : tie.Need-floats-of-requires
 floats-of-requires c κs = search needs

@@ -14,7 +14,7 @@ use Rattle.rules.proofs.Sets.{setOf-lt}
 use Rattle.answers.specs.Verdicts.{verdictOf}
 use Rattle.admit.specs.Scenes.{sceneOf, inputVerdict, Admitted}
 use Rattle.admit.proofs.Admitting.{admitted}
-use Rattle.meshem.specs.Fresh.{setAt, facesOf}
+use Rattle.meshem.specs.Fresh.{setAt, facesOf, Roomy}
 use Rattle.meshem.specs.Outcome.{isCulling}
 use Rattle.meshem.proofs.Sets.{asked-cong}
 use Rattle.meshem.proofs.Turns.{set-world}
@@ -43,10 +43,10 @@ known c = let s = start (c .before .before) in admitted (scene s) (now (s .args 
 
 -- as many quads as the fresh mesh has
 quads-are : (c : tie.After-count-quads) →
-    let s = start (c .before .before .before .before .before) in
+    let s = start (c .before .before .before .before .before .before) in
     c .count-quads .result ≡ length (freshMesh (scene s) (now (s .args .outer)) (now (s .args .grid)) (isCulling (s .args .algorithm)))
 quads-are c =
-    let o = c .before in
+    let o = c .before .before in
     let k = o .before in
     let e = k .before in
     let s = start (e .before .before) in
@@ -57,8 +57,8 @@ quads-are c =
     (λ i. set-world S (k .is-culling .result) (facesOf (o .outer-set .result)) g i)
     ∙ rw (k .is-culling .ensures, o .outer-set .ensures) (counted S (now (s .args .outer)) g (isCulling (s .args .algorithm)) (lists s) (known e))
 
-room-is : (c : tie.After-room-of) → let s = start (c .before .before .before .before .before .before) in c .room-of .result ≡ room (scene s) (lists s)
-room-is c = let s = start (c .before .before .before .before .before .before) in c .room-of .ensures (lists s) (record { vertices = refl; triangles = refl; links = refl })
+room-is : (c : tie.After-room-of) → let s = start (c .before .before .before .before .before .before .before .before) in c .room-of .result ≡ room (scene s) (lists s)
+room-is c = let s = start (c .before .before .before .before .before .before .before .before) in c .room-of .ensures (lists s) (record { vertices = refl; triangles = refl; links = refl })
 
 input-verdict-requires : tie.Need-input-verdict-requires
 input-verdict-requires c κs = search needs
@@ -85,10 +85,18 @@ outer-set-requires c κs = known (c .before) .face
 few : (c : tie.After-outer-set) → c .outer-set .result < 64
 few c = rw (c .outer-set .ensures) (setOf-lt (λ f. member f (now (start (c .before .before .before .before) .args .outer))))
 
+slice-aggregate-count-quads : tie.Need-slice-aggregate-count-quads
+slice-aggregate-count-quads c = search needs
+
 count-quads-requires : tie.Need-count-quads-requires
 count-quads-requires c κs =
-    let k = known (c .before .before) in
-    (record { within = k .within; whole = k .whole; typed = λ i l. rw (k .typed .covered) (k .type i l) }, k .typed .covered, few c)
+    let k = known (c .before .before .before) in (
+      record { within = k .within; whole = k .whole; typed = λ i l. rw (k .typed .covered) (k .type i l) },
+      k .typed .covered,
+      few (c .before),
+      k .within .sides .widest,
+      k .typed .counted .few,
+    )
 
 room-of-requires : tie.Need-room-of-requires
 room-of-requires c κs = search needs
@@ -96,17 +104,20 @@ room-of-requires c κs = search needs
 returns-2 : tie.Need-returns-2
 returns-2 c =
     let r = c .before in
-    let q = r .before in
-    let e = q .before .before .before in
+    let q = r .before .before in
+    let e = q .before .before .before .before in
     let s = start (e .before .before) in
     sym (no-room (scene s) (now (s .args .outer)) (now (s .args .grid)) (isCulling (s .args .algorithm)) (lists s) (passed e)
     (omega (arith, c .if1 .taken, room-is r, quads-are q)))
 
+slice-aggregate-draw-cells : tie.Need-slice-aggregate-draw-cells
+slice-aggregate-draw-cells c = search needs
+
 draw-cells-requires : tie.Need-draw-cells-requires
 draw-cells-requires c κs =
-    let l = c .before .before .before .before in
-    let q = l .before .before in
-    let o = q .before in
+    let l = c .before .before .before .before .before in
+    let q = l .before .before .before in
+    let o = q .before .before in
     let n = o .before in
     let e = n .before in
     let k = known e in
@@ -115,13 +126,14 @@ draw-cells-requires c κs =
     let g = now (s .args .grid) in
     let a = asked-cong (cells (S .size)) 0 _ (setAt (n .is-culling .result) (world S) (facesOf (o .outer-set .result)) g)
     (λ i. set-world S (n .is-culling .result) (facesOf (o .outer-set .result)) g i) in
-    record {
+    let ready : Roomy S (n .is-culling .result) (o .outer-set .result) g (lists s) = record {
       grid = record { within = k .within; whole = k .whole; typed = k .type };
       types = k .typed;
       few = few o;
       slots = k .slotted;
       quads = omega (arith, l .if1 .left, room-is (l .before), q .count-quads .ensures, a);
-    }
+    } in
+    (ready, omega (arith, k .within .sides .widest, q .count-quads .kept))
 
 same-length : tie.Need-same-length
 same-length c = search needs
@@ -137,10 +149,10 @@ same-length-4 c = search needs
 
 returns-3 : tie.Need-returns-3
 returns-3 c =
-    let d = c .before .before .before .before .before .before .before .before in
-    let l = d .before .before .before .before .before in
-    let q = l .before .before in
-    let o = q .before in
+    let d = c .before .before .before .before .before .before .before .before .before in
+    let l = d .before .before .before .before .before .before in
+    let q = l .before .before .before in
+    let o = q .before .before in
     let n = o .before in
     let e = n .before in
     let s = start (e .before .before) in
@@ -163,9 +175,11 @@ mesh-grid-spec =
     enum-told
     is-culling-requires
     outer-set-requires
+    slice-aggregate-count-quads
     count-quads-requires
     room-of-requires
     returns-2
+    slice-aggregate-draw-cells
     draw-cells-requires
     same-length
     same-length-2
