@@ -73,29 +73,29 @@ same-pattern (a ∷ b ∷ c ∷ d ∷ e ∷ f ∷ g ∷ xs) q h = absurd (omega 
 
 -- ---- rows of six that go on from the first
 
-module _ (xs : List ℕ) (Q : ℕ) (room : 6 * Q ≤ length xs) (few : Q ≤ 2 ^ 30) (first : same (take 6 xs) (pattern 0) ≡ true) (rest : every (6 * Q - 6) (goesOn xs) ≡ true) where
-  least : (j : ℕ) → j < 6 → getD (pattern 0) j 0 < 4
-  least zero h = omega arith
-  least (suc zero) h = omega arith
-  least (suc (suc zero)) h = omega arith
-  least (suc (suc (suc zero))) h = omega arith
-  least (suc (suc (suc (suc zero)))) h = omega arith
-  least (suc (suc (suc (suc (suc zero))))) h = omega arith
-  least (suc (suc (suc (suc (suc (suc j)))))) h = absurd (omega arith)
+below-four : (j : ℕ) → j < 6 → getD (pattern 0) j 0 < 4
+below-four zero h = omega arith
+below-four (suc zero) h = omega arith
+below-four (suc (suc zero)) h = omega arith
+below-four (suc (suc (suc zero))) h = omega arith
+below-four (suc (suc (suc (suc zero)))) h = omega arith
+below-four (suc (suc (suc (suc (suc zero))))) h = omega arith
+below-four (suc (suc (suc (suc (suc (suc j)))))) h = absurd (omega arith)
 
+module _ (xs : List ℕ) (Q : ℕ) (room : 6 * Q ≤ length xs) (few : Q ≤ 2 ^ 30) (first : same (take 6 xs) (pattern 0) ≡ true) (rest : every (6 * Q - 6) (goesOn xs) ≡ true) where
   word-is : (q j : ℕ) → q < Q → j < 6 → getD xs (6 * q + j) 0 ≡ 4 * q + getD (pattern 0) j 0
   word-is zero j h l = rw (zero-add, zero-add) (sym (getD-take 6 xs j 0 l) ∙ ap (λ (ys : List ℕ). getD ys j 0) (same-true (take 6 xs) (pattern 0) first))
   word-is (suc q) j h l =
       let at : 6 * suc q + j ≡ 6 * q + j + 6 = omega arith in
       let next : getD xs (6 * q + j + 6) 0 ≡ (getD xs (6 * q + j) 0 + 4) % 2 ^ 32 = eqb-true _ _ (every-true (6 * Q - 6) (goesOn xs) rest (6 * q + j) (omega arith)) in
-      rw at (omega (arith, word-is q j (omega arith) l, least j l))
+      rw at (omega (arith, word-is q j (omega arith) l, below-four j l))
 
   patterned : (q : ℕ) → q < Q → same (row 6 xs q) (pattern q) ≡ true
   patterned q h =
-      let is : (j : ℕ) → j < 6 → getD (row 6 xs q) j 0 ≡ 4 * q + getD (pattern 0) j 0 = λ j l. rw (getD-take, getD-drop) (word-is q j h l) in
-      let at : (j : ℕ) (w : ℕ) → j < 6 → 4 * q + getD (pattern 0) j 0 ≡ w → eqb (getD (row 6 xs q) j 0) w ≡ true = λ j w l e. eq-eqb (getD (row 6 xs q) j 0) w (is j l ∙ e) in
+      let is : (j w : ℕ) → j < 6 → 4 * q + getD (pattern 0) j 0 ≡ w → eqb (getD (row 6 xs q) j 0) w ≡ true =
+      λ j w l e. eq-eqb (getD (row 6 xs q) j 0) w (rw (getD-take, getD-drop) (word-is q j h l ∙ e)) in
       sym (same-pattern (row 6 xs q) q (simp (length-take, length-drop) (omega arith)))
-      ∙ rw (at 0 (4 * q) (omega arith) (omega arith), at 1 (4 * q + 1) (omega arith) refl, at 2 (4 * q + 2) (omega arith) refl, at 3 (4 * q + 3) (omega arith) refl, at 4 (4 * q + 2) (omega arith) refl, at 5 (4 * q + 1) (omega arith) refl)
+      ∙ rw (is 0 (4 * q) (omega arith) (omega arith), is 1 (4 * q + 1) (omega arith) refl, is 2 (4 * q + 2) (omega arith) refl, is 3 (4 * q + 3) (omega arith) refl, is 4 (4 * q + 2) (omega arith) refl, is 5 (4 * q + 1) (omega arith) refl)
 
   -- LAW: where the first row is right and each word goes on, no quad's triangles are bad
   pub none-bad : lowest Q (λ q. not (same (row 6 xs q) (pattern q))) ≡ Q
