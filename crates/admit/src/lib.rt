@@ -11,7 +11,7 @@ use util::wide;
 use voxel_mesh::floats_of;
 ghost use mathlib.Core.Path.{_≡_};
 ghost use mathlib.Core.List.{List};
-ghost use Prim.Native.Nat.{ℕ, _*_, _<_, min};
+ghost use Prim.Native.Nat.{ℕ, _*_, _≤_, _<_, min};
 ghost use lib.ListN.{length, getD};
 ghost use lib.Dec.{leb, ltb};
 ghost use Rattle.rules.specs.Lists.{lowest};
@@ -70,8 +70,26 @@ pub fn outer_verdict(outer: &[u8]) -> Verdict
     refuse_if(bad < outer.len(), Refusal::BadFace, bad)
 }
 
-// The lowest cell whose code is no type, or the grid's length.
-fn lowest_bad_cell(types: usize, grid: &[u8]) -> usize
+fn larger(a: u8, b: u8) -> u8
+    ensures { λ r. ⌜ (a ≤ r) × (b ≤ r) ⌝ }
+{
+    if a <= b { b } else { a }
+}
+
+// A code that no cell's is over. No turn leaves early, so that the compiler looks at several cells at once.
+fn largest_code(grid: &[u8]) -> u8
+    ensures { λ r. ⌜ ((c : ℕ) → c < length (now (grid .entry)) → getD (now (grid .entry)) c 0 ≤ r) ⌝ }
+{
+    let mut most: u8 = 0;
+    let mut cell: usize = 0;
+    while cell < grid.len() {
+        most = larger(most, grid[cell]);
+        cell += 1;
+    }
+    most
+}
+
+fn find_bad_cell(types: usize, grid: &[u8]) -> usize
     ensures { λ r. ⌜ r ≡ lowest (length (now (grid .entry))) (λ c. leb types (getD (now (grid .entry)) c 0)) ⌝ }
 {
     let mut cell: usize = 0;
@@ -82,6 +100,16 @@ fn lowest_bad_cell(types: usize, grid: &[u8]) -> usize
         cell += 1;
     }
     cell
+}
+
+// The lowest cell whose code is no type, or the grid's length.
+fn lowest_bad_cell(types: usize, grid: &[u8]) -> usize
+    ensures { λ r. ⌜ r ≡ lowest (length (now (grid .entry))) (λ c. leb types (getD (now (grid .entry)) c 0)) ⌝ }
+{
+    if wide(largest_code(grid)) < types {
+        return grid.len();
+    }
+    find_bad_cell(types, grid)
 }
 
 pub fn cell_verdict(types: usize, grid: &[u8]) -> Verdict

@@ -1,22 +1,25 @@
 -- Laws of links, slots and triangles. Assumes nothing.
-use mathlib.Core.Path.{_≡_, refl, sym}
+use mathlib.Core.Path.{_≡_, refl, sym, ap, _∙_}
 use mathlib.Core.Bool.{Bool, true, false, cond, not, _&&_, _||_}
 use mathlib.Core.List.{List, [], _∷_}
-use Prim.Native.Nat.{ℕ, zero, suc, _+_, _*_, _≤_, _<_}
+use Prim.Native.Nat.{ℕ, zero, suc, _+_, _-_, _*_, _%_, _^_, _≤_, _<_}
+use native.Mathlib.Nat.{zero-add}
 use native.Mathlib.Numerals.{add-one}
 use native.Mathlib.Omega.{arith}
 use mir.Val.{boolByte}
 use lib.Dec.{eqb, leb, ltb}
-use lib.ListN.{length, getD}
-use borrow.Author.Tests.{ltb-false, leb-false, eqb-true, lt-ltb, le-ltb}
-use Rattle.rules.specs.Lists.{table, count, lowest, same}
+use lib.ListN.{length, getD, take, length-take, length-drop}
+use lib.Seq.{getD-take, getD-drop}
+use borrow.Author.Tests.{ltb-false, leb-false, eqb-true, eq-eqb, lt-ltb, le-ltb}
+use Rattle.rules.specs.Lists.{table, row, every, count, lowest, same}
 use Rattle.rules.specs.Cells.{codeIn, cellIn, firstVertex}
 use Rattle.rules.specs.Mesh.{Lists, NONE, pattern}
 use Rattle.rules.specs.Answers.{fine, refuse, _then_, refuseIf, refuseLowest, slotAt, badLink, filled, BAD-LINKS}
 use Rattle.rules.specs.Check.{linked}
-use Rattle.rules.proofs.ListLaws.{or-false, not-true, length-table}
+use Rattle.rules.proofs.ListLaws.{or-false, not-true, length-table, every-true, same-true, lowest-none}
 use Rattle.rules.proofs.Index.{full-le}
 use Rattle.rules.proofs.Checking.{then-fine, lowest-fine, names-of}
+use Rattle.books.specs.Lent.{goesOn}
 
 -- what is read within a list is no default
 pub within : (xs : List ℕ) (k d e : ℕ) → k < length xs → getD xs k d ≡ getD xs k e
@@ -26,22 +29,22 @@ within (x ∷ xs) (suc k) d e h = within xs k d e (omega arith)
 
 -- ---- filled slots, one by one
 
-byte : (b : Bool) → boolByte b ≡ cond b 1 0
-byte true = refl
-byte false = refl
-
 pub byte-le : (b : Bool) → boolByte b ≤ 1
 byte-le true = omega arith
 byte-le false = omega arith
 
-pub filled-none : (B : Lists) → 0 ≡ filled 0 B
+pub filled-none : (B : Lists) → filled 0 B ≡ 0
 unfolding count
 filled-none B = refl
 
-pub filled-more : (B : Lists) (k full : ℕ) → k < length (B .slots) → full ≡ filled k B
-    → full + boolByte (not (eqb (getD (B .slots) k 0) NONE)) ≡ filled (k + 1) B
+-- one slot more is filled, or empty
+pub filled-more : (B : Lists) (k : ℕ) → k < length (B .slots) → filled (k + 1) B + boolByte (eqb (getD (B .slots) k 0) NONE) ≡ filled k B + 1
 unfolding count
-filled-more B k full h e = rw (add-one, e, within (B .slots) k 0 NONE, byte)
+filled-more B k h = rw (add-one, within (B .slots) k 0 NONE) (one (eqb (slotAt B k) NONE) (filled k B))
+  where
+    one : (b : Bool) (n : ℕ) → n + cond (not b) 1 0 + boolByte b ≡ n + 1
+    one true n = omega arith
+    one false n = omega arith
 
 -- ---- six words
 
@@ -67,6 +70,36 @@ same-pattern (a ∷ b ∷ c ∷ []) q h = absurd (omega arith)
 same-pattern (a ∷ b ∷ c ∷ d ∷ []) q h = absurd (omega arith)
 same-pattern (a ∷ b ∷ c ∷ d ∷ e ∷ []) q h = absurd (omega arith)
 same-pattern (a ∷ b ∷ c ∷ d ∷ e ∷ f ∷ g ∷ xs) q h = absurd (omega arith)
+
+-- ---- rows of six that go on from the first
+
+below-four : (j : ℕ) → j < 6 → getD (pattern 0) j 0 < 4
+below-four zero h = omega arith
+below-four (suc zero) h = omega arith
+below-four (suc (suc zero)) h = omega arith
+below-four (suc (suc (suc zero))) h = omega arith
+below-four (suc (suc (suc (suc zero)))) h = omega arith
+below-four (suc (suc (suc (suc (suc zero))))) h = omega arith
+below-four (suc (suc (suc (suc (suc (suc j)))))) h = absurd (omega arith)
+
+module _ (xs : List ℕ) (Q : ℕ) (room : 6 * Q ≤ length xs) (few : Q ≤ 2 ^ 30) (first : same (take 6 xs) (pattern 0) ≡ true) (rest : every (6 * Q - 6) (goesOn xs) ≡ true) where
+  word-is : (q j : ℕ) → q < Q → j < 6 → getD xs (6 * q + j) 0 ≡ 4 * q + getD (pattern 0) j 0
+  word-is zero j h l = rw (zero-add, zero-add) (sym (getD-take 6 xs j 0 l) ∙ ap (λ (ys : List ℕ). getD ys j 0) (same-true (take 6 xs) (pattern 0) first))
+  word-is (suc q) j h l =
+      let at : 6 * suc q + j ≡ 6 * q + j + 6 = omega arith in
+      let next : getD xs (6 * q + j + 6) 0 ≡ (getD xs (6 * q + j) 0 + 4) % 2 ^ 32 = eqb-true _ _ (every-true (6 * Q - 6) (goesOn xs) rest (6 * q + j) (omega arith)) in
+      rw at (omega (arith, word-is q j (omega arith) l, below-four j l))
+
+  patterned : (q : ℕ) → q < Q → same (row 6 xs q) (pattern q) ≡ true
+  patterned q h =
+      let is : (j w : ℕ) → j < 6 → 4 * q + getD (pattern 0) j 0 ≡ w → eqb (getD (row 6 xs q) j 0) w ≡ true =
+      λ j w l e. eq-eqb (getD (row 6 xs q) j 0) w (rw (getD-take, getD-drop) (word-is q j h l ∙ e)) in
+      sym (same-pattern (row 6 xs q) q (simp (length-take, length-drop) (omega arith)))
+      ∙ rw (is 0 (4 * q) (omega arith) (omega arith), is 1 (4 * q + 1) (omega arith) refl, is 2 (4 * q + 2) (omega arith) refl, is 3 (4 * q + 3) (omega arith) refl, is 4 (4 * q + 2) (omega arith) refl, is 5 (4 * q + 1) (omega arith) refl)
+
+  -- LAW: where the first row is right and each word goes on, no quad's triangles are bad
+  pub none-bad : lowest Q (λ q. not (same (row 6 xs q) (pattern q))) ≡ Q
+  none-bad = lowest-none Q _ (λ q h. ap not (patterned q h))
 
 -- ---- the two halves of BAD-LINKS
 

@@ -7,16 +7,17 @@ use face::NONE;
 use face::cell_of;
 use face::code_of;
 use face::key_of;
+use std::num::wrapping_add_u32;
 ghost use mathlib.Core.Path.{_≡_};
-ghost use mathlib.Core.Bool.{not};
+ghost use mathlib.Core.Bool.{true, not};
 ghost use mathlib.Core.List.{List, []};
 ghost use Prim.Native.Nat.{ℕ, _+_, _*_, _^_, _≤_, _<_};
 ghost use lib.ListN.{length};
-ghost use Rattle.rules.specs.Lists.{lowest, row, same};
+ghost use Rattle.rules.specs.Lists.{every, lowest, row, same};
 ghost use Rattle.rules.specs.Mesh.{pattern, listsOf, bookOf};
 ghost use Rattle.rules.specs.Answers.{_then_, badLink, filled, BAD-LINKS, BAD-TRIANGLES};
 ghost use Rattle.answers.specs.Verdicts.{verdictOf};
-ghost use Rattle.books.specs.Lent.{Lent};
+ghost use Rattle.books.specs.Lent.{Lent, goesOn};
 
 // Whether the link of quad q names no face of the grid, or one whose slot is not the quad's.
 fn is_bad_link(cells: u32, links: &[u32], slots: &[u32], q: usize) -> bool
@@ -57,10 +58,10 @@ fn filled_slots(slots: &[u32], n: usize) -> u32
     requires { ⌜ (n ≤ length (now slots)) × (n < 2 ^ 32) ⌝ }
     ensures { λ r. ⌜ r ≡ filled n (bookOf [] (now (slots .entry))) ⌝ }
 {
-    let mut full: u32 = 0;
+    let mut full = n as u32;
     let mut k: usize = 0;
     while k < n {
-        full += (slots[k] != NONE) as u32;
+        full -= (slots[k] == NONE) as u32;
         k += 1;
     }
     full
@@ -92,8 +93,33 @@ fn is_pattern(words: &[u32], q: u32) -> bool
         & (words[5] == first + 1)
 }
 
-// The lowest of the quads whose triangles are not the pattern, or their count.
-fn lowest_bad_triangles(triangles: &[u32], count: usize) -> usize
+// Whether each of the first n words is four less than the word a row on. The words lie side by side and no turn leaves
+// early, so that the compiler compares several at once.
+fn rows_go_on(triangles: &[u32], n: usize) -> bool
+    requires { ⌜ n + 6 ≤ length (now triangles) ⌝ }
+    ensures { λ r. ⌜ r ≡ every n (goesOn (now (triangles .entry))) ⌝ }
+{
+    let mut good = true;
+    let mut k: usize = 0;
+    while k < n {
+        good = good & (triangles[k + 6] == wrapping_add_u32(triangles[k], 4));
+        k += 1;
+    }
+    good
+}
+
+// Where it says yes, no quad is bad.
+fn all_patterned(triangles: &[u32], count: usize) -> bool
+    requires { ⌜ (6 * count ≤ length (now triangles)) × (count ≤ 2 ^ 30) ⌝ }
+    ensures { λ r. ⌜ (r ≡ true → lowest count (λ q. not (same (row 6 (now (triangles .entry)) q) (pattern q))) ≡ count) ⌝ }
+{
+    if count == 0 {
+        return true;
+    }
+    is_pattern(&triangles[..6], 0) & rows_go_on(triangles, 6 * count - 6)
+}
+
+fn find_bad_triangles(triangles: &[u32], count: usize) -> usize
     requires { ⌜ (6 * count ≤ length (now triangles)) × (count ≤ 2 ^ 30) ⌝ }
     ensures { λ r. ⌜ r ≡ lowest count (λ q. not (same (row 6 (now (triangles .entry)) q) (pattern q))) ⌝ }
 {
@@ -107,6 +133,17 @@ fn lowest_bad_triangles(triangles: &[u32], count: usize) -> usize
         q += 1;
     }
     q
+}
+
+// The lowest of the quads whose triangles are not the pattern, or their count.
+fn lowest_bad_triangles(triangles: &[u32], count: usize) -> usize
+    requires { ⌜ (6 * count ≤ length (now triangles)) × (count ≤ 2 ^ 30) ⌝ }
+    ensures { λ r. ⌜ r ≡ lowest count (λ q. not (same (row 6 (now (triangles .entry)) q) (pattern q))) ⌝ }
+{
+    if all_patterned(triangles, count) {
+        return count;
+    }
+    find_bad_triangles(triangles, count)
 }
 
 pub fn triangles_verdict(triangles: &[u32], count: usize) -> Verdict

@@ -1,54 +1,40 @@
 -- `admit::lowest_bad_cell` meets its contract. Assumes nothing.
-use Prim.Native.Nat.{_-_}
-use lib.Dec.{leb}
+use mathlib.Core.Path.{sym}
+use Prim.Native.Nat.{ℕ, _<_}
+use denote.Ref.{now}
 use lib.ListN.{length, getD}
-use borrow.Author.Tests.{le-leb, lt-leb}
-use Rattle.rules.proofs.Searches.{Searched, searched, found, passed, ended}
+use borrow.Author.Tests.{lt-leb}
+use native.Mathlib.Omega.{arith}
+use Rattle.rules.proofs.ListLaws.{lowest-none}
 use borrow.Author.Needs.{needs}
 use Rattle.admit.proofs.lowest_bad_cell.Statement.{statement}
 use Rattle.admit.proofs.lowest_bad_cell.Tie as tie
 
-abbrev Inv-loop : tie.InvT-loop
-Inv-loop types grid cell₀ cell = Searched (length grid) (λ c. leb types (getD grid c 0)) cell
+largest-code-requires : tie.Need-largest-code-requires
+largest-code-requires c κs = search needs
 
-abbrev μ-loop : tie.MeasureT-loop
-μ-loop types grid cell₀ cell = length grid - cell
-
-loop-holds : tie.Need-loop-holds Inv-loop μ-loop
-loop-holds c = searched _ _
-
-shared-slice-read-wide : tie.Need-shared-slice-read-wide Inv-loop μ-loop
-shared-slice-read-wide c = search needs
-
-wide-requires : tie.Need-wide-requires Inv-loop μ-loop
+wide-requires : tie.Need-wide-requires
 wide-requires c κs = search needs
 
-returns : tie.Need-returns Inv-loop μ-loop
-returns c = found _ _ _ (c .before .before .before .loop-test .taken) (c .before .before .before .before .loop .inv) (rw (c .before .wide .ensures) at (le-leb _ _ (c .if1 .taken)))
+returns : tie.Need-returns
+returns c =
+    let args = c .before .before .before .before .args in
+    let grid = now (args .grid) in
+    let below : (k : ℕ) → k < length grid → getD grid k 0 < args .types = λ k h. omega (arith, c .before .before .largest-code .ensures k h) in
+    sym (lowest-none (length grid) _ (λ k h. lt-leb _ _ (below k h)))
 
-add-cell : tie.Need-add-cell Inv-loop μ-loop
-add-cell c = search needs
+find-bad-cell-requires : tie.Need-find-bad-cell-requires
+find-bad-cell-requires c κs = search needs
 
-loop-less : tie.Need-loop-less Inv-loop μ-loop
-loop-less c = search needs
-
-loop-again : tie.Need-loop-again Inv-loop μ-loop
-loop-again c = passed _ _ _ (c .before .before .before .loop-test .taken) (c .before .before .before .before .loop .inv) (rw (c .before .wide .ensures) at (lt-leb _ _ (c .if1 .left)))
-
-returns-2 : tie.Need-returns-2 Inv-loop μ-loop
-returns-2 c = ended _ _ _ (c .loop-test .left) (c .before .loop .inv)
+returns-2 : tie.Need-returns-2
+returns-2 c = search needs
 
 pub lowest-bad-cell-spec : {M : Type 1} → statement M
 lowest-bad-cell-spec =
     tie.close
     (tie.spec
-    Inv-loop
-    μ-loop
-    loop-holds
-    shared-slice-read-wide
+    largest-code-requires
     wide-requires
     returns
-    add-cell
-    loop-less
-    loop-again
+    find-bad-cell-requires
     returns-2)

@@ -1,8 +1,8 @@
 -- `books::filled_slots` meets its contract. Assumes nothing.
 use mathlib.Core.Path.{_≡_, ap, _∙_}
-use mathlib.Core.Bool.{Bool, not}
+use mathlib.Core.Bool.{Bool}
 use mathlib.Core.List.{[]}
-use Prim.Native.Nat.{ℕ, _≤_, _-_}
+use Prim.Native.Nat.{ℕ, _+_, _-_, _≤_}
 use denote.Ref.{now}
 use lib.Dec.{eqb}
 use lib.ListN.{getD}
@@ -15,16 +15,19 @@ use Rattle.books.proofs.filled_slots.Statement.{statement}
 use Rattle.books.proofs.filled_slots.Tie as tie
 
 abbrev Inv-loop : tie.InvT-loop
-Inv-loop slots n full₀ k₀ full k = (k ≤ n) × (full ≤ k) × (full ≡ filled k (bookOf [] slots))
+Inv-loop slots n full₀ k₀ full k = (k ≤ n) × (full + k ≡ filled k (bookOf [] slots) + n)
 
 abbrev μ-loop : tie.MeasureT-loop
 μ-loop slots n full₀ k₀ full k = n - k
 
-abbrev isFilled : tie.After-shared-slice-known Inv-loop μ-loop → Bool
-isFilled c = not (eqb (getD (now (c .before .before .before .args .slots)) (c .before .before .loop .k) 0) NONE)
+abbrev isEmpty : tie.After-shared-slice-known Inv-loop μ-loop → Bool
+isEmpty c = eqb (getD (now (c .before .before .before .args .slots)) (c .before .before .loop .k) 0) NONE
+
+cast-full : tie.Need-cast-full Inv-loop μ-loop
+cast-full c = search needs
 
 loop-holds : tie.Need-loop-holds Inv-loop μ-loop
-loop-holds c = (omega arith, omega arith, filled-none (bookOf [] (now (c .args .slots))))
+loop-holds c = (omega arith, omega (arith, filled-none (bookOf [] (now (c .args .slots)))))
 
 mul-full : tie.Need-mul-full Inv-loop μ-loop
 mul-full c = search needs
@@ -32,11 +35,11 @@ mul-full c = search needs
 shared-slice-read-full : tie.Need-shared-slice-read-full Inv-loop μ-loop
 shared-slice-read-full c = search needs
 
-cast-full : tie.Need-cast-full Inv-loop μ-loop
-cast-full c = tt
+cast-full-2 : tie.Need-cast-full-2 Inv-loop μ-loop
+cast-full-2 c = tt
 
-add-full : tie.Need-add-full Inv-loop μ-loop
-add-full c = omega (arith, byte-le (isFilled c))
+sub-full : tie.Need-sub-full Inv-loop μ-loop
+sub-full c = omega (arith, byte-le (isEmpty c))
 
 add-k : tie.Need-add-k Inv-loop μ-loop
 add-k c = search needs
@@ -46,13 +49,14 @@ loop-less c = search needs
 
 loop-again : tie.Need-loop-again Inv-loop μ-loop
 loop-again c =
-    let l = c .before .before .loop in
-    (omega arith, omega (arith, byte-le (isFilled c)), filled-more (bookOf [] (now (c .before .before .before .args .slots))) (l .k) (l .full) (omega arith) (l .inv .2))
+    let k = c .before .before .loop .k in
+    (omega arith, omega (arith, byte-le (isEmpty c), filled-more (bookOf [] (now (c .before .before .before .args .slots))) k (omega arith)))
 
 returns : tie.Need-returns Inv-loop μ-loop
 returns c =
     let e : c .before .loop .k ≡ c .before .before .args .n = omega arith in
-    c .before .loop .inv .2 ∙ ap (λ (n : ℕ). filled n (bookOf [] (now (c .before .before .args .slots)))) e
+    let counted = ap (λ (n : ℕ). filled n (bookOf [] (now (c .before .before .args .slots)))) e in
+    omega (arith, counted)
 
 pub filled-slots-spec : {M : Type 1} → statement M
 filled-slots-spec =
@@ -60,11 +64,12 @@ filled-slots-spec =
     (tie.spec
     Inv-loop
     μ-loop
+    cast-full
     loop-holds
     mul-full
     shared-slice-read-full
-    cast-full
-    add-full
+    cast-full-2
+    sub-full
     add-k
     loop-less
     loop-again
