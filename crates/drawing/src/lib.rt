@@ -20,7 +20,7 @@ ghost use Rattle.drawing.specs.Drawn.{drawnAt, facesDrawn};
 ghost use Rattle.quads.specs.Quads.{quadOf, Drawable};
 ghost use Rattle.drawing.specs.Rooms.{Room, Slotted, Ready, Bare};
 
-// Writes a quad at place q.
+// Writes a quad at place q. With one call the compiler would inline `write_quad`, and then no longer `draw_quad` with its 15 arguments.
 fn write_place(
     vertices: &mut [u32],
     cube: &[u32],
@@ -38,6 +38,23 @@ fn write_place(
     ensures { λ _. ⌜ now (vertices .exit) ≡ put (4 * floats * q)
         (quadWords (now (cube .entry)) floats (cordsOf dx dy dz) (number face) (cordsOf x y z)) (now (vertices .entry)) ⌝ }
 {
+    if floats == 8 {
+        let start = 32 * q;
+        let end = start + 32;
+        write_quad(
+            &mut vertices[start..end],
+            cube,
+            8,
+            face,
+            x,
+            y,
+            z,
+            dx,
+            dy,
+            dz,
+        );
+        return;
+    }
     let words = 4 * floats;
     let start = words * q;
     let end = start + words;
