@@ -642,7 +642,15 @@ fn are_plain(grid: &[u8], at: usize, n: usize, clear: u8, full: u8) -> bool
 }
 
 // Whether the codes of a row and of the rows beside it are plain.
-fn is_plain_row(dims: Dimensions, grid: &[u8], clear: u8, full: u8, y: u32, z: u32, rows: Around) -> bool
+fn is_plain_row(
+    dims: Dimensions,
+    grid: &[u8],
+    clear: u8,
+    full: u8,
+    y: u32,
+    z: u32,
+    rows: Around,
+) -> bool
     requires { ⌜ Rows (sizeOf dims) y z (rows .at) (rows .up) (rows .down) (rows .back) (rows .forward) (rows .sides) × (length (now grid) ≡ cells (sizeOf dims)) ⌝ }
     ensures { λ r. ⌜ (r ≡ true → PlainAround (sizeOf dims) clear full (now (grid .entry)) y z) ⌝ }
 {

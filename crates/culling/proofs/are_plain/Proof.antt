@@ -36,8 +36,7 @@ loop-less c = search needs
 loop-again : tie.Need-loop-again Inv-loop μ-loop
 loop-again c =
     let l = c .before .before .loop in
-    let a = c .before .before .before .args in
-    (
+    let a = c .before .before .before .args in (
       omega arith,
       λ e. let t = test-plain (l .plain) (a .clear) (a .full) (getD (now (a .grid)) (a .at + l .i) 0) e in
           below-more (λ k. Plain (a .clear) (a .full) (getD (now (a .grid)) (a .at + k) 0)) (l .i) (l .inv .1 (t .0)) (t .1),

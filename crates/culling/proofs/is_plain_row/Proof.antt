@@ -1,41 +1,39 @@
+-- `culling::is_plain_row` meets its contract. Assumes nothing.
+use denote.Ref.{now}
+use Rattle.util.specs.Grid.{sizeOf}
+use Rattle.culling.proofs.Plain.{all-plain, all-five, plain-around}
 use borrow.Author.Needs.{needs}
+use native.Mathlib.Omega.{arith}
 use Rattle.culling.proofs.is_plain_row.Statement.{statement}
 use Rattle.culling.proofs.is_plain_row.Tie as tie
-use Rattle.culling.proofs.is_plain_row.Reads as reads
-use Rattle.culling.proofs.is_plain_row.Lts as lts
-use Rattle.culling.proofs.are_plain.Reads as are-plain-reads
 
--- src/lib.rt:650:9
 returns : tie.Need-returns
-returns c = ?
+returns c = λ e x h. (all-plain _ _ _ (c .if1 .taken), λ f n l q. all-plain _ _ _ (c .if1 .taken))
 
--- src/lib.rt:652:13
 cast-n : tie.Need-cast-n
 cast-n c = search needs
 
--- src/lib.rt:653:5
 are-plain-requires : tie.Need-are-plain-requires
-are-plain-requires c κs = search needs
+are-plain-requires c κs = omega arith
 
--- src/lib.rt:654:11
 are-plain-requires-2 : tie.Need-are-plain-requires-2
-are-plain-requires-2 c κs = search needs
+are-plain-requires-2 c κs = omega arith
 
--- src/lib.rt:655:11
 are-plain-requires-3 : tie.Need-are-plain-requires-3
-are-plain-requires-3 c κs = search needs
+are-plain-requires-3 c κs = omega arith
 
--- src/lib.rt:656:11
 are-plain-requires-4 : tie.Need-are-plain-requires-4
-are-plain-requires-4 c κs = search needs
+are-plain-requires-4 c κs = omega arith
 
--- src/lib.rt:657:11
 are-plain-requires-5 : tie.Need-are-plain-requires-5
-are-plain-requires-5 c κs = search needs
+are-plain-requires-5 c κs = omega arith
 
--- src/lib.rt:645:1
 returns-2 : tie.Need-returns-2
-returns-2 c = ?
+returns-2 c =
+    λ e. let s = c .before .before .before .before .before .before .before .before in
+    let t = all-five _ _ _ _ _ e in
+    plain-around (sizeOf (s .args .dims)) (s .args .clear) (s .args .full) (now (s .args .grid)) (s .pre .0)
+    (c .before .before .before .before .are-plain .ensures (t .0)) (c .before .before .before .are-plain2 .ensures (t .1)) (c .before .before .are-plain3 .ensures (t .2)) (c .before .are-plain4 .ensures (t .3)) (c .are-plain5 .ensures (t .4))
 
 pub is-plain-row-spec : {M : Type 1} → statement M
 is-plain-row-spec =
