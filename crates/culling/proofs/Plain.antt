@@ -22,7 +22,7 @@ use Rattle.rules.proofs.Neighbours.{coordinates-cellAt, cellAt-in, beside}
 use Rattle.util.specs.Grid.{cordsOf, Within}
 use Rattle.books.proofs.Books.{within}
 use Rattle.culling.specs.Culling.{worldOf, outerSet, Laid}
-use Rattle.culling.specs.Rows.{Whole, ClearBelow, FullFrom, Plainly, Plain, six, edgeSet, plainSet, plainShown, plainAt, isBeside, rowSides, Rows, Placed}
+use Rattle.culling.specs.Rows.{Whole, ClearBelow, FullFrom, Plainly, Plain, PlainAround, six, edgeSet, plainSet, plainShown, plainAt, isBeside, rowSides, Rows, Placed}
 use Rattle.culling.proofs.Sides.{weight-le, setOf-cong}
 
 -- ---- faces of a set that is made bit by bit
@@ -508,3 +508,45 @@ row-is-drawn s g kinds covers {clear} {full} {outer} {x} {y} {z} w same p high l
       subst (λ (m : ℕ). n < m) (sym (w .whole)) (beside s (w .within .sides .wide) (w .within .sides .long) (cellAt s x y z) c f n q .inside),
       next f n l q,
     ))
+
+-- ---- rows of plain codes
+
+is-there : (b : Bool) (m n : ℕ) → onlyIf b m ≡ some n → (b ≡ true) × (m ≡ n)
+is-there true m n e = (refl, cc)
+is-there false m n e = absurd (let z : _≡_ {A = ℕ} 0 1 = cc in omega arith)
+
+module _ (s : Size) (clear full : ℕ) (g : List ℕ) {y z at up down back forward sides : ℕ} (r : Rows s y z at up down back forward sides) where
+  abbrev PlainFrom : ℕ → Type 0
+  PlainFrom start = (k : ℕ) → k < s .w → Plain clear full (getD g (start + k) 0)
+
+  pub plain-around : PlainFrom at → PlainFrom up → PlainFrom down → PlainFrom back → PlainFrom forward → PlainAround s clear full g y z
+  plain-around own above below behind before x wide = (move at own x wide (omega (arith, r .start)), λ f n h e. beside-it f n h (is-there _ _ _ (sym (beside-cell s x y z wide (r .long) f h) ∙ e)))
+    where
+      move : (start : ℕ) {n : ℕ} → PlainFrom start → (k : ℕ) → k < s .w → start + k ≡ n → Plain clear full (getD g n 0)
+      move start p k h e = subst (λ (n : ℕ). Plain clear full (getD g n 0)) e (p k h)
+
+      beside-it : (f n : ℕ) → f < 6 → (isBeside s x y z f ≡ true) × (toward s x y z wide (r .long) f ≡ n) → Plain clear full (getD g n 0)
+      beside-it zero n h t = let i = r .above (ltb-true _ _ (t .0)) in move up above x wide (omega (arith, r .start, t .1))
+      beside-it (suc zero) n h t = let i = r .below (ltb-true _ _ (t .0)) in move down below x wide (omega (arith, r .start, t .1))
+      beside-it (suc (suc zero)) n h t = move at own (x + 1) (ltb-true _ _ (t .0)) (omega (arith, r .start, t .1))
+      beside-it (suc (suc (suc zero))) n h t = let i : 0 < x = ltb-true _ _ (t .0) in move at own (x - 1) (omega arith) (omega (arith, r .start, t .1))
+      beside-it (suc (suc (suc (suc zero)))) n h t = let i = r .behind (ltb-true _ _ (t .0)) in move back behind x wide (omega (arith, r .start, t .1))
+      beside-it (suc (suc (suc (suc (suc zero))))) n h t = let i = r .before (ltb-true _ _ (t .0)) in move forward before x wide (omega (arith, r .start, t .1))
+      beside-it (suc (suc (suc (suc (suc (suc f)))))) n h t = absurd (omega arith)
+
+-- codes tested one by one
+pub test-plain : (plain : Bool) (clear full code : ℕ) → (plain && (ltb code clear || leb full code)) ≡ true → (plain ≡ true) × Plain clear full code
+test-plain true clear full code e = (refl, go (ltb code clear) refl e)
+  where
+    go : (t : Bool) → ltb code clear ≡ t → (t || leb full code) ≡ true → Plain clear full code
+    go true t e = inl (ltb-true code clear t)
+    go false t e = inr (leb-true full code e)
+test-plain false clear full code e = absurd (let z : _≡_ {A = ℕ} 0 1 = cc in omega arith)
+
+pub all-five : (a b c d e : Bool) → (a && b && c && d && e) ≡ true → (a ≡ true) × (b ≡ true) × (c ≡ true) × (d ≡ true) × (e ≡ true)
+all-five true true true true true p = (refl, refl, refl, refl, refl)
+all-five true true true true false p = absurd (let z : _≡_ {A = ℕ} 0 1 = cc in omega arith)
+all-five true true true false e p = absurd (let z : _≡_ {A = ℕ} 0 1 = cc in omega arith)
+all-five true true false d e p = absurd (let z : _≡_ {A = ℕ} 0 1 = cc in omega arith)
+all-five true false c d e p = absurd (let z : _≡_ {A = ℕ} 0 1 = cc in omega arith)
+all-five false b c d e p = absurd (let z : _≡_ {A = ℕ} 0 1 = cc in omega arith)

@@ -42,6 +42,11 @@ pub record Plainly (kinds covers : List ℕ) (clear full : ℕ) : Type 0 where
 abbrev pub Plain : ℕ → ℕ → ℕ → Type 0
 Plain clear full code = (code < clear) ⊎ (full ≤ code)
 
+-- the codes of the row at y and z and of their neighbours are plain
+abbrev pub PlainAround : Size → ℕ → ℕ → List ℕ → ℕ → ℕ → Type 0
+PlainAround size clear full g y z = (x : ℕ) → x < size .w → Plain clear full (getD g (cellAt size x y z) 0)
+    × ((f n : ℕ) → f < 6 → neighbour size (cellAt size x y z) f ≡ some n → Plain clear full (getD g n 0))
+
 -- ---- the side set by bytes
 
 -- one of six, by face

@@ -7,7 +7,7 @@ use util::Neighbor;
 use util::neighbor_at;
 use util::wide;
 ghost use mathlib.Core.Path.{_≡_};
-ghost use mathlib.Core.Bool.{cond};
+ghost use mathlib.Core.Bool.{true, cond};
 ghost use mathlib.Core.List.{List};
 ghost use Prim.Native.Nat.{ℕ, _+_, _-_, _*_, _≤_, _<_};
 ghost use lib.Dec.{ltb};
@@ -17,7 +17,7 @@ ghost use Rattle.rules.specs.Mesh.{drawn};
 ghost use Rattle.face.specs.Face.{number};
 ghost use Rattle.util.specs.Grid.{sizeOf, cordsOf, Within};
 ghost use Rattle.culling.specs.Culling.{worldOf, outerSet, shownAt, Laid};
-ghost use Rattle.culling.specs.Rows.{Whole, RowShown, ClearBelow, FullFrom, Plainly, six, edgeSet, plainSet, plainAt, PlainRow, rowSides, Rows, Placed};
+ghost use Rattle.culling.specs.Rows.{Whole, RowShown, ClearBelow, FullFrom, Plainly, Plain, PlainAround, six, edgeSet, plainSet, plainAt, PlainRow, rowSides, Rows, Placed};
 
 // The faces of the outer list.
 pub fn outer_set(outer: &[u8]) -> u8
@@ -243,6 +243,38 @@ fn cell_sides(sides: u8, x: usize, width: usize) -> u8
     ensures { λ r. ⌜ r ≡ sides + cond (ltb (x + 1) width) 4 0 + cond (ltb 0 x) 8 0 ⌝ }
 {
     sides + bit_if(x + 1 < width, 4) + bit_if(0 < x, 8)
+}
+
+// Where a row starts and the rows beside it start, and the sides that those are on.
+struct Around {
+    at: usize,
+    up: usize,
+    down: usize,
+    back: usize,
+    forward: usize,
+    sides: u8,
+}
+
+fn rows_around(dims: Dimensions, y: u32, z: u32) -> Around
+    requires { ⌜ Within (sizeOf dims) × (y < dims .height) × (z < dims .length) ⌝ }
+    ensures { λ r. ⌜ Rows (sizeOf dims) y z (r .at) (r .up) (r .down) (r .back) (r .forward) (r .sides) ⌝ }
+{
+    let row = dims.width as usize;
+    let layer = layer_size(dims);
+    let at = row_start(dims, y, z) as usize;
+    let up = step_ahead(at, layer, y as usize, dims.height as usize);
+    let down = step_behind(at, layer, y as usize);
+    let back = step_ahead(at, row, z as usize, dims.length as usize);
+    let forward = step_behind(at, row, z as usize);
+    let sides = row_sides(dims, y, z);
+    Around {
+        at,
+        up,
+        down,
+        back,
+        forward,
+        sides,
+    }
 }
 
 // The side set of a cell of a row, its neighbours in the row given.
@@ -485,19 +517,27 @@ fn short_row(
 }
 
 // The side sets of a row whose codes and whose neighbours' are all plain.
-fn plain_row(sets: &mut [u8], dims: Dimensions, outer: u8, grid: &[u8], full: u8, y: u32, z: u32)
-    requires { ⌜ Within (sizeOf dims) × (length (now grid) ≡ cells (sizeOf dims)) × (y < dims .height) × (z < dims .length) × (dims .width ≤ length (now sets)) × (outer < 64) ⌝ }
+fn plain_row(
+    sets: &mut [u8],
+    dims: Dimensions,
+    outer: u8,
+    grid: &[u8],
+    full: u8,
+    y: u32,
+    z: u32,
+    rows: Around,
+)
+    requires { ⌜ Rows (sizeOf dims) y z (rows .at) (rows .up) (rows .down) (rows .back) (rows .forward) (rows .sides) × (length (now grid) ≡ cells (sizeOf dims)) × (outer < 64) × (dims .width ≤ length (now sets)) ⌝ }
     ensures { λ _. ⌜ PlainRow (sizeOf dims) full outer (now (grid .entry)) y z (now (sets .exit)) ⌝ }
 {
-    let row = dims.width as usize;
-    let layer = layer_size(dims);
-    let at = row_start(dims, y, z) as usize;
-    let up = step_ahead(at, layer, y as usize, dims.height as usize);
-    let down = step_behind(at, layer, y as usize);
-    let back = step_ahead(at, row, z as usize, dims.length as usize);
-    let forward = step_behind(at, row, z as usize);
-    let sides = row_sides(dims, y, z);
-    if row < 18 {
+    let width = dims.width as usize;
+    let at = rows.at;
+    let up = rows.up;
+    let down = rows.down;
+    let back = rows.back;
+    let forward = rows.forward;
+    let sides = rows.sides;
+    if width < 18 {
         short_row(
             sets,
             dims,
@@ -530,7 +570,7 @@ fn plain_row(sets: &mut [u8], dims: Dimensions, outer: u8, grid: &[u8], full: u8
         forward,
         sides,
     );
-    let end = row - 1;
+    let end = width - 1;
     sets[0] = lone_set(
         dims,
         outer,
@@ -586,7 +626,46 @@ fn row_by_cells(
     }
 }
 
-// The side sets of the row of cells at y and z: by bytes where every type is plainly clear or full, else cell by cell.
+// Whether each of n codes is plainly clear or full. The loop goes on to the end, so that many are tested at once.
+fn are_plain(grid: &[u8], at: usize, n: usize, clear: u8, full: u8) -> bool
+    requires { ⌜ at + n ≤ length (now grid) ⌝ }
+    ensures { λ r. ⌜ (r ≡ true → (k : ℕ) → k < n → Plain clear full (getD (now (grid .entry)) (at + k) 0)) ⌝ }
+{
+    let mut plain = true;
+    let mut i: usize = 0;
+    while i < n {
+        let code = grid[at + i];
+        plain = plain & ((code < clear) | (full <= code));
+        i += 1;
+    }
+    plain
+}
+
+// Whether the codes of a row and of the rows beside it are plain.
+fn is_plain_row(
+    dims: Dimensions,
+    grid: &[u8],
+    clear: u8,
+    full: u8,
+    y: u32,
+    z: u32,
+    rows: Around,
+) -> bool
+    requires { ⌜ Rows (sizeOf dims) y z (rows .at) (rows .up) (rows .down) (rows .back) (rows .forward) (rows .sides) × (length (now grid) ≡ cells (sizeOf dims)) ⌝ }
+    ensures { λ r. ⌜ (r ≡ true → PlainAround (sizeOf dims) clear full (now (grid .entry)) y z) ⌝ }
+{
+    if full <= clear {
+        return true;
+    }
+    let n = dims.width as usize;
+    are_plain(grid, rows.at, n, clear, full)
+        & are_plain(grid, rows.up, n, clear, full)
+        & are_plain(grid, rows.down, n, clear, full)
+        & are_plain(grid, rows.back, n, clear, full)
+        & are_plain(grid, rows.forward, n, clear, full)
+}
+
+// The side sets of the row of cells at y and z: by bytes where the codes there are plainly clear or full, else cell by cell.
 pub fn drawn_row(
     sets: &mut [u8],
     dims: Dimensions,
@@ -602,9 +681,10 @@ pub fn drawn_row(
     requires { ⌜ Whole (sizeOf dims) (now grid) (length (now covers)) × (length (now covers) ≡ length (now kinds)) × Plainly (now kinds) (now covers) clear full × (y < dims .height) × (z < dims .length) × (dims .width ≤ length (now sets)) × (outer < 64) ⌝ }
     ensures { λ _. ⌜ ((faces : List ℕ) → outer ≡ outerSet faces → RowShown (sizeOf dims) (now (kinds .entry)) (now (covers .entry)) faces (now (grid .entry)) y z (now (sets .exit))) ⌝ }
 {
-    if clear < full {
-        row_by_cells(sets, dims, outer, grid, kinds, covers, y, z);
+    let rows = rows_around(dims, y, z);
+    if is_plain_row(dims, grid, clear, full, y, z, rows) {
+        plain_row(sets, dims, outer, grid, full, y, z, rows);
         return;
     }
-    plain_row(sets, dims, outer, grid, full, y, z);
+    row_by_cells(sets, dims, outer, grid, kinds, covers, y, z);
 }

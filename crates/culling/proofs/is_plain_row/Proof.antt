@@ -1,0 +1,49 @@
+-- `culling::is_plain_row` meets its contract. Assumes nothing.
+use denote.Ref.{now}
+use Rattle.util.specs.Grid.{sizeOf}
+use Rattle.culling.proofs.Plain.{all-plain, all-five, plain-around}
+use borrow.Author.Needs.{needs}
+use native.Mathlib.Omega.{arith}
+use Rattle.culling.proofs.is_plain_row.Statement.{statement}
+use Rattle.culling.proofs.is_plain_row.Tie as tie
+
+returns : tie.Need-returns
+returns c = λ e x h. (all-plain _ _ _ (c .if1 .taken), λ f n l q. all-plain _ _ _ (c .if1 .taken))
+
+cast-n : tie.Need-cast-n
+cast-n c = search needs
+
+are-plain-requires : tie.Need-are-plain-requires
+are-plain-requires c κs = omega arith
+
+are-plain-requires-2 : tie.Need-are-plain-requires-2
+are-plain-requires-2 c κs = omega arith
+
+are-plain-requires-3 : tie.Need-are-plain-requires-3
+are-plain-requires-3 c κs = omega arith
+
+are-plain-requires-4 : tie.Need-are-plain-requires-4
+are-plain-requires-4 c κs = omega arith
+
+are-plain-requires-5 : tie.Need-are-plain-requires-5
+are-plain-requires-5 c κs = omega arith
+
+returns-2 : tie.Need-returns-2
+returns-2 c =
+    λ e. let s = c .before .before .before .before .before .before .before .before in
+    let t = all-five _ _ _ _ _ e in
+    plain-around (sizeOf (s .args .dims)) (s .args .clear) (s .args .full) (now (s .args .grid)) (s .pre .0)
+    (c .before .before .before .before .are-plain .ensures (t .0)) (c .before .before .before .are-plain2 .ensures (t .1)) (c .before .before .are-plain3 .ensures (t .2)) (c .before .are-plain4 .ensures (t .3)) (c .are-plain5 .ensures (t .4))
+
+pub is-plain-row-spec : {M : Type 1} → statement M
+is-plain-row-spec =
+    tie.close
+    (tie.spec
+    returns
+    cast-n
+    are-plain-requires
+    are-plain-requires-2
+    are-plain-requires-3
+    are-plain-requires-4
+    are-plain-requires-5
+    returns-2)
