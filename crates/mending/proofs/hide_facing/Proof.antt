@@ -23,7 +23,7 @@ abbrev covered : tie.Start → World
 covered t = world (sceneOf (t .args .scene) [] (t .args .covers .now) [])
 
 abbrev state : tie.Start → State
-state t = let a = t .args in stateOf (listsOf (a .vertices .now) (a .triangles .now) (a .links .now) (a .slots .now)) (a .count)
+state t = let a = t .args in stateOf (listsOf (a .vertices .now) (a .triangles .now) (a .links .now) (a .slots .now)) (a .count) (a .moved .now)
 
 beside : (c : tie.After-known-told) →
     let a = c .before .before .before .before .before .before .before .before .before .args in
@@ -73,12 +73,13 @@ cast-cut-face c = search needs
 
 cut-face-requires : tie.Need-cut-face-requires
 cut-face-requires c κs =
-    let arm = c .before .before .before .before .before .before in
+    let keyed = c .before in
+    let arm = keyed .before .before .before .before .before .before in
     let t = arm .before .before .before .before .before .before .before .before .before .before .before .before in
     let a = t .args in
     subst (λ (os : List Op). Ready (a .words) os (state t))
     (hide-yes (testedBy (a .tested)) (covered t) (a .voxel) (number (a .face)) (beside (arm .before .before .before)) (tested (arm .before) ∙ arm .if1 .taken)
-    (c .key .ensures ∙ ap (keyOf _) (c .before .opposite .ensures)))
+    (keyed .key .ensures ∙ ap (keyOf _) (keyed .before .opposite .ensures)))
     (t .pre .2)
 
 same-length : tie.Need-same-length
@@ -96,7 +97,7 @@ same-length-4 c = search needs
 returns-2 : tie.Need-returns-2
 returns-2 c =
     let went = c .before .before .before .before .before .before .before .before in
-    let keyed = went .before in
+    let keyed = went .before .before in
     let arm = keyed .before .before .before .before .before .before in
     let t = arm .before .before .before .before .before .before .before .before .before .before .before .before in
     let a = t .args in

@@ -15,9 +15,10 @@ cast-cut-face c = search needs
 
 cut-face-requires : tie.Need-cut-face-requires
 cut-face-requires c κs =
-    let arm = c .before .before .before .before .before in
+    let keyed = c .before in
+    let arm = keyed .before .before .before .before .before in
     let t = arm .before .before .before .before .before .before in
-    rw (sym (arm .before .has .ensures) ∙ arm .if1 .taken, sym (c .key .ensures)) at (t .pre .1)
+    rw (sym (arm .before .has .ensures) ∙ arm .if1 .taken, sym (keyed .key .ensures)) at (t .pre .1)
 
 same-length : tie.Need-same-length
 same-length c = search needs
@@ -34,7 +35,7 @@ same-length-4 c = search needs
 returns : tie.Need-returns
 returns c =
     let cutting = c .before .before .before .before .before .before .before .before in
-    let keyed = cutting .before in
+    let keyed = cutting .before .before in
     let arm = keyed .before .before .before .before .before in
     rw (sym (arm .before .has .ensures) ∙ arm .if1 .taken, sym (keyed .key .ensures)) (cutting .cut-face .ensures)
 
