@@ -12,6 +12,7 @@ use mesh_metadata::renumber;
 use sides::Tested;
 use sides::Uncovered;
 use sides::is_covering;
+use sides::is_filled;
 use sides::uncovered_at;
 use util::Neighbor;
 use util::get_neighbor;
@@ -22,14 +23,15 @@ use vav::moved_by;
 use voxel_mesh::floats_of;
 ghost use mathlib.Core.Path.{_≡_};
 ghost use mathlib.Core.List.{[], _∷_};
-ghost use Prim.Native.Nat.{_+_, _<_};
+ghost use Prim.Native.Nat.{_+_, _*_, _≤_, _<_};
+ghost use lib.ListN.{length};
 ghost use Rattle.rules.specs.Lists.{each, only};
 ghost use Rattle.rules.specs.Cells as rule;
-ghost use Rattle.rules.specs.Cells.{UNIT, keyOf, cells, neighbour};
+ghost use Rattle.rules.specs.Cells.{UNIT, keyOf, neighbour};
 ghost use Rattle.rules.specs.Update.{put, puts, cut, cuts, sides, quads, quadOf, hide, reveal, givenAt};
 ghost use Rattle.rules.specs.Calls.{world, span};
 ghost use Rattle.face.specs.Face.{number};
-ghost use Rattle.util.specs.Grid.{sizeOf, Within};
+ghost use Rattle.util.specs.Grid.{sizeOf};
 ghost use Rattle.entries.specs.Log.{entryIn};
 ghost use Rattle.drawing.specs.Rooms.{Room};
 ghost use Rattle.admit.specs.Scenes.{sceneOf, Typed};
@@ -112,13 +114,13 @@ pub fn remove_side(
     count: usize,
     moved: &mut u64,
 ) -> usize
-    requires { ⌜ (cell .0 < UNIT)
+    requires { ⌜ (cell .0 < UNIT) × (6 * cell .0 + 6 ≤ length (now slots))
         × Ready words (cuts (only (rule.has set (number face)) (keyOf (cell .0) (number face)))) (stateOf (listsOf (now vertices) (now triangles) (now links) (now slots)) count (now moved)) ⌝ }
     ensures { λ r. ⌜ stateOf (listsOf (now (vertices .exit)) (now (triangles .exit)) (now (links .exit)) (now (slots .exit))) r (now (moved .exit))
         ≡ flatRun words (cuts (only (rule.has set (number face)) (keyOf (cell .0) (number face))))
         (stateOf (listsOf (now (vertices .entry)) (now (triangles .entry)) (now (links .entry)) (now (slots .entry))) count (now (moved .entry))) ⌝ }
 {
-    if has(set, face) {
+    if has(set, face) & is_filled(slots, cell, face) {
         return cut_face(
             vertices,
             triangles,
@@ -145,7 +147,7 @@ pub fn remove_voxel(
     count: usize,
     moved: &mut u64,
 ) -> usize
-    requires { ⌜ (cell .0 < UNIT)
+    requires { ⌜ (cell .0 < UNIT) × (6 * cell .0 + 6 ≤ length (now slots))
         × Ready words (cuts (sides (cell .0) (rule.has set))) (stateOf (listsOf (now vertices) (now triangles) (now links) (now slots)) count (now moved)) ⌝ }
     ensures { λ r. ⌜ stateOf (listsOf (now (vertices .exit)) (now (triangles .exit)) (now (links .exit)) (now (slots .exit))) r (now (moved .exit))
         ≡ flatRun words (cuts (sides (cell .0) (rule.has set)))
@@ -342,7 +344,7 @@ pub fn hide_facing(
     count: usize,
     moved: &mut u64,
 ) -> usize
-    requires { ⌜ Within (sizeOf (scene .dims)) × (cell .0 < cells (sizeOf (scene .dims)))
+    requires { ⌜ Ground (sizeOf (scene .dims)) (cell .0) (listsOf (now vertices) (now triangles) (now links) (now slots))
         × Ready words (cuts (hide (testedBy tested) (world (sceneOf scene [] (now covers) [])) voxel (number face) (neighbour (sizeOf (scene .dims)) (cell .0) (number face)))) (stateOf (listsOf (now vertices) (now triangles) (now links) (now slots)) count (now moved)) ⌝ }
     ensures { λ r. ⌜ stateOf (listsOf (now (vertices .exit)) (now (triangles .exit)) (now (links .exit)) (now (slots .exit))) r (now (moved .exit))
         ≡ flatRun words (cuts (hide (testedBy tested) (world (sceneOf scene [] (now (covers .entry)) [])) voxel (number face) (neighbour (sizeOf (scene .dims)) (cell .0) (number face)))) (stateOf (listsOf (now (vertices .entry)) (now (triangles .entry)) (now (links .entry)) (now (slots .entry))) count (now (moved .entry))) ⌝ }
@@ -351,14 +353,15 @@ pub fn hide_facing(
         return count;
     };
     let side = tested.side(face);
-    if is_covering(covers, voxel, side) {
+    let facing = face.opposite();
+    if is_covering(covers, voxel, side) & is_filled(slots, next, facing) {
         return cut_face(
             vertices,
             triangles,
             links,
             slots,
             words,
-            key(next, face.opposite()) as usize,
+            key(next, facing) as usize,
             count,
             moved,
         );
@@ -381,7 +384,7 @@ pub fn remove_quads_facing(
     count: usize,
     moved: &mut u64,
 ) -> usize
-    requires { ⌜ Within (sizeOf (scene .dims)) × (cell .0 < cells (sizeOf (scene .dims)))
+    requires { ⌜ Ground (sizeOf (scene .dims)) (cell .0) (listsOf (now vertices) (now triangles) (now links) (now slots))
         × Ready words (cuts (each 6 0 (λ i. hide (testedBy tested) (world (sceneOf scene [] (now covers) [])) voxel i (neighbour (sizeOf (scene .dims)) (cell .0) i)))) (stateOf (listsOf (now vertices) (now triangles) (now links) (now slots)) count (now moved)) ⌝ }
     ensures { λ r. ⌜ stateOf (listsOf (now (vertices .exit)) (now (triangles .exit)) (now (links .exit)) (now (slots .exit))) r (now (moved .exit))
         ≡ flatRun words (cuts (each 6 0 (λ i. hide (testedBy tested) (world (sceneOf scene [] (now (covers .entry)) [])) voxel i (neighbour (sizeOf (scene .dims)) (cell .0) i)))) (stateOf (listsOf (now (vertices .entry)) (now (triangles .entry)) (now (links .entry)) (now (slots .entry))) count (now (moved .entry))) ⌝ }

@@ -132,7 +132,7 @@ words-of-requires c κs = search needs
 remove-voxel-requires : tie.Need-remove-voxel-requires
 remove-voxel-requires c κs =
     let t = c .before .before .before .before .before .before .before .before .before .before .before .before .before .before .before .before .before .before .before .before in
-    (cell t .0, ready-as (c .before .words-of .ensures .0) (ap cuts (whole-cell (t .args .entry .cell .0))) (ready-own (work t) (ready (c .before .before .before .before .before .before))))
+    (cell t .0, cell t .1, ready-as (c .before .words-of .ensures .0) (ap cuts (whole-cell (t .args .entry .cell .0))) (ready-own (work t) (ready (c .before .before .before .before .before .before))))
 
 add-voxel-after-gen-requires : tie.Need-add-voxel-after-gen-requires
 add-voxel-after-gen-requires c κs =
@@ -154,8 +154,7 @@ remove-quads-facing-requires c κs =
     let drew = c .before .before .before .before .before .before .before .before .before .before .before .before .before .before in
     let t = drew .before .before .before .before .before .before .before .before .before .before .before .before .before .before .before .before .before .before .before .before .before .before .before .before .before .before .before .before .before .before .before .before .before .before .before in
     let r = ready (drew .before .before .before .before .before .before .before .before .before .before .before .before .before .before .before .before .before .before .before .before .before) in (
-      t .pre .within,
-      t .pre .inside,
+      ground-after (puts (work t .new)) (ready-new (work t) r) (drawn drew) (ground-after (cuts (work t .own)) (ready-own (work t) r) refl (entry-ground (t .pre))),
       ready-as (c .before .words-of2 .ensures .0) (ap cuts (facing-keys t)) (subst (Ready (span (scene t)) (cuts (work t .facing))) (sym (drawn drew)) (ready-facing (work t) r)),
     )
 

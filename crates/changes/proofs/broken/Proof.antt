@@ -82,7 +82,7 @@ words-of-requires c κs = search needs
 remove-voxel-requires : tie.Need-remove-voxel-requires
 remove-voxel-requires c κs =
     let t = c .before .before .before .before .before .before .before .before .before .before .before .before .before .before .before .before .before .before .before in
-    (cell t .0, ready-as (c .before .words-of .ensures .0) (ap cuts (whole-cell (t .args .entry .cell .0))) (ready-own (work t) (ready (c .before .before .before .before .before .before))))
+    (cell t .0, cell t .1, ready-as (c .before .words-of .ensures .0) (ap cuts (whole-cell (t .args .entry .cell .0))) (ready-own (work t) (ready (c .before .before .before .before .before .before))))
 
 add-quads-facing-requires : tie.Need-add-quads-facing-requires
 add-quads-facing-requires c κs =

@@ -49,6 +49,7 @@ remove-voxel-requires : tie.Need-remove-voxel-requires
 remove-voxel-requires c κs =
     let t = c .before .before .before .before .before .before .before .before .before .before .before .before .before .before in (
       cell t .0,
+      cell t .1,
       ready-as (c .before .before .words-of .ensures .0) (ap cuts (given-sides (t .args .entry .cell .0) _ (withGiven (entry t)) (c .before .given-sides .ensures)))
           (ready-own (work t) (change-ready source (entry t) (t .pre) CullFaces (work t) refl (cull-fits (entry t) (t .pre)))),
     )

@@ -13,7 +13,7 @@ use Rattle.sides.specs.Tests.{testedBy}
 use Rattle.flat.specs.Flat.{flatRun}
 use Rattle.mending.specs.States.{stateOf}
 use Rattle.flat.specs.Holding.{Ready}
-use Rattle.flat.proofs.Doing.{Turning, start, this, turn, done, cuts-each}
+use Rattle.flat.proofs.Doing.{Turning, start, this, turn, done, cuts-each, ground-kept}
 use Rattle.mending.proofs.remove_quads_facing.Statement.{statement}
 use Rattle.mending.proofs.remove_quads_facing.Tie as tie
 
@@ -35,7 +35,7 @@ loop-holds c =
     let a = t .args in
     let W = world (sceneOf (a .scene) [] (a .covers .now) []) in
     let entry = stateOf (listsOf (a .vertices .now) (a .triangles .now) (a .links .now) (a .slots .now)) (a .count) (a .moved .now) in
-    start (subst (λ (os : List Op). Ready (a .words) os entry) (cuts-each 6 0 (keys (testedBy (a .tested)) W (a .voxel) (a .cell .0))) (t .pre .2))
+    start (subst (λ (os : List Op). Ready (a .words) os entry) (cuts-each 6 0 (keys (testedBy (a .tested)) W (a .voxel) (a .cell .0))) (t .pre .1))
 
 face-at-requires : tie.Need-face-at-requires Inv-loop μ-loop
 face-at-requires c κs = c .before .before .before .before .loop-test .taken
@@ -46,7 +46,7 @@ hide-facing-requires c κs =
     let test = faced .before .before .before .before .before in
     let l = test .before .loop in
     let t = test .before .before .before .before .before .before .before in
-    (t .pre .0, t .pre .1, rw (faced .face-at .ensures) (this (l .inv) (test .loop-test .taken)))
+    (ground-kept (l .inv .kept) (t .pre .0), rw (faced .face-at .ensures) (this (l .inv) (test .loop-test .taken)))
 
 add-f : tie.Need-add-f Inv-loop μ-loop
 add-f c = omega arith

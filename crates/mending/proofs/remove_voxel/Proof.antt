@@ -29,7 +29,7 @@ loop-holds : tie.Need-loop-holds Inv-loop μ-loop
 loop-holds c =
     let t = c .before .before .before .before in
     let a = t .args in
-    start (subst (λ (os : List Op). Ready (a .words) os (stateOf (listsOf (a .vertices .now) (a .triangles .now) (a .links .now) (a .slots .now)) (a .count) (a .moved .now))) (cuts-each 6 0 (λ f. only (has (a .set) f) (keyOf (a .cell .0) f))) (t .pre .1))
+    start (subst (λ (os : List Op). Ready (a .words) os (stateOf (listsOf (a .vertices .now) (a .triangles .now) (a .links .now) (a .slots .now)) (a .count) (a .moved .now))) (cuts-each 6 0 (λ f. only (has (a .set) f) (keyOf (a .cell .0) f))) (t .pre .2))
 
 face-at-requires : tie.Need-face-at-requires Inv-loop μ-loop
 face-at-requires c κs = c .before .before .before .before .loop-test .taken
@@ -40,7 +40,9 @@ remove-side-requires c κs =
     let test = faced .before .before .before .before .before in
     let l = test .before .loop in
     let t = test .before .before .before .before .before .before in
-    (t .pre .0, rw (faced .face-at .ensures) (this (l .inv) (test .loop-test .taken)))
+    let six = t .pre .1 in
+    let kept = l .inv .kept .slots in
+    (t .pre .0, omega arith, rw (faced .face-at .ensures) (this (l .inv) (test .loop-test .taken)))
 
 add-f : tie.Need-add-f Inv-loop μ-loop
 add-f c = omega arith
