@@ -3,7 +3,6 @@ use admit::Scene;
 use entries::Entry;
 use entries::VoxelChange;
 use face::quads_of;
-use mending::Count;
 use mending::add_quads_facing;
 use mending::add_voxel_after_gen;
 use mending::remove_quads_facing;
@@ -36,8 +35,8 @@ const ALL_SIDES: u8 = 63;
 
 // How far a log has gone: through it, or to an entry that found no room.
 pub enum Ran {
-    Through(Count),
-    Full(usize, Count),
+    Through(usize),
+    Full(usize, usize),
 }
 
 // The words of a quad.
@@ -68,15 +67,16 @@ fn broken(
     entry: Entry,
     room: usize,
     k: usize,
-    count: Count,
+    count: usize,
+    moved: &mut u64,
 ) -> Ran
-    requires { ⌜ Entering (sceneOf scene (now kinds) (now covers) (now cubes)) room (entry .cell .0) (stateOf (listsOf (now vertices) (now triangles) (now links) (now slots)) count) ⌝ }
-    ensures { λ r. ⌜ ranOf r (listsOf (now (vertices .exit)) (now (triangles .exit)) (now (links .exit)) (now (slots .exit)))
-        ≡ flowOne (span (sceneOf scene (now (kinds .entry)) (now (covers .entry)) (now (cubes .entry)))) room (workBy source (world (sceneOf scene (now (kinds .entry)) (now (covers .entry)) (now (cubes .entry)))) (entryIn entry) Broken) k (stateOf (listsOf (now (vertices .entry)) (now (triangles .entry)) (now (links .entry)) (now (slots .entry))) count) ⌝ }
+    requires { ⌜ Entering (sceneOf scene (now kinds) (now covers) (now cubes)) room (entry .cell .0) (stateOf (listsOf (now vertices) (now triangles) (now links) (now slots)) count (now moved)) ⌝ }
+    ensures { λ r. ⌜ ranOf r (listsOf (now (vertices .exit)) (now (triangles .exit)) (now (links .exit)) (now (slots .exit))) (now (moved .exit))
+        ≡ flowOne (span (sceneOf scene (now (kinds .entry)) (now (covers .entry)) (now (cubes .entry)))) room (workBy source (world (sceneOf scene (now (kinds .entry)) (now (covers .entry)) (now (cubes .entry)))) (entryIn entry) Broken) k (stateOf (listsOf (now (vertices .entry)) (now (triangles .entry)) (now (links .entry)) (now (slots .entry))) count (now (moved .entry))) ⌝ }
 {
     let own = own_sides(slots, entry.cell);
     let new = bare_sides(scene, kinds, covers, slots, entry);
-    if room < quads_after(count.quads, own, new) {
+    if room < quads_after(count, own, new) {
         return Ran::Full(k, count);
     }
     let left = remove_voxel(
@@ -88,6 +88,7 @@ fn broken(
         entry.cell,
         ALL_SIDES,
         count,
+        moved,
     );
     let done = add_quads_facing(
         vertices,
@@ -100,6 +101,7 @@ fn broken(
         cubes,
         entry,
         left,
+        *moved,
     );
     Ran::Through(done)
 }
@@ -118,18 +120,19 @@ fn added(
     entry: Entry,
     room: usize,
     k: usize,
-    count: Count,
+    count: usize,
+    moved: &mut u64,
 ) -> Ran
-    requires { ⌜ Entering (sceneOf scene (now kinds) (now covers) (now cubes)) room (entry .cell .0) (stateOf (listsOf (now vertices) (now triangles) (now links) (now slots)) count) ⌝ }
-    ensures { λ r. ⌜ ranOf r (listsOf (now (vertices .exit)) (now (triangles .exit)) (now (links .exit)) (now (slots .exit)))
-        ≡ flowOne (span (sceneOf scene (now (kinds .entry)) (now (covers .entry)) (now (cubes .entry)))) room (workBy (testedBy tested) (world (sceneOf scene (now (kinds .entry)) (now (covers .entry)) (now (cubes .entry)))) (entryIn entry) Added) k (stateOf (listsOf (now (vertices .entry)) (now (triangles .entry)) (now (links .entry)) (now (slots .entry))) count) ⌝ }
+    requires { ⌜ Entering (sceneOf scene (now kinds) (now covers) (now cubes)) room (entry .cell .0) (stateOf (listsOf (now vertices) (now triangles) (now links) (now slots)) count (now moved)) ⌝ }
+    ensures { λ r. ⌜ ranOf r (listsOf (now (vertices .exit)) (now (triangles .exit)) (now (links .exit)) (now (slots .exit))) (now (moved .exit))
+        ≡ flowOne (span (sceneOf scene (now (kinds .entry)) (now (covers .entry)) (now (cubes .entry)))) room (workBy (testedBy tested) (world (sceneOf scene (now (kinds .entry)) (now (covers .entry)) (now (cubes .entry)))) (entryIn entry) Added) k (stateOf (listsOf (now (vertices .entry)) (now (triangles .entry)) (now (links .entry)) (now (slots .entry))) count (now (moved .entry))) ⌝ }
 {
     if !is_normal_cube(kinds, entry.voxel) {
         return Ran::Through(count);
     }
     let own = own_sides(slots, entry.cell);
     let open = open_sides(covers, entry);
-    if room < quads_after(count.quads, own, open) {
+    if room < quads_after(count, own, open) {
         return Ran::Full(k, count);
     }
     let left = remove_voxel(
@@ -141,6 +144,7 @@ fn added(
         entry.cell,
         ALL_SIDES,
         count,
+        moved,
     );
     let drawn = add_voxel_after_gen(
         vertices,
@@ -153,6 +157,7 @@ fn added(
         entry.cell,
         open,
         left,
+        *moved,
     );
     let done = remove_quads_facing(
         vertices,
@@ -166,6 +171,7 @@ fn added(
         entry.voxel,
         entry.cell,
         drawn,
+        moved,
     );
     Ran::Through(done)
 }
@@ -183,11 +189,12 @@ fn cull_faces(
     entry: Entry,
     room: usize,
     k: usize,
-    count: Count,
+    count: usize,
+    moved: &mut u64,
 ) -> Ran
-    requires { ⌜ Entering (sceneOf scene (now kinds) (now covers) (now cubes)) room (entry .cell .0) (stateOf (listsOf (now vertices) (now triangles) (now links) (now slots)) count) ⌝ }
-    ensures { λ r. ⌜ ranOf r (listsOf (now (vertices .exit)) (now (triangles .exit)) (now (links .exit)) (now (slots .exit)))
-        ≡ flowOne (span (sceneOf scene (now (kinds .entry)) (now (covers .entry)) (now (cubes .entry)))) room (workBy source (world (sceneOf scene (now (kinds .entry)) (now (covers .entry)) (now (cubes .entry)))) (entryIn entry) CullFaces) k (stateOf (listsOf (now (vertices .entry)) (now (triangles .entry)) (now (links .entry)) (now (slots .entry))) count) ⌝ }
+    requires { ⌜ Entering (sceneOf scene (now kinds) (now covers) (now cubes)) room (entry .cell .0) (stateOf (listsOf (now vertices) (now triangles) (now links) (now slots)) count (now moved)) ⌝ }
+    ensures { λ r. ⌜ ranOf r (listsOf (now (vertices .exit)) (now (triangles .exit)) (now (links .exit)) (now (slots .exit))) (now (moved .exit))
+        ≡ flowOne (span (sceneOf scene (now (kinds .entry)) (now (covers .entry)) (now (cubes .entry)))) room (workBy source (world (sceneOf scene (now (kinds .entry)) (now (covers .entry)) (now (cubes .entry)))) (entryIn entry) CullFaces) k (stateOf (listsOf (now (vertices .entry)) (now (triangles .entry)) (now (links .entry)) (now (slots .entry))) count (now (moved .entry))) ⌝ }
 {
     let done = remove_voxel(
         vertices,
@@ -198,6 +205,7 @@ fn cull_faces(
         entry.cell,
         given_sides(entry),
         count,
+        moved,
     );
     Ran::Through(done)
 }
@@ -215,18 +223,19 @@ fn add_faces(
     entry: Entry,
     room: usize,
     k: usize,
-    count: Count,
+    count: usize,
+    moved: &mut u64,
 ) -> Ran
-    requires { ⌜ Entering (sceneOf scene (now kinds) (now covers) (now cubes)) room (entry .cell .0) (stateOf (listsOf (now vertices) (now triangles) (now links) (now slots)) count) ⌝ }
-    ensures { λ r. ⌜ ranOf r (listsOf (now (vertices .exit)) (now (triangles .exit)) (now (links .exit)) (now (slots .exit)))
-        ≡ flowOne (span (sceneOf scene (now (kinds .entry)) (now (covers .entry)) (now (cubes .entry)))) room (workBy source (world (sceneOf scene (now (kinds .entry)) (now (covers .entry)) (now (cubes .entry)))) (entryIn entry) AddFaces) k (stateOf (listsOf (now (vertices .entry)) (now (triangles .entry)) (now (links .entry)) (now (slots .entry))) count) ⌝ }
+    requires { ⌜ Entering (sceneOf scene (now kinds) (now covers) (now cubes)) room (entry .cell .0) (stateOf (listsOf (now vertices) (now triangles) (now links) (now slots)) count (now moved)) ⌝ }
+    ensures { λ r. ⌜ ranOf r (listsOf (now (vertices .exit)) (now (triangles .exit)) (now (links .exit)) (now (slots .exit))) (now (moved .exit))
+        ≡ flowOne (span (sceneOf scene (now (kinds .entry)) (now (covers .entry)) (now (cubes .entry)))) room (workBy source (world (sceneOf scene (now (kinds .entry)) (now (covers .entry)) (now (cubes .entry)))) (entryIn entry) AddFaces) k (stateOf (listsOf (now (vertices .entry)) (now (triangles .entry)) (now (links .entry)) (now (slots .entry))) count (now (moved .entry))) ⌝ }
 {
     if !is_normal_cube(kinds, entry.voxel) {
         return Ran::Through(count);
     }
     let set = given_sides(entry);
     let new = missing_sides(slots, entry.cell, set);
-    if room < quads_after(count.quads, 0, new) {
+    if room < quads_after(count, 0, new) {
         return Ran::Full(k, count);
     }
     let done = add_voxel_after_gen(
@@ -240,6 +249,7 @@ fn add_faces(
         entry.cell,
         set,
         count,
+        *moved,
     );
     Ran::Through(done)
 }
@@ -257,11 +267,12 @@ pub fn apply_entry(
     entry: Entry,
     room: usize,
     k: usize,
-    count: Count,
+    count: usize,
+    moved: &mut u64,
 ) -> Ran
-    requires { ⌜ Entering (sceneOf scene (now kinds) (now covers) (now cubes)) room (entry .cell .0) (stateOf (listsOf (now vertices) (now triangles) (now links) (now slots)) count) ⌝ }
-    ensures { λ r. ⌜ ranOf r (listsOf (now (vertices .exit)) (now (triangles .exit)) (now (links .exit)) (now (slots .exit)))
-        ≡ flowOne (span (sceneOf scene (now (kinds .entry)) (now (covers .entry)) (now (cubes .entry)))) room (work (testedBy tested) (world (sceneOf scene (now (kinds .entry)) (now (covers .entry)) (now (cubes .entry)))) (entryIn entry)) k (stateOf (listsOf (now (vertices .entry)) (now (triangles .entry)) (now (links .entry)) (now (slots .entry))) count) ⌝ }
+    requires { ⌜ Entering (sceneOf scene (now kinds) (now covers) (now cubes)) room (entry .cell .0) (stateOf (listsOf (now vertices) (now triangles) (now links) (now slots)) count (now moved)) ⌝ }
+    ensures { λ r. ⌜ ranOf r (listsOf (now (vertices .exit)) (now (triangles .exit)) (now (links .exit)) (now (slots .exit))) (now (moved .exit))
+        ≡ flowOne (span (sceneOf scene (now (kinds .entry)) (now (covers .entry)) (now (cubes .entry)))) room (work (testedBy tested) (world (sceneOf scene (now (kinds .entry)) (now (covers .entry)) (now (cubes .entry)))) (entryIn entry)) k (stateOf (listsOf (now (vertices .entry)) (now (triangles .entry)) (now (links .entry)) (now (slots .entry))) count (now (moved .entry))) ⌝ }
 {
     let change = entry.change;
     match change {
@@ -278,6 +289,7 @@ pub fn apply_entry(
             room,
             k,
             count,
+            moved,
         ),
         VoxelChange::Added => added(
             vertices,
@@ -293,6 +305,7 @@ pub fn apply_entry(
             room,
             k,
             count,
+            moved,
         ),
         VoxelChange::CullFaces => cull_faces(
             vertices,
@@ -307,6 +320,7 @@ pub fn apply_entry(
             room,
             k,
             count,
+            moved,
         ),
         VoxelChange::AddFaces => add_faces(
             vertices,
@@ -321,6 +335,7 @@ pub fn apply_entry(
             room,
             k,
             count,
+            moved,
         ),
     }
 }

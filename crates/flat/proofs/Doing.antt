@@ -1,18 +1,20 @@
 -- Operations done on a mesh that the lists hold, one after the other. Assumes nothing.
 use mathlib.Core.Path.{_≡_, refl, sym, ap, _∙_, subst}
 use mathlib.Core.Logic.{_⊎_, ⊎-elim}
+use mathlib.Core.Bool.{Bool, true, false, _&&_}
 use mathlib.Core.List.{List, [], _∷_, _++_, map-append}
 use Prim.Native.Nat.{ℕ, zero, suc, _+_, _-_, _*_, _/_, _≤_, _<_, max}
 use native.Mathlib.Nat.{mul-le-mul-left}
 use native.Mathlib.Omega.{arith}
 use lib.ListN.{length}
-use borrow.Author.Tests.{eq-eqb, ne-eqb}
-use Rattle.rules.specs.Lists.{each}
+use lib.Dec.{eqb}
+use borrow.Author.Tests.{eq-eqb, ne-eqb, eqb-true}
+use Rattle.rules.specs.Lists.{each, only}
 use Rattle.rules.specs.Cells.{Size, firstVertex}
 use Rattle.rules.specs.Mesh.{Quad, Lists, NONE, slotted}
 use Rattle.rules.specs.Update.{Op, put, cut, step, moved, movedIn, highest, cuts, puts}
 use Rattle.rules.specs.Answers.{slotAt}
-use Rattle.rules.proofs.ListLaws.{All}
+use Rattle.rules.proofs.ListLaws.{All, not-true}
 use Rattle.rules.proofs.Quads.{moved-le}
 use Rattle.rules.proofs.Laying.{length-vertices, length-triangles, length-links, length-slots}
 use Rattle.books.proofs.Books.{within}
@@ -20,6 +22,7 @@ use Rattle.mesh_metadata.specs.Index.{Linked}
 use Rattle.mesh_metadata.proofs.Layouts as layouts
 use Rattle.drawing.specs.Rooms.{Room}
 use Rattle.flat.specs.Flat.{State, putAt, cutAt, flatPut, flatCut, flatStep, flatRun}
+use Rattle.flat.specs.Courses.{isFilled}
 use Rattle.flat.specs.Holding.{held, Mesh, Good, cutsIn, Ready, Removable, Ground}
 use Rattle.flat.proofs.Held.{highest-ge, slots-are, step-held, held-step}
 
@@ -135,6 +138,11 @@ cut-none s k S e = rw (eq-eqb (slotAt (S .lists) k) NONE e)
 pub cut-one : (s k : ℕ) (S : State) → (slotAt (S .lists) k ≡ NONE → ⊥) → flatCut s k S ≡ cutAt s (slotAt (S .lists) k / 4) S
 unfolding flatCut
 cut-one s k S d = rw (ne-eqb (slotAt (S .lists) k) NONE d)
+
+-- LAW: where a face is not asked for, or not there, nothing is cut
+pub cut-spared : (s k : ℕ) (S : State) (b : Bool) → (b && isFilled (S .lists) k) ≡ false → S ≡ flatRun s (cuts (only b k)) S
+cut-spared s k S true e = sym (cut-none s k S (eqb-true (slotAt (S .lists) k) NONE (not-true (eqb (slotAt (S .lists) k) NONE) e)))
+cut-spared s k S false e = refl
 
 moved-few : (o : Op) (os : List Op) (m : List Quad) → movedIn o m + 5 * cutsIn os ≤ 5 * cutsIn (o ∷ os)
 moved-few (put x) os m = omega arith

@@ -11,7 +11,7 @@ use lib.Dec.{T, eqb}
 use lib.Ieee.Fits.{and-l}
 use lib.ListN.{length, getD, List·getD-eq-default}
 use borrow.Author.Tests.{eqb-true, eq-eqb}
-use Rattle.rules.specs.Lists.{every}
+use Rattle.rules.specs.Lists.{every, only}
 use Rattle.rules.specs.Cells.{Size, cells, UNIT, has, setOf, opposite, keyOf, neighbour}
 use Rattle.rules.specs.Floats.{finite}
 use Rattle.rules.specs.Types.{floats, cubeOf, isCube, positionOf}
@@ -64,8 +64,8 @@ module _ (tested : rules.Tested) (W : World) (t i : ℕ) {o : Option ℕ} where
   pub hide-none : o ≡ none → cuts (hide tested W t i o) ≡ []
   hide-none e = rw e
 
-  pub hide-no : {n : ℕ} → o ≡ some n → covering W t (tested i) ≡ false → cuts (hide tested W t i o) ≡ []
-  hide-no e f = rw (e, f)
+  pub hide-some : {n : ℕ} → o ≡ some n → cuts (hide tested W t i o) ≡ cuts (only (covering W t (tested i)) (keyOf n (opposite i)))
+  hide-some e = rw e
 
   pub hide-yes : {n k : ℕ} → o ≡ some n → covering W t (tested i) ≡ true → k ≡ keyOf n (opposite i) → cuts (hide tested W t i o) ≡ cut k ∷ []
   hide-yes e f k = rw (e, f, k)

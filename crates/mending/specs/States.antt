@@ -1,7 +1,7 @@
--- The count that the code carries, as the state of the rule on the four lists. Definitions only.
+-- The lists, the count and the moves that the code carries, as the state of the rule on the four lists. Definitions only.
+use Prim.Native.Nat.{ℕ}
 use Rattle.rules.specs.Mesh.{Lists}
 use Rattle.flat.specs.Flat.{State}
-use Rattle.mending.specs.declared.Count.{Count}
 
-abbrev pub stateOf : Lists → Count → State
-stateOf B count = record { lists = B; quads = count .quads; moved = count .moved }
+abbrev pub stateOf : Lists → ℕ → ℕ → State
+stateOf B count moved = record { lists = B; quads = count; moved = moved }

@@ -12,6 +12,7 @@ use mesh_metadata::renumber;
 use sides::Tested;
 use sides::Uncovered;
 use sides::is_covering;
+use sides::is_filled;
 use sides::uncovered_at;
 use util::Neighbor;
 use util::get_neighbor;
@@ -22,14 +23,15 @@ use vav::moved_by;
 use voxel_mesh::floats_of;
 ghost use mathlib.Core.Path.{_≡_};
 ghost use mathlib.Core.List.{[], _∷_};
-ghost use Prim.Native.Nat.{_+_, _<_};
+ghost use Prim.Native.Nat.{_+_, _*_, _≤_, _<_};
+ghost use lib.ListN.{length};
 ghost use Rattle.rules.specs.Lists.{each, only};
 ghost use Rattle.rules.specs.Cells as rule;
-ghost use Rattle.rules.specs.Cells.{UNIT, keyOf, cells, neighbour};
+ghost use Rattle.rules.specs.Cells.{UNIT, keyOf, neighbour};
 ghost use Rattle.rules.specs.Update.{put, puts, cut, cuts, sides, quads, quadOf, hide, reveal, givenAt};
 ghost use Rattle.rules.specs.Calls.{world, span};
 ghost use Rattle.face.specs.Face.{number};
-ghost use Rattle.util.specs.Grid.{sizeOf, Within};
+ghost use Rattle.util.specs.Grid.{sizeOf};
 ghost use Rattle.entries.specs.Log.{entryIn};
 ghost use Rattle.drawing.specs.Rooms.{Room};
 ghost use Rattle.admit.specs.Scenes.{sceneOf, Typed};
@@ -53,22 +55,19 @@ pub fn remove_quad(
     slots: &mut [u32],
     words: usize,
     q: usize,
-    count: Count,
-) -> Count
-    requires { ⌜ Removable words q (stateOf (listsOf (now vertices) (now triangles) (now links) (now slots)) count) ⌝ }
-    ensures { λ r. ⌜ stateOf (listsOf (now (vertices .exit)) (now (triangles .exit)) (now (links .exit)) (now (slots .exit))) r
-        ≡ cutAt words q (stateOf (listsOf (now (vertices .entry)) (now (triangles .entry)) (now (links .entry)) (now (slots .entry))) count) ⌝ }
+    count: usize,
+    moved: &mut u64,
+) -> usize
+    requires { ⌜ Removable words q (stateOf (listsOf (now vertices) (now triangles) (now links) (now slots)) count (now moved)) ⌝ }
+    ensures { λ r. ⌜ stateOf (listsOf (now (vertices .exit)) (now (triangles .exit)) (now (links .exit)) (now (slots .exit))) r (now (moved .exit))
+        ≡ cutAt words q (stateOf (listsOf (now (vertices .entry)) (now (triangles .entry)) (now (links .entry)) (now (slots .entry))) count (now (moved .entry))) ⌝ }
 {
-    let quads = count.quads;
-    let moved = moved_by(q, quads);
-    renumber(slots, links, q, quads);
-    free_row(links, 1, q, quads);
-    free_row(vertices, words, q, quads);
-    clear(triangles, 6, quads - 1);
-    Count {
-        quads: quads - 1,
-        moved: count.moved + moved as u64,
-    }
+    *moved = *moved + moved_by(q, count) as u64;
+    renumber(slots, links, q, count);
+    free_row(links, 1, q, count);
+    free_row(vertices, words, q, count);
+    clear(triangles, 6, count - 1);
+    count - 1
 }
 
 // Removes the quad of a face, if there is one.
@@ -79,11 +78,12 @@ pub fn cut_face(
     slots: &mut [u32],
     words: usize,
     key: usize,
-    count: Count,
-) -> Count
-    requires { ⌜ Ready words (cut key ∷ []) (stateOf (listsOf (now vertices) (now triangles) (now links) (now slots)) count) ⌝ }
-    ensures { λ r. ⌜ stateOf (listsOf (now (vertices .exit)) (now (triangles .exit)) (now (links .exit)) (now (slots .exit))) r
-        ≡ flatCut words key (stateOf (listsOf (now (vertices .entry)) (now (triangles .entry)) (now (links .entry)) (now (slots .entry))) count) ⌝ }
+    count: usize,
+    moved: &mut u64,
+) -> usize
+    requires { ⌜ Ready words (cut key ∷ []) (stateOf (listsOf (now vertices) (now triangles) (now links) (now slots)) count (now moved)) ⌝ }
+    ensures { λ r. ⌜ stateOf (listsOf (now (vertices .exit)) (now (triangles .exit)) (now (links .exit)) (now (slots .exit))) r (now (moved .exit))
+        ≡ flatCut words key (stateOf (listsOf (now (vertices .entry)) (now (triangles .entry)) (now (links .entry)) (now (slots .entry))) count (now (moved .entry))) ⌝ }
 {
     let vertex = slots[key];
     if vertex == NONE {
@@ -97,6 +97,7 @@ pub fn cut_face(
         words,
         (vertex / 4) as usize,
         count,
+        moved,
     )
 }
 
@@ -110,15 +111,16 @@ pub fn remove_side(
     cell: Cell,
     face: Face,
     set: u8,
-    count: Count,
-) -> Count
-    requires { ⌜ (cell .0 < UNIT)
-        × Ready words (cuts (only (rule.has set (number face)) (keyOf (cell .0) (number face)))) (stateOf (listsOf (now vertices) (now triangles) (now links) (now slots)) count) ⌝ }
-    ensures { λ r. ⌜ stateOf (listsOf (now (vertices .exit)) (now (triangles .exit)) (now (links .exit)) (now (slots .exit))) r
+    count: usize,
+    moved: &mut u64,
+) -> usize
+    requires { ⌜ (cell .0 < UNIT) × (6 * cell .0 + 6 ≤ length (now slots))
+        × Ready words (cuts (only (rule.has set (number face)) (keyOf (cell .0) (number face)))) (stateOf (listsOf (now vertices) (now triangles) (now links) (now slots)) count (now moved)) ⌝ }
+    ensures { λ r. ⌜ stateOf (listsOf (now (vertices .exit)) (now (triangles .exit)) (now (links .exit)) (now (slots .exit))) r (now (moved .exit))
         ≡ flatRun words (cuts (only (rule.has set (number face)) (keyOf (cell .0) (number face))))
-        (stateOf (listsOf (now (vertices .entry)) (now (triangles .entry)) (now (links .entry)) (now (slots .entry))) count) ⌝ }
+        (stateOf (listsOf (now (vertices .entry)) (now (triangles .entry)) (now (links .entry)) (now (slots .entry))) count (now (moved .entry))) ⌝ }
 {
-    if has(set, face) {
+    if has(set, face) & is_filled(slots, cell, face) {
         return cut_face(
             vertices,
             triangles,
@@ -127,6 +129,7 @@ pub fn remove_side(
             words,
             key(cell, face) as usize,
             count,
+            moved,
         );
     }
     count
@@ -141,13 +144,14 @@ pub fn remove_voxel(
     words: usize,
     cell: Cell,
     set: u8,
-    count: Count,
-) -> Count
-    requires { ⌜ (cell .0 < UNIT)
-        × Ready words (cuts (sides (cell .0) (rule.has set))) (stateOf (listsOf (now vertices) (now triangles) (now links) (now slots)) count) ⌝ }
-    ensures { λ r. ⌜ stateOf (listsOf (now (vertices .exit)) (now (triangles .exit)) (now (links .exit)) (now (slots .exit))) r
+    count: usize,
+    moved: &mut u64,
+) -> usize
+    requires { ⌜ (cell .0 < UNIT) × (6 * cell .0 + 6 ≤ length (now slots))
+        × Ready words (cuts (sides (cell .0) (rule.has set))) (stateOf (listsOf (now vertices) (now triangles) (now links) (now slots)) count (now moved)) ⌝ }
+    ensures { λ r. ⌜ stateOf (listsOf (now (vertices .exit)) (now (triangles .exit)) (now (links .exit)) (now (slots .exit))) r (now (moved .exit))
         ≡ flatRun words (cuts (sides (cell .0) (rule.has set)))
-        (stateOf (listsOf (now (vertices .entry)) (now (triangles .entry)) (now (links .entry)) (now (slots .entry))) count) ⌝ }
+        (stateOf (listsOf (now (vertices .entry)) (now (triangles .entry)) (now (links .entry)) (now (slots .entry))) count (now (moved .entry))) ⌝ }
 {
     let mut left = count;
     let mut f: u32 = 0;
@@ -162,6 +166,7 @@ pub fn remove_voxel(
             face_at(f),
             set,
             left,
+            moved,
         );
         f += 1;
     }
@@ -179,12 +184,13 @@ pub fn append_quad(
     voxel: u8,
     cell: Cell,
     face: Face,
-    count: Count,
-) -> Count
+    count: usize,
+    moved: u64,
+) -> usize
     requires { ⌜ Ground (sizeOf (scene .dims)) (cell .0) (listsOf (now vertices) (now triangles) (now links) (now slots)) × Shaped (sceneOf scene [] [] (now cubes)) voxel
-        × Room (span (sceneOf scene [] [] (now cubes))) (count .quads + 1) (listsOf (now vertices) (now triangles) (now links) (now slots)) ⌝ }
-    ensures { λ r. ⌜ stateOf (listsOf (now (vertices .exit)) (now (triangles .exit)) (now (links .exit)) (now (slots .exit))) r
-        ≡ putAt (span (sceneOf scene [] [] (now (cubes .entry)))) (quadOf (world (sceneOf scene [] [] (now (cubes .entry)))) voxel (cell .0) (number face)) (stateOf (listsOf (now (vertices .entry)) (now (triangles .entry)) (now (links .entry)) (now (slots .entry))) count) ⌝ }
+        × Room (span (sceneOf scene [] [] (now cubes))) (count + 1) (listsOf (now vertices) (now triangles) (now links) (now slots)) ⌝ }
+    ensures { λ r. ⌜ stateOf (listsOf (now (vertices .exit)) (now (triangles .exit)) (now (links .exit)) (now (slots .exit))) r moved
+        ≡ putAt (span (sceneOf scene [] [] (now (cubes .entry)))) (quadOf (world (sceneOf scene [] [] (now (cubes .entry)))) voxel (cell .0) (number face)) (stateOf (listsOf (now (vertices .entry)) (now (triangles .entry)) (now (links .entry)) (now (slots .entry))) count moved) ⌝ }
 {
     let floats = floats_of(scene.coloured);
     let start = 24 * floats * (voxel as usize);
@@ -200,12 +206,9 @@ pub fn append_quad(
         face,
         three_d_cords(cell, scene.dims),
         scene.d,
-        count.quads,
+        count,
     );
-    Count {
-        quads: count.quads + 1,
-        moved: count.moved,
-    }
+    count + 1
 }
 
 // Draws the quad of a face, unless the face is there.
@@ -219,12 +222,13 @@ pub fn draw_face(
     voxel: u8,
     cell: Cell,
     face: Face,
-    count: Count,
-) -> Count
+    count: usize,
+    moved: u64,
+) -> usize
     requires { ⌜ Ground (sizeOf (scene .dims)) (cell .0) (listsOf (now vertices) (now triangles) (now links) (now slots)) × Shaped (sceneOf scene [] [] (now cubes)) voxel
-        × Ready (span (sceneOf scene [] [] (now cubes))) (put (quadOf (world (sceneOf scene [] [] (now cubes))) voxel (cell .0) (number face)) ∷ []) (stateOf (listsOf (now vertices) (now triangles) (now links) (now slots)) count) ⌝ }
-    ensures { λ r. ⌜ stateOf (listsOf (now (vertices .exit)) (now (triangles .exit)) (now (links .exit)) (now (slots .exit))) r
-        ≡ flatPut (span (sceneOf scene [] [] (now (cubes .entry)))) (quadOf (world (sceneOf scene [] [] (now (cubes .entry)))) voxel (cell .0) (number face)) (stateOf (listsOf (now (vertices .entry)) (now (triangles .entry)) (now (links .entry)) (now (slots .entry))) count) ⌝ }
+        × Ready (span (sceneOf scene [] [] (now cubes))) (put (quadOf (world (sceneOf scene [] [] (now cubes))) voxel (cell .0) (number face)) ∷ []) (stateOf (listsOf (now vertices) (now triangles) (now links) (now slots)) count moved) ⌝ }
+    ensures { λ r. ⌜ stateOf (listsOf (now (vertices .exit)) (now (triangles .exit)) (now (links .exit)) (now (slots .exit))) r moved
+        ≡ flatPut (span (sceneOf scene [] [] (now (cubes .entry)))) (quadOf (world (sceneOf scene [] [] (now (cubes .entry)))) voxel (cell .0) (number face)) (stateOf (listsOf (now (vertices .entry)) (now (triangles .entry)) (now (links .entry)) (now (slots .entry))) count moved) ⌝ }
 {
     let at = key(cell, face) as usize;
     if slots[at] != NONE {
@@ -241,6 +245,7 @@ pub fn draw_face(
         cell,
         face,
         count,
+        moved,
     )
 }
 
@@ -256,12 +261,13 @@ pub fn draw_side(
     cell: Cell,
     face: Face,
     set: u8,
-    count: Count,
-) -> Count
+    count: usize,
+    moved: u64,
+) -> usize
     requires { ⌜ Ground (sizeOf (scene .dims)) (cell .0) (listsOf (now vertices) (now triangles) (now links) (now slots)) × Shaped (sceneOf scene [] [] (now cubes)) voxel
-        × Ready (span (sceneOf scene [] [] (now cubes))) (puts (only (rule.has set (number face)) (quadOf (world (sceneOf scene [] [] (now cubes))) voxel (cell .0) (number face)))) (stateOf (listsOf (now vertices) (now triangles) (now links) (now slots)) count) ⌝ }
-    ensures { λ r. ⌜ stateOf (listsOf (now (vertices .exit)) (now (triangles .exit)) (now (links .exit)) (now (slots .exit))) r
-        ≡ flatRun (span (sceneOf scene [] [] (now (cubes .entry)))) (puts (only (rule.has set (number face)) (quadOf (world (sceneOf scene [] [] (now (cubes .entry)))) voxel (cell .0) (number face)))) (stateOf (listsOf (now (vertices .entry)) (now (triangles .entry)) (now (links .entry)) (now (slots .entry))) count) ⌝ }
+        × Ready (span (sceneOf scene [] [] (now cubes))) (puts (only (rule.has set (number face)) (quadOf (world (sceneOf scene [] [] (now cubes))) voxel (cell .0) (number face)))) (stateOf (listsOf (now vertices) (now triangles) (now links) (now slots)) count moved) ⌝ }
+    ensures { λ r. ⌜ stateOf (listsOf (now (vertices .exit)) (now (triangles .exit)) (now (links .exit)) (now (slots .exit))) r moved
+        ≡ flatRun (span (sceneOf scene [] [] (now (cubes .entry)))) (puts (only (rule.has set (number face)) (quadOf (world (sceneOf scene [] [] (now (cubes .entry)))) voxel (cell .0) (number face)))) (stateOf (listsOf (now (vertices .entry)) (now (triangles .entry)) (now (links .entry)) (now (slots .entry))) count moved) ⌝ }
 {
     if has(set, face) {
         return draw_face(
@@ -275,6 +281,7 @@ pub fn draw_side(
             cell,
             face,
             count,
+            moved,
         );
     }
     count
@@ -291,12 +298,13 @@ pub fn add_voxel_after_gen(
     voxel: u8,
     cell: Cell,
     set: u8,
-    count: Count,
-) -> Count
+    count: usize,
+    moved: u64,
+) -> usize
     requires { ⌜ Ground (sizeOf (scene .dims)) (cell .0) (listsOf (now vertices) (now triangles) (now links) (now slots)) × Shaped (sceneOf scene [] [] (now cubes)) voxel
-        × Ready (span (sceneOf scene [] [] (now cubes))) (puts (quads (world (sceneOf scene [] [] (now cubes))) voxel (cell .0) (rule.has set))) (stateOf (listsOf (now vertices) (now triangles) (now links) (now slots)) count) ⌝ }
-    ensures { λ r. ⌜ stateOf (listsOf (now (vertices .exit)) (now (triangles .exit)) (now (links .exit)) (now (slots .exit))) r
-        ≡ flatRun (span (sceneOf scene [] [] (now (cubes .entry)))) (puts (quads (world (sceneOf scene [] [] (now (cubes .entry)))) voxel (cell .0) (rule.has set))) (stateOf (listsOf (now (vertices .entry)) (now (triangles .entry)) (now (links .entry)) (now (slots .entry))) count) ⌝ }
+        × Ready (span (sceneOf scene [] [] (now cubes))) (puts (quads (world (sceneOf scene [] [] (now cubes))) voxel (cell .0) (rule.has set))) (stateOf (listsOf (now vertices) (now triangles) (now links) (now slots)) count moved) ⌝ }
+    ensures { λ r. ⌜ stateOf (listsOf (now (vertices .exit)) (now (triangles .exit)) (now (links .exit)) (now (slots .exit))) r moved
+        ≡ flatRun (span (sceneOf scene [] [] (now (cubes .entry)))) (puts (quads (world (sceneOf scene [] [] (now (cubes .entry)))) voxel (cell .0) (rule.has set))) (stateOf (listsOf (now (vertices .entry)) (now (triangles .entry)) (now (links .entry)) (now (slots .entry))) count moved) ⌝ }
 {
     let mut left = count;
     let mut f: u32 = 0;
@@ -313,6 +321,7 @@ pub fn add_voxel_after_gen(
             face_at(f),
             set,
             left,
+            moved,
         );
         f += 1;
     }
@@ -332,26 +341,29 @@ pub fn hide_facing(
     voxel: u8,
     cell: Cell,
     face: Face,
-    count: Count,
-) -> Count
-    requires { ⌜ Within (sizeOf (scene .dims)) × (cell .0 < cells (sizeOf (scene .dims)))
-        × Ready words (cuts (hide (testedBy tested) (world (sceneOf scene [] (now covers) [])) voxel (number face) (neighbour (sizeOf (scene .dims)) (cell .0) (number face)))) (stateOf (listsOf (now vertices) (now triangles) (now links) (now slots)) count) ⌝ }
-    ensures { λ r. ⌜ stateOf (listsOf (now (vertices .exit)) (now (triangles .exit)) (now (links .exit)) (now (slots .exit))) r
-        ≡ flatRun words (cuts (hide (testedBy tested) (world (sceneOf scene [] (now (covers .entry)) [])) voxel (number face) (neighbour (sizeOf (scene .dims)) (cell .0) (number face)))) (stateOf (listsOf (now (vertices .entry)) (now (triangles .entry)) (now (links .entry)) (now (slots .entry))) count) ⌝ }
+    count: usize,
+    moved: &mut u64,
+) -> usize
+    requires { ⌜ Ground (sizeOf (scene .dims)) (cell .0) (listsOf (now vertices) (now triangles) (now links) (now slots))
+        × Ready words (cuts (hide (testedBy tested) (world (sceneOf scene [] (now covers) [])) voxel (number face) (neighbour (sizeOf (scene .dims)) (cell .0) (number face)))) (stateOf (listsOf (now vertices) (now triangles) (now links) (now slots)) count (now moved)) ⌝ }
+    ensures { λ r. ⌜ stateOf (listsOf (now (vertices .exit)) (now (triangles .exit)) (now (links .exit)) (now (slots .exit))) r (now (moved .exit))
+        ≡ flatRun words (cuts (hide (testedBy tested) (world (sceneOf scene [] (now (covers .entry)) [])) voxel (number face) (neighbour (sizeOf (scene .dims)) (cell .0) (number face)))) (stateOf (listsOf (now (vertices .entry)) (now (triangles .entry)) (now (links .entry)) (now (slots .entry))) count (now (moved .entry))) ⌝ }
 {
     let Neighbor::At(next) = get_neighbor(cell, face, scene.dims) else {
         return count;
     };
     let side = tested.side(face);
-    if is_covering(covers, voxel, side) {
+    let facing = face.opposite();
+    if is_covering(covers, voxel, side) & is_filled(slots, next, facing) {
         return cut_face(
             vertices,
             triangles,
             links,
             slots,
             words,
-            key(next, face.opposite()) as usize,
+            key(next, facing) as usize,
             count,
+            moved,
         );
     }
     count
@@ -369,12 +381,13 @@ pub fn remove_quads_facing(
     tested: Tested,
     voxel: u8,
     cell: Cell,
-    count: Count,
-) -> Count
-    requires { ⌜ Within (sizeOf (scene .dims)) × (cell .0 < cells (sizeOf (scene .dims)))
-        × Ready words (cuts (each 6 0 (λ i. hide (testedBy tested) (world (sceneOf scene [] (now covers) [])) voxel i (neighbour (sizeOf (scene .dims)) (cell .0) i)))) (stateOf (listsOf (now vertices) (now triangles) (now links) (now slots)) count) ⌝ }
-    ensures { λ r. ⌜ stateOf (listsOf (now (vertices .exit)) (now (triangles .exit)) (now (links .exit)) (now (slots .exit))) r
-        ≡ flatRun words (cuts (each 6 0 (λ i. hide (testedBy tested) (world (sceneOf scene [] (now (covers .entry)) [])) voxel i (neighbour (sizeOf (scene .dims)) (cell .0) i)))) (stateOf (listsOf (now (vertices .entry)) (now (triangles .entry)) (now (links .entry)) (now (slots .entry))) count) ⌝ }
+    count: usize,
+    moved: &mut u64,
+) -> usize
+    requires { ⌜ Ground (sizeOf (scene .dims)) (cell .0) (listsOf (now vertices) (now triangles) (now links) (now slots))
+        × Ready words (cuts (each 6 0 (λ i. hide (testedBy tested) (world (sceneOf scene [] (now covers) [])) voxel i (neighbour (sizeOf (scene .dims)) (cell .0) i)))) (stateOf (listsOf (now vertices) (now triangles) (now links) (now slots)) count (now moved)) ⌝ }
+    ensures { λ r. ⌜ stateOf (listsOf (now (vertices .exit)) (now (triangles .exit)) (now (links .exit)) (now (slots .exit))) r (now (moved .exit))
+        ≡ flatRun words (cuts (each 6 0 (λ i. hide (testedBy tested) (world (sceneOf scene [] (now (covers .entry)) [])) voxel i (neighbour (sizeOf (scene .dims)) (cell .0) i)))) (stateOf (listsOf (now (vertices .entry)) (now (triangles .entry)) (now (links .entry)) (now (slots .entry))) count (now (moved .entry))) ⌝ }
 {
     let mut left = count;
     let mut f: u32 = 0;
@@ -392,6 +405,7 @@ pub fn remove_quads_facing(
             cell,
             face_at(f),
             left,
+            moved,
         );
         f += 1;
     }
@@ -410,12 +424,13 @@ pub fn show_facing(
     cubes: &[u32],
     entry: Entry,
     face: Face,
-    count: Count,
-) -> Count
+    count: usize,
+    moved: u64,
+) -> usize
     requires { ⌜ Ground (sizeOf (scene .dims)) (entry .cell .0) (listsOf (now vertices) (now triangles) (now links) (now slots)) × Typed (sceneOf scene (now kinds) (now covers) (now cubes))
-        × Ready (span (sceneOf scene (now kinds) (now covers) (now cubes))) (puts (reveal (world (sceneOf scene (now kinds) (now covers) (now cubes))) (entry .voxel) (givenAt (entryIn entry) (number face)) (number face) (neighbour (sizeOf (scene .dims)) (entry .cell .0) (number face)))) (stateOf (listsOf (now vertices) (now triangles) (now links) (now slots)) count) ⌝ }
-    ensures { λ r. ⌜ stateOf (listsOf (now (vertices .exit)) (now (triangles .exit)) (now (links .exit)) (now (slots .exit))) r
-        ≡ flatRun (span (sceneOf scene (now (kinds .entry)) (now (covers .entry)) (now (cubes .entry)))) (puts (reveal (world (sceneOf scene (now (kinds .entry)) (now (covers .entry)) (now (cubes .entry)))) (entry .voxel) (givenAt (entryIn entry) (number face)) (number face) (neighbour (sizeOf (scene .dims)) (entry .cell .0) (number face)))) (stateOf (listsOf (now (vertices .entry)) (now (triangles .entry)) (now (links .entry)) (now (slots .entry))) count) ⌝ }
+        × Ready (span (sceneOf scene (now kinds) (now covers) (now cubes))) (puts (reveal (world (sceneOf scene (now kinds) (now covers) (now cubes))) (entry .voxel) (givenAt (entryIn entry) (number face)) (number face) (neighbour (sizeOf (scene .dims)) (entry .cell .0) (number face)))) (stateOf (listsOf (now vertices) (now triangles) (now links) (now slots)) count moved) ⌝ }
+    ensures { λ r. ⌜ stateOf (listsOf (now (vertices .exit)) (now (triangles .exit)) (now (links .exit)) (now (slots .exit))) r moved
+        ≡ flatRun (span (sceneOf scene (now (kinds .entry)) (now (covers .entry)) (now (cubes .entry)))) (puts (reveal (world (sceneOf scene (now (kinds .entry)) (now (covers .entry)) (now (cubes .entry)))) (entry .voxel) (givenAt (entryIn entry) (number face)) (number face) (neighbour (sizeOf (scene .dims)) (entry .cell .0) (number face)))) (stateOf (listsOf (now (vertices .entry)) (now (triangles .entry)) (now (links .entry)) (now (slots .entry))) count moved) ⌝ }
 {
     let Uncovered::Voxel(next, given) = uncovered_at(scene, kinds, covers, entry, face) else {
         return count;
@@ -431,6 +446,7 @@ pub fn show_facing(
         next,
         face.opposite(),
         count,
+        moved,
     )
 }
 
@@ -445,12 +461,13 @@ pub fn add_quads_facing(
     covers: &[u8],
     cubes: &[u32],
     entry: Entry,
-    count: Count,
-) -> Count
+    count: usize,
+    moved: u64,
+) -> usize
     requires { ⌜ Ground (sizeOf (scene .dims)) (entry .cell .0) (listsOf (now vertices) (now triangles) (now links) (now slots)) × Typed (sceneOf scene (now kinds) (now covers) (now cubes))
-        × Ready (span (sceneOf scene (now kinds) (now covers) (now cubes))) (puts (each 6 0 (λ i. reveal (world (sceneOf scene (now kinds) (now covers) (now cubes))) (entry .voxel) (givenAt (entryIn entry) i) i (neighbour (sizeOf (scene .dims)) (entry .cell .0) i)))) (stateOf (listsOf (now vertices) (now triangles) (now links) (now slots)) count) ⌝ }
-    ensures { λ r. ⌜ stateOf (listsOf (now (vertices .exit)) (now (triangles .exit)) (now (links .exit)) (now (slots .exit))) r
-        ≡ flatRun (span (sceneOf scene (now (kinds .entry)) (now (covers .entry)) (now (cubes .entry)))) (puts (each 6 0 (λ i. reveal (world (sceneOf scene (now (kinds .entry)) (now (covers .entry)) (now (cubes .entry)))) (entry .voxel) (givenAt (entryIn entry) i) i (neighbour (sizeOf (scene .dims)) (entry .cell .0) i)))) (stateOf (listsOf (now (vertices .entry)) (now (triangles .entry)) (now (links .entry)) (now (slots .entry))) count) ⌝ }
+        × Ready (span (sceneOf scene (now kinds) (now covers) (now cubes))) (puts (each 6 0 (λ i. reveal (world (sceneOf scene (now kinds) (now covers) (now cubes))) (entry .voxel) (givenAt (entryIn entry) i) i (neighbour (sizeOf (scene .dims)) (entry .cell .0) i)))) (stateOf (listsOf (now vertices) (now triangles) (now links) (now slots)) count moved) ⌝ }
+    ensures { λ r. ⌜ stateOf (listsOf (now (vertices .exit)) (now (triangles .exit)) (now (links .exit)) (now (slots .exit))) r moved
+        ≡ flatRun (span (sceneOf scene (now (kinds .entry)) (now (covers .entry)) (now (cubes .entry)))) (puts (each 6 0 (λ i. reveal (world (sceneOf scene (now (kinds .entry)) (now (covers .entry)) (now (cubes .entry)))) (entry .voxel) (givenAt (entryIn entry) i) i (neighbour (sizeOf (scene .dims)) (entry .cell .0) i)))) (stateOf (listsOf (now (vertices .entry)) (now (triangles .entry)) (now (links .entry)) (now (slots .entry))) count moved) ⌝ }
 {
     let mut left = count;
     let mut f: u32 = 0;
@@ -467,6 +484,7 @@ pub fn add_quads_facing(
             entry,
             face_at(f),
             left,
+            moved,
         );
         f += 1;
     }

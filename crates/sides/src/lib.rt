@@ -80,10 +80,11 @@ pub fn uncovered_at(
     ensures { λ r. ⌜ facingIn r
         ≡ facingBy (now (kinds .entry)) (now (covers .entry)) (entry .voxel) (givenAt (entryIn entry) (number face)) (number face) (neighbour (sizeOf (scene .dims)) (entry .cell .0) (number face)) ⌝ }
 {
-    let Neighbour::Voxel(given) = entry.neighbour(face) else {
+    // First, for every face: then the compiler divides once for the six of a cell.
+    let Neighbor::At(next) = get_neighbor(entry.cell, face, scene.dims) else {
         return Uncovered::Nothing;
     };
-    let Neighbor::At(next) = get_neighbor(entry.cell, face, scene.dims) else {
+    let Neighbour::Voxel(given) = entry.neighbour(face) else {
         return Uncovered::Nothing;
     };
     if is_covering(covers, entry.voxel, face) & is_normal_cube(kinds, given) {

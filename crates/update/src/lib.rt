@@ -44,11 +44,12 @@ fn run_log(
     tested: Tested,
     log: &[u8],
     room: usize,
-    count: Count,
+    count: usize,
+    moved: &mut u64,
 ) -> Ran
-    requires { ⌜ Logging (sceneOf scene (now kinds) (now covers) (now cubes)) room (now log) (stateOf (listsOf (now vertices) (now triangles) (now links) (now slots)) count) ⌝ }
-    ensures { λ r. ⌜ ranOf r (listsOf (now (vertices .exit)) (now (triangles .exit)) (now (links .exit)) (now (slots .exit)))
-        ≡ flowFrom (span (sceneOf scene (now (kinds .entry)) (now (covers .entry)) (now (cubes .entry)))) room (λ k. work (testedBy tested) (world (sceneOf scene (now (kinds .entry)) (now (covers .entry)) (now (cubes .entry)))) (entryAt (now (log .entry)) k)) 0 (length (now (log .entry)) / 12) (stateOf (listsOf (now (vertices .entry)) (now (triangles .entry)) (now (links .entry)) (now (slots .entry))) count) ⌝ }
+    requires { ⌜ Logging (sceneOf scene (now kinds) (now covers) (now cubes)) room (now log) (stateOf (listsOf (now vertices) (now triangles) (now links) (now slots)) count (now moved)) ⌝ }
+    ensures { λ r. ⌜ ranOf r (listsOf (now (vertices .exit)) (now (triangles .exit)) (now (links .exit)) (now (slots .exit))) (now (moved .exit))
+        ≡ flowFrom (span (sceneOf scene (now (kinds .entry)) (now (covers .entry)) (now (cubes .entry)))) room (λ k. work (testedBy tested) (world (sceneOf scene (now (kinds .entry)) (now (covers .entry)) (now (cubes .entry)))) (entryAt (now (log .entry)) k)) 0 (length (now (log .entry)) / 12) (stateOf (listsOf (now (vertices .entry)) (now (triangles .entry)) (now (links .entry)) (now (slots .entry))) count (now (moved .entry))) ⌝ }
 {
     let entries = log.len() / Entry::BYTES;
     let mut left = count;
@@ -68,6 +69,7 @@ fn run_log(
             room,
             k,
             left,
+            moved,
         );
         match ran {
             Ran::Through(done) => {
@@ -166,10 +168,7 @@ pub fn update_mesh(
     let dims = scene.dims;
     let six = 6 * dims.cell_count() as usize;
     let room = room_of(scene.coloured, vertices.len(), triangles.len(), links.len());
-    let count = Count {
-        quads: quads,
-        moved: 0,
-    };
+    let mut moved: u64 = 0;
     let ran = run_log(
         vertices,
         triangles,
@@ -182,10 +181,20 @@ pub fn update_mesh(
         Tested::Opposite,
         log,
         room,
-        count,
+        quads,
+        &mut moved,
     );
     match ran {
-        Ran::Through(done) => Updated::Done(done),
-        Ran::Full(entry, done) => Updated::NoRoom(entry, done),
+        Ran::Through(done) => Updated::Done(Count {
+            quads: done,
+            moved: moved,
+        }),
+        Ran::Full(entry, done) => Updated::NoRoom(
+            entry,
+            Count {
+                quads: done,
+                moved: moved,
+            },
+        ),
     }
 }

@@ -25,7 +25,7 @@ abbrev scene : tie.Start → Scene
 scene t = let a = t .args in sceneOf (a .scene) (a .kinds .now) (a .covers .now) (a .cubes .now)
 
 abbrev state : tie.Start → State
-state t = let a = t .args in stateOf (listsOf (a .vertices .now) (a .triangles .now) (a .links .now) (a .slots .now)) (a .count)
+state t = let a = t .args in stateOf (listsOf (a .vertices .now) (a .triangles .now) (a .links .now) (a .slots .now)) (a .count) (a .moved .now)
 
 abbrev entry : tie.Start → Entry
 entry t = entryIn (t .args .entry)
@@ -87,7 +87,7 @@ returns-2 c =
 
 add-voxel-after-gen-requires : tie.Need-add-voxel-after-gen-requires
 add-voxel-after-gen-requires c κs =
-    let free = c .before .before .before .before in
+    let free = c .before .before .before .before .before in
     let t = free .before .before .before .before .before .before .before .before .before .before .before .before .before .before in
     let a = t .args in (
       entry-ground (t .pre),
@@ -110,7 +110,7 @@ same-length-5 c = search needs
 
 returns-3 : tie.Need-returns-3
 returns-3 c =
-    let free = c .before .before .before .before .before .before .before .before .before .before .before .before .before in
+    let free = c .before .before .before .before .before .before .before .before .before .before .before .before .before .before in
     let t = free .before .before .before .before .before .before .before .before .before .before .before .before .before .before in
     let a = t .args in
     let S = scene t in

@@ -30,7 +30,7 @@ abbrev scene : tie.Start → Scene
 scene t = let a = t .args in sceneOf (a .scene) (a .kinds .now) (a .covers .now) (a .cubes .now)
 
 abbrev state : tie.Start → State
-state t = let a = t .args in stateOf (listsOf (a .vertices .now) (a .triangles .now) (a .links .now) (a .slots .now)) (a .count)
+state t = let a = t .args in stateOf (listsOf (a .vertices .now) (a .triangles .now) (a .links .now) (a .slots .now)) (a .count) (a .moved .now)
 
 abbrev entry : tie.Start → Entry
 entry t = entryIn (t .args .entry)
@@ -67,10 +67,10 @@ same-flow c = rw (cube c)
 
 -- its own quads have gone
 gone : (c : tie.After-remove-voxel) →
-    let t = c .before .before .before .before .before .before .before .before .before .before .before .before .before .before .before .before .before .before .before .before in
+    let t = c .before .before .before .before .before .before .before .before .before .before .before .before .before .before .before .before .before .before .before .before .before in
     let r = c .remove-voxel in
-    stateOf (listsOf (r .last .0) (r .last .1 .0) (r .last .1 .1 .0) (r .last .1 .1 .1 .0)) (r .result) ≡ flatRun (span (scene t)) (cuts (work t .own)) (state t)
-gone c = let t = c .before .before .before .before .before .before .before .before .before .before .before .before .before .before .before .before .before .before .before .before in c .remove-voxel .ensures ∙ run-as (state t) (c .before .words-of .ensures .0) (ap cuts (whole-cell (t .args .entry .cell .0)))
+    stateOf (listsOf (r .last .0) (r .last .1 .0) (r .last .1 .1 .0) (r .last .1 .1 .1 .0)) (r .result) (r .last .1 .1 .1 .1 .1 .1 .1 .1 .0) ≡ flatRun (span (scene t)) (cuts (work t .own)) (state t)
+gone c = let t = c .before .before .before .before .before .before .before .before .before .before .before .before .before .before .before .before .before .before .before .before .before in c .remove-voxel .ensures ∙ run-as (state t) (c .before .before .words-of .ensures .0) (ap cuts (whole-cell (t .args .entry .cell .0)))
 
 open-quads : (c : tie.After-open-sides) →
     let t = c .before .before .before .before .before .before .before .before .before .before .before .before in
@@ -79,16 +79,16 @@ open-quads c = let t = c .before .before .before .before .before .before .before
 
 -- and its open sides are drawn
 drawn : (c : tie.After-add-voxel-after-gen) →
-    let t = c .before .before .before .before .before .before .before .before .before .before .before .before .before .before .before .before .before .before .before .before .before .before .before .before .before .before .before .before .before .before .before .before .before in
+    let t = c .before .before .before .before .before .before .before .before .before .before .before .before .before .before .before .before .before .before .before .before .before .before .before .before .before .before .before .before .before .before .before .before .before .before .before in
     let r = c .add-voxel-after-gen in
-    stateOf (listsOf (r .last .0) (r .last .1 .0) (r .last .1 .1 .0) (r .last .1 .1 .1 .0)) (r .result)
+    stateOf (listsOf (r .last .0) (r .last .1 .0) (r .last .1 .1 .0) (r .last .1 .1 .1 .0)) (r .result) (c .before .before .before .before .before .before .before .before .before .before .before .before .before .before .remove-voxel .last .1 .1 .1 .1 .1 .1 .1 .1 .0)
     ≡ flatRun (span (scene t)) (puts (work t .new)) (flatRun (span (scene t)) (cuts (work t .own)) (state t))
 drawn c =
-    let t = c .before .before .before .before .before .before .before .before .before .before .before .before .before .before .before .before .before .before .before .before .before .before .before .before .before .before .before .before .before .before .before .before .before in
+    let t = c .before .before .before .before .before .before .before .before .before .before .before .before .before .before .before .before .before .before .before .before .before .before .before .before .before .before .before .before .before .before .before .before .before .before .before in
     let S = scene t in
     c .add-voxel-after-gen .ensures
-    ∙ ap (flatRun (span S) (puts (quads (world S) (t .args .entry .voxel) (t .args .entry .cell .0) (has (c .before .before .before .before .before .before .before .before .before .before .before .before .before .before .before .before .before .before .before .before .before .open-sides .result))))) (gone (c .before .before .before .before .before .before .before .before .before .before .before .before .before))
-    ∙ run-as _ refl (ap puts (open-quads (c .before .before .before .before .before .before .before .before .before .before .before .before .before .before .before .before .before .before .before .before .before)))
+    ∙ ap (flatRun (span S) (puts (quads (world S) (t .args .entry .voxel) (t .args .entry .cell .0) (has (c .before .before .before .before .before .before .before .before .before .before .before .before .before .before .before .before .before .before .before .before .before .before .before .open-sides .result))))) (gone (c .before .before .before .before .before .before .before .before .before .before .before .before .before .before))
+    ∙ run-as _ refl (ap puts (open-quads (c .before .before .before .before .before .before .before .before .before .before .before .before .before .before .before .before .before .before .before .before .before .before .before)))
 
 facing-keys : (t : tie.Start) →
     let a = t .args in
@@ -131,13 +131,13 @@ words-of-requires c κs = search needs
 
 remove-voxel-requires : tie.Need-remove-voxel-requires
 remove-voxel-requires c κs =
-    let t = c .before .before .before .before .before .before .before .before .before .before .before .before .before .before .before .before .before .before .before in
-    (cell t .0, ready-as (c .words-of .ensures .0) (ap cuts (whole-cell (t .args .entry .cell .0))) (ready-own (work t) (ready (c .before .before .before .before .before))))
+    let t = c .before .before .before .before .before .before .before .before .before .before .before .before .before .before .before .before .before .before .before .before in
+    (cell t .0, cell t .1, ready-as (c .before .words-of .ensures .0) (ap cuts (whole-cell (t .args .entry .cell .0))) (ready-own (work t) (ready (c .before .before .before .before .before .before))))
 
 add-voxel-after-gen-requires : tie.Need-add-voxel-after-gen-requires
 add-voxel-after-gen-requires c κs =
-    let went = c .before .before .before .before .before .before .before .before .before .before .before .before in
-    let free = went .before .before .before .before .before .before in
+    let went = c .before .before .before .before .before .before .before .before .before .before .before .before .before in
+    let free = went .before .before .before .before .before .before .before in
     let t = free .before .before .before .before .before .before .before .before .before .before .before .before .before .before in
     let a = t .args in
     let r = ready free in (
@@ -151,41 +151,40 @@ words-of-requires-2 c κs = search needs
 
 remove-quads-facing-requires : tie.Need-remove-quads-facing-requires
 remove-quads-facing-requires c κs =
-    let drew = c .before .before .before .before .before .before .before .before .before .before .before .before .before in
-    let t = drew .before .before .before .before .before .before .before .before .before .before .before .before .before .before .before .before .before .before .before .before .before .before .before .before .before .before .before .before .before .before .before .before .before in
-    let r = ready (drew .before .before .before .before .before .before .before .before .before .before .before .before .before .before .before .before .before .before .before) in (
-      t .pre .within,
-      t .pre .inside,
-      ready-as (c .words-of2 .ensures .0) (ap cuts (facing-keys t)) (subst (Ready (span (scene t)) (cuts (work t .facing))) (sym (drawn drew)) (ready-facing (work t) r)),
+    let drew = c .before .before .before .before .before .before .before .before .before .before .before .before .before .before in
+    let t = drew .before .before .before .before .before .before .before .before .before .before .before .before .before .before .before .before .before .before .before .before .before .before .before .before .before .before .before .before .before .before .before .before .before .before .before in
+    let r = ready (drew .before .before .before .before .before .before .before .before .before .before .before .before .before .before .before .before .before .before .before .before .before) in (
+      ground-after (puts (work t .new)) (ready-new (work t) r) (drawn drew) (ground-after (cuts (work t .own)) (ready-own (work t) r) refl (entry-ground (t .pre))),
+      ready-as (c .before .words-of2 .ensures .0) (ap cuts (facing-keys t)) (subst (Ready (span (scene t)) (cuts (work t .facing))) (sym (drawn drew)) (ready-facing (work t) r)),
     )
 
 same-length-2 : tie.Need-same-length-2
 same-length-2 c =
-    c .before .before .before .before .before .before .before .before .remove-quads-facing .kept .0 ∙ c .before .before .before .before .before .before .before .before .before .before .before .before .before .before .before .before .before .before .before .before .before .before .add-voxel-after-gen .kept .0 ∙ c .before .before .before .before .before .before .before .before .before .before .before .before .before .before .before .before .before .before .before .before .before .before .before .before .before .before .before .before .before .before .before .before .before .before .before .remove-voxel .kept .0
+    c .before .before .before .before .before .before .before .before .remove-quads-facing .kept .0 ∙ c .before .before .before .before .before .before .before .before .before .before .before .before .before .before .before .before .before .before .before .before .before .before .before .add-voxel-after-gen .kept .0 ∙ c .before .before .before .before .before .before .before .before .before .before .before .before .before .before .before .before .before .before .before .before .before .before .before .before .before .before .before .before .before .before .before .before .before .before .before .before .before .remove-voxel .kept .0
 
 same-length-3 : tie.Need-same-length-3
 same-length-3 c =
-    c .before .before .before .before .before .before .before .before .remove-quads-facing .kept .1 .0 ∙ c .before .before .before .before .before .before .before .before .before .before .before .before .before .before .before .before .before .before .before .before .before .before .add-voxel-after-gen .kept .1 .0 ∙ c .before .before .before .before .before .before .before .before .before .before .before .before .before .before .before .before .before .before .before .before .before .before .before .before .before .before .before .before .before .before .before .before .before .before .before .remove-voxel .kept .1 .0
+    c .before .before .before .before .before .before .before .before .remove-quads-facing .kept .1 .0 ∙ c .before .before .before .before .before .before .before .before .before .before .before .before .before .before .before .before .before .before .before .before .before .before .before .add-voxel-after-gen .kept .1 .0 ∙ c .before .before .before .before .before .before .before .before .before .before .before .before .before .before .before .before .before .before .before .before .before .before .before .before .before .before .before .before .before .before .before .before .before .before .before .before .before .remove-voxel .kept .1 .0
 
 same-length-4 : tie.Need-same-length-4
 same-length-4 c =
-    c .before .before .before .before .before .before .before .before .remove-quads-facing .kept .1 .1 .0 ∙ c .before .before .before .before .before .before .before .before .before .before .before .before .before .before .before .before .before .before .before .before .before .before .add-voxel-after-gen .kept .1 .1 .0 ∙ c .before .before .before .before .before .before .before .before .before .before .before .before .before .before .before .before .before .before .before .before .before .before .before .before .before .before .before .before .before .before .before .before .before .before .before .remove-voxel .kept .1 .1 .0
+    c .before .before .before .before .before .before .before .before .remove-quads-facing .kept .1 .1 .0 ∙ c .before .before .before .before .before .before .before .before .before .before .before .before .before .before .before .before .before .before .before .before .before .before .before .add-voxel-after-gen .kept .1 .1 .0 ∙ c .before .before .before .before .before .before .before .before .before .before .before .before .before .before .before .before .before .before .before .before .before .before .before .before .before .before .before .before .before .before .before .before .before .before .before .before .before .remove-voxel .kept .1 .1 .0
 
 same-length-5 : tie.Need-same-length-5
 same-length-5 c = search needs
 
 returns-3 : tie.Need-returns-3
 returns-3 c =
-    let drew = c .before .before .before .before .before .before .before .before .before .before .before .before .before .before .before .before .before .before .before .before .before .before in
-    let t = drew .before .before .before .before .before .before .before .before .before .before .before .before .before .before .before .before .before .before .before .before .before .before .before .before .before .before .before .before .before .before .before .before .before in
+    let drew = c .before .before .before .before .before .before .before .before .before .before .before .before .before .before .before .before .before .before .before .before .before .before .before in
+    let t = drew .before .before .before .before .before .before .before .before .before .before .before .before .before .before .before .before .before .before .before .before .before .before .before .before .before .before .before .before .before .before .before .before .before .before .before in
     let S = scene t in
     ap going
     (c .before .before .before .before .before .before .before .before .remove-quads-facing .ensures
-    ∙ run-as _ (c .before .before .before .before .before .before .before .before .before .words-of2 .ensures .0) (ap cuts (facing-keys t))
+    ∙ run-as _ (c .before .before .before .before .before .before .before .before .before .before .words-of2 .ensures .0) (ap cuts (facing-keys t))
     ∙ ap (flatRun (span S) (cuts (work t .facing))) (drawn drew)
     ∙ sym (run-work (span S) (work t) (state t)))
-    ∙ flow-on (span S) (t .args .room) (work t) (t .args .k) (state t) (room-left (drew .before .before .before .before .before .before .before .before .before .before .before .before .before .before .before .before .before .before .before))
-    ∙ same-flow (drew .before .before .before .before .before .before .before .before .before .before .before .before .before .before .before .before .before .before .before .before .before .before .before .before)
+    ∙ flow-on (span S) (t .args .room) (work t) (t .args .k) (state t) (room-left (drew .before .before .before .before .before .before .before .before .before .before .before .before .before .before .before .before .before .before .before .before .before))
+    ∙ same-flow (drew .before .before .before .before .before .before .before .before .before .before .before .before .before .before .before .before .before .before .before .before .before .before .before .before .before .before)
 
 pub added-spec : {M : Type 1} → statement M
 added-spec =

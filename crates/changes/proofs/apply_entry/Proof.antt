@@ -19,7 +19,7 @@ flow t v =
     let a = t .args in
     let S = sceneOf (a .scene) (a .kinds .now) (a .covers .now) (a .cubes .now) in
     flowOne (span S) (a .room) (workBy (testedBy (a .tested)) (world S) (entryIn (a .entry)) (changeIn v)) (a .k)
-    (stateOf (listsOf (a .vertices .now) (a .triangles .now) (a .links .now) (a .slots .now)) (a .count))
+    (stateOf (listsOf (a .vertices .now) (a .triangles .now) (a .links .now) (a .slots .now)) (a .count) (a .moved .now))
 
 enum-told : tie.Need-enum-told
 enum-told c = search needs
@@ -59,7 +59,7 @@ same-length-4 c = search needs
 
 returns : tie.Need-returns
 returns c =
-    c .before .before .before .before .before .before .before .before .broken .ensures ∙ ap (flow (c .before .before .before .before .before .before .before .before .before .before .before .before .before .before .before .before .before .before .before .before .before .before)) (sym (c .before .before .before .before .before .before .before .before .before .before .before .before .before .enum-told .given .1))
+    c .before .before .before .before .before .before .before .before .broken .ensures ∙ ap (flow (c .before .before .before .before .before .before .before .before .before .before .before .before .before .before .before .before .before .before .before .before .before .before .before)) (sym (c .before .before .before .before .before .before .before .before .before .before .before .before .before .before .enum-told .given .1))
 
 same-length-5 : tie.Need-same-length-5
 same-length-5 c = search needs
@@ -75,7 +75,7 @@ same-length-8 c = search needs
 
 returns-2 : tie.Need-returns-2
 returns-2 c =
-    c .before .before .before .before .before .before .before .before .added .ensures ∙ ap (flow (c .before .before .before .before .before .before .before .before .before .before .before .before .before .before .before .before .before .before .before .before .before .before)) (sym (c .before .before .before .before .before .before .before .before .before .before .before .before .before .enum-told2 .given .1))
+    c .before .before .before .before .before .before .before .before .added .ensures ∙ ap (flow (c .before .before .before .before .before .before .before .before .before .before .before .before .before .before .before .before .before .before .before .before .before .before .before)) (sym (c .before .before .before .before .before .before .before .before .before .before .before .before .before .before .enum-told2 .given .1))
 
 same-length-9 : tie.Need-same-length-9
 same-length-9 c = search needs
@@ -91,7 +91,7 @@ same-length-12 c = search needs
 
 returns-3 : tie.Need-returns-3
 returns-3 c =
-    c .before .before .before .before .before .before .before .before .cull-faces .ensures ∙ ap (flow (c .before .before .before .before .before .before .before .before .before .before .before .before .before .before .before .before .before .before .before .before .before .before)) (sym (c .before .before .before .before .before .before .before .before .before .before .before .before .before .enum-told3 .given .1))
+    c .before .before .before .before .before .before .before .before .cull-faces .ensures ∙ ap (flow (c .before .before .before .before .before .before .before .before .before .before .before .before .before .before .before .before .before .before .before .before .before .before .before)) (sym (c .before .before .before .before .before .before .before .before .before .before .before .before .before .before .enum-told3 .given .1))
 
 same-length-13 : tie.Need-same-length-13
 same-length-13 c = search needs
@@ -107,7 +107,7 @@ same-length-16 c = search needs
 
 returns-4 : tie.Need-returns-4
 returns-4 c =
-    c .before .before .before .before .before .before .before .before .add-faces .ensures ∙ ap (flow (c .before .before .before .before .before .before .before .before .before .before .before .before .before .before .before .before .before .before .before .before .before .before)) (sym (c .before .before .before .before .before .before .before .before .before .before .before .before .before .enum-told4 .given .1))
+    c .before .before .before .before .before .before .before .before .add-faces .ensures ∙ ap (flow (c .before .before .before .before .before .before .before .before .before .before .before .before .before .before .before .before .before .before .before .before .before .before .before)) (sym (c .before .before .before .before .before .before .before .before .before .before .before .before .before .before .enum-told4 .given .1))
 
 pub apply-entry-spec : {M : Type 1} → statement M
 apply-entry-spec =

@@ -23,7 +23,7 @@ abbrev scene : tie.Start → Scene
 scene t = let a = t .args in sceneOf (a .scene) (a .kinds .now) (a .covers .now) (a .cubes .now)
 
 abbrev state : tie.Start → State
-state t = let a = t .args in stateOf (listsOf (a .vertices .now) (a .triangles .now) (a .links .now) (a .slots .now)) (a .count)
+state t = let a = t .args in stateOf (listsOf (a .vertices .now) (a .triangles .now) (a .links .now) (a .slots .now)) (a .count) (a .moved .now)
 
 abbrev entry : tie.Start → Entry
 entry t = entryIn (t .args .entry)
@@ -51,10 +51,10 @@ ready c = let t = c .before .before .before .before .before .before .before .bef
 
 -- its own quads have gone
 gone : (c : tie.After-remove-voxel) →
-    let t = c .before .before .before .before .before .before .before .before .before .before .before .before .before .before .before .before .before .before .before in
+    let t = c .before .before .before .before .before .before .before .before .before .before .before .before .before .before .before .before .before .before .before .before in
     let r = c .remove-voxel in
-    stateOf (listsOf (r .last .0) (r .last .1 .0) (r .last .1 .1 .0) (r .last .1 .1 .1 .0)) (r .result) ≡ flatRun (span (scene t)) (cuts (work t .own)) (state t)
-gone c = let t = c .before .before .before .before .before .before .before .before .before .before .before .before .before .before .before .before .before .before .before in c .remove-voxel .ensures ∙ run-as (state t) (c .before .words-of .ensures .0) (ap cuts (whole-cell (t .args .entry .cell .0)))
+    stateOf (listsOf (r .last .0) (r .last .1 .0) (r .last .1 .1 .0) (r .last .1 .1 .1 .0)) (r .result) (r .last .1 .1 .1 .1 .1 .1 .1 .1 .0) ≡ flatRun (span (scene t)) (cuts (work t .own)) (state t)
+gone c = let t = c .before .before .before .before .before .before .before .before .before .before .before .before .before .before .before .before .before .before .before .before in c .remove-voxel .ensures ∙ run-as (state t) (c .before .before .words-of .ensures .0) (ap cuts (whole-cell (t .args .entry .cell .0)))
 
 own-sides-requires : tie.Need-own-sides-requires
 own-sides-requires c κs = cell (c .before .before .before .before .before .before .before .before)
@@ -81,14 +81,14 @@ words-of-requires c κs = search needs
 
 remove-voxel-requires : tie.Need-remove-voxel-requires
 remove-voxel-requires c κs =
-    let t = c .before .before .before .before .before .before .before .before .before .before .before .before .before .before .before .before .before .before in
-    (cell t .0, ready-as (c .words-of .ensures .0) (ap cuts (whole-cell (t .args .entry .cell .0))) (ready-own (work t) (ready (c .before .before .before .before .before))))
+    let t = c .before .before .before .before .before .before .before .before .before .before .before .before .before .before .before .before .before .before .before in
+    (cell t .0, cell t .1, ready-as (c .before .words-of .ensures .0) (ap cuts (whole-cell (t .args .entry .cell .0))) (ready-own (work t) (ready (c .before .before .before .before .before .before))))
 
 add-quads-facing-requires : tie.Need-add-quads-facing-requires
 add-quads-facing-requires c κs =
-    let went = c .before .before .before .before .before .before .before .before .before .before .before .before in
-    let t = went .before .before .before .before .before .before .before .before .before .before .before .before .before .before .before .before .before .before .before in
-    let r = ready (went .before .before .before .before .before .before) in (
+    let went = c .before .before .before .before .before .before .before .before .before .before .before .before .before in
+    let t = went .before .before .before .before .before .before .before .before .before .before .before .before .before .before .before .before .before .before .before .before in
+    let r = ready (went .before .before .before .before .before .before .before) in (
       ground-after (cuts (work t .own)) (ready-own (work t) r) (gone went) (entry-ground (t .pre)),
       t .pre .typed,
       subst (Ready (span (scene t)) (puts (work t .new))) (sym (gone went)) (ready-new (work t) r),
@@ -108,11 +108,11 @@ same-length-5 c = search needs
 
 returns-2 : tie.Need-returns-2
 returns-2 c =
-    let went = c .before .before .before .before .before .before .before .before .before .before .before .before .before .before .before .before .before .before .before .before .before in
-    let t = went .before .before .before .before .before .before .before .before .before .before .before .before .before .before .before .before .before .before .before in
+    let went = c .before .before .before .before .before .before .before .before .before .before .before .before .before .before .before .before .before .before .before .before .before .before in
+    let t = went .before .before .before .before .before .before .before .before .before .before .before .before .before .before .before .before .before .before .before .before in
     let S = scene t in
     ap going (c .before .before .before .before .before .before .before .before .add-quads-facing .ensures ∙ ap (flatRun (span S) (puts (work t .new))) (gone went) ∙ sym (run-work (span S) (work t) (state t)))
-    ∙ flow-on (span S) (t .args .room) (work t) (t .args .k) (state t) (room-left (went .before .before .before .before .before .before))
+    ∙ flow-on (span S) (t .args .room) (work t) (t .args .k) (state t) (room-left (went .before .before .before .before .before .before .before))
 
 pub broken-spec : {M : Type 1} → statement M
 broken-spec =

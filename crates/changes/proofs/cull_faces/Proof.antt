@@ -22,7 +22,7 @@ abbrev scene : tie.Start → Scene
 scene t = let a = t .args in sceneOf (a .scene) (a .kinds .now) (a .covers .now) (a .cubes .now)
 
 abbrev state : tie.Start → State
-state t = let a = t .args in stateOf (listsOf (a .vertices .now) (a .triangles .now) (a .links .now) (a .slots .now)) (a .count)
+state t = let a = t .args in stateOf (listsOf (a .vertices .now) (a .triangles .now) (a .links .now) (a .slots .now)) (a .count) (a .moved .now)
 
 abbrev entry : tie.Start → Entry
 entry t = entryIn (t .args .entry)
@@ -47,9 +47,10 @@ given-sides-requires c κs = search needs
 
 remove-voxel-requires : tie.Need-remove-voxel-requires
 remove-voxel-requires c κs =
-    let t = c .before .before .before .before .before .before .before .before .before .before .before .before .before in (
+    let t = c .before .before .before .before .before .before .before .before .before .before .before .before .before .before in (
       cell t .0,
-      ready-as (c .before .words-of .ensures .0) (ap cuts (given-sides (t .args .entry .cell .0) _ (withGiven (entry t)) (c .given-sides .ensures)))
+      cell t .1,
+      ready-as (c .before .before .words-of .ensures .0) (ap cuts (given-sides (t .args .entry .cell .0) _ (withGiven (entry t)) (c .before .given-sides .ensures)))
           (ready-own (work t) (change-ready source (entry t) (t .pre) CullFaces (work t) refl (cull-fits (entry t) (t .pre)))),
     )
 
@@ -67,11 +68,11 @@ same-length-4 c = search needs
 
 returns : tie.Need-returns
 returns c =
-    let t = c .before .before .before .before .before .before .before .before .before .before .before .before .before .before .before .before .before .before .before .before .before .before in
+    let t = c .before .before .before .before .before .before .before .before .before .before .before .before .before .before .before .before .before .before .before .before .before .before .before in
     let S = scene t in
     ap going
     (c .before .before .before .before .before .before .before .before .remove-voxel .ensures
-    ∙ run-as (state t) (c .before .before .before .before .before .before .before .before .before .before .words-of .ensures .0) (ap cuts (given-sides (t .args .entry .cell .0) _ (withGiven (entry t)) (c .before .before .before .before .before .before .before .before .before .given-sides .ensures)))
+    ∙ run-as (state t) (c .before .before .before .before .before .before .before .before .before .before .before .words-of .ensures .0) (ap cuts (given-sides (t .args .entry .cell .0) _ (withGiven (entry t)) (c .before .before .before .before .before .before .before .before .before .before .given-sides .ensures)))
     ∙ sym (run-work (span S) (work t) (state t)))
     ∙ flow-on (span S) (t .args .room) (work t) (t .args .k) (state t) (cull-fits (entry t) (t .pre))
 

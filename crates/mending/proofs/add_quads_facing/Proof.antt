@@ -21,12 +21,12 @@ abbrev shown : Scene → Entry → ℕ → List Quad
 shown S e i = reveal (world S) (e .voxel) (givenAt (entryIn e) i) i (neighbour (S .size) (e .cell .0) i)
 
 abbrev Inv-loop : tie.InvT-loop
-Inv-loop vertices₀ triangles₀ links₀ slots₀ scene kinds covers cubes entry left₀ f₀ vertices triangles links slots left f =
+Inv-loop vertices₀ triangles₀ links₀ slots₀ scene kinds covers cubes entry count moved left₀ f₀ vertices triangles links slots left f =
     Turning (span (sceneOf scene kinds covers cubes)) (λ i. puts (shown (sceneOf scene kinds covers cubes) entry i)) f
-    (stateOf (listsOf vertices₀ triangles₀ links₀ slots₀) left₀) (stateOf (listsOf vertices triangles links slots) left)
+    (stateOf (listsOf vertices₀ triangles₀ links₀ slots₀) left₀ moved) (stateOf (listsOf vertices triangles links slots) left moved)
 
 abbrev μ-loop : tie.MeasureT-loop
-μ-loop vertices₀ triangles₀ links₀ slots₀ scene kinds covers cubes entry left₀ f₀ vertices triangles links slots left f =
+μ-loop vertices₀ triangles₀ links₀ slots₀ scene kinds covers cubes entry count moved left₀ f₀ vertices triangles links slots left f =
     6 - f
 
 loop-holds : tie.Need-loop-holds Inv-loop μ-loop
@@ -34,7 +34,7 @@ loop-holds c =
     let t = c .before .before .before .before .before .before .before in
     let a = t .args in
     let S = sceneOf (a .scene) (a .kinds .now) (a .covers .now) (a .cubes .now) in
-    let entry = stateOf (listsOf (a .vertices .now) (a .triangles .now) (a .links .now) (a .slots .now)) (a .count) in
+    let entry = stateOf (listsOf (a .vertices .now) (a .triangles .now) (a .links .now) (a .slots .now)) (a .count) (a .moved) in
     start (subst (λ (os : List Op). Ready (span S) os entry) (puts-each 6 0 (shown S (a .entry))) (t .pre .2))
 
 face-at-requires : tie.Need-face-at-requires Inv-loop μ-loop
@@ -60,7 +60,7 @@ loop-again c =
     let l = test .before .loop in
     let a = test .before .before .before .before .before .before .before .before .before .args in
     let S = sceneOf (a .scene) (a .kinds .now) (a .covers .now) (a .cubes .now) in
-    let now = stateOf (listsOf (l .vertices) (l .triangles) (l .links) (l .slots)) (l .left) in
+    let now = stateOf (listsOf (l .vertices) (l .triangles) (l .links) (l .slots)) (l .left) (a .moved) in
     turn (l .inv) (test .loop-test .taken)
     (went .show-facing .ensures ∙ ap (λ (i : ℕ). flatRun (span S) (puts (shown S (a .entry) i)) now) (faced .face-at .ensures))
 
@@ -81,7 +81,7 @@ returns c =
     let t = c .before .before .before .before .before .before .before .before .before in
     let a = t .args in
     let S = sceneOf (a .scene) (a .kinds .now) (a .covers .now) (a .cubes .now) in
-    let entry = stateOf (listsOf (a .vertices .now) (a .triangles .now) (a .links .now) (a .slots .now)) (a .count) in
+    let entry = stateOf (listsOf (a .vertices .now) (a .triangles .now) (a .links .now) (a .slots .now)) (a .count) (a .moved) in
     done (c .before .loop .inv) (omega arith)
     ∙ sym (ap (λ (os : List Op). flatRun (span S) os entry) (puts-each 6 0 (shown S (a .entry))))
 

@@ -20,12 +20,12 @@ abbrev side : Scene → ℕ → ℕ → ℕ → ℕ → List Op
 side S t c set f = puts (only (has set f) (quadOf (world S) t c f))
 
 abbrev Inv-loop : tie.InvT-loop
-Inv-loop vertices₀ triangles₀ links₀ slots₀ scene cubes voxel cell set left₀ f₀ vertices triangles links slots left f =
+Inv-loop vertices₀ triangles₀ links₀ slots₀ scene cubes voxel cell set count moved left₀ f₀ vertices triangles links slots left f =
     Turning (span (sceneOf scene [] [] cubes)) (side (sceneOf scene [] [] cubes) voxel (cell .0) set) f
-    (stateOf (listsOf vertices₀ triangles₀ links₀ slots₀) left₀) (stateOf (listsOf vertices triangles links slots) left)
+    (stateOf (listsOf vertices₀ triangles₀ links₀ slots₀) left₀ moved) (stateOf (listsOf vertices triangles links slots) left moved)
 
 abbrev μ-loop : tie.MeasureT-loop
-μ-loop vertices₀ triangles₀ links₀ slots₀ scene cubes voxel cell set left₀ f₀ vertices triangles links slots left f =
+μ-loop vertices₀ triangles₀ links₀ slots₀ scene cubes voxel cell set count moved left₀ f₀ vertices triangles links slots left f =
     6 - f
 
 loop-holds : tie.Need-loop-holds Inv-loop μ-loop
@@ -33,7 +33,7 @@ loop-holds c =
     let t = c .before .before .before .before .before in
     let a = t .args in
     let S = sceneOf (a .scene) [] [] (a .cubes .now) in
-    let entry = stateOf (listsOf (a .vertices .now) (a .triangles .now) (a .links .now) (a .slots .now)) (a .count) in
+    let entry = stateOf (listsOf (a .vertices .now) (a .triangles .now) (a .links .now) (a .slots .now)) (a .count) (a .moved) in
     start (subst (λ (os : List Op). Ready (span S) os entry) (puts-each 6 0 (λ f. only (has (a .set) f) (quadOf (world S) (a .voxel) (a .cell .0) f))) (t .pre .2))
 
 face-at-requires : tie.Need-face-at-requires Inv-loop μ-loop
@@ -59,7 +59,7 @@ loop-again c =
     let l = test .before .loop in
     let a = test .before .before .before .before .before .before .before .args in
     let S = sceneOf (a .scene) [] [] (a .cubes .now) in
-    let now = stateOf (listsOf (l .vertices) (l .triangles) (l .links) (l .slots)) (l .left) in
+    let now = stateOf (listsOf (l .vertices) (l .triangles) (l .links) (l .slots)) (l .left) (a .moved) in
     turn (l .inv) (test .loop-test .taken)
     (went .draw-side .ensures ∙ ap (λ (f : ℕ). flatRun (span S) (side S (a .voxel) (a .cell .0) (a .set) f) now) (faced .face-at .ensures))
 
@@ -80,7 +80,7 @@ returns c =
     let t = c .before .before .before .before .before .before .before in
     let a = t .args in
     let S = sceneOf (a .scene) [] [] (a .cubes .now) in
-    let entry = stateOf (listsOf (a .vertices .now) (a .triangles .now) (a .links .now) (a .slots .now)) (a .count) in
+    let entry = stateOf (listsOf (a .vertices .now) (a .triangles .now) (a .links .now) (a .slots .now)) (a .count) (a .moved) in
     done (c .before .loop .inv) (omega arith)
     ∙ sym (ap (λ (os : List Op). flatRun (span S) os entry) (puts-each 6 0 (λ f. only (has (a .set) f) (quadOf (world S) (a .voxel) (a .cell .0) f))))
 

@@ -73,8 +73,8 @@ draw-quad-requires c κs =
       record { fits = omega arith; six = omega arith },
     )
 
-add-t15 : tie.Need-add-t15
-add-t15 c = search needs
+add-result : tie.Need-add-result
+add-result c = search needs
 
 same-length : tie.Need-same-length
 same-length c = search needs
@@ -90,14 +90,14 @@ same-length-4 c = search needs
 
 returns : tie.Need-returns
 returns c =
-    let drew = c .before .before .before .before .before .before .before .before .before in
+    let drew = c .before .before .before .before .before .before .before .before in
     let placed = drew .before in
     let sized = placed .before .before .before .before .before .before in
     let t = sized .before .before .before .before .before .before in
     let a = t .args in
     let e = drew .draw-quad .ensures
-    ∙ lent-drawn (scene t) (a .voxel) (a .cell .0) _ _ (lists t) (t .pre .0) (t .pre .1) (sized .floats-of .ensures) (placed .three-d-cords .ensures) (a .count .quads) (number (a .face)) in
-    λ i. record { lists = e i; quads = a .count .quads + 1; moved = a .count .moved }
+    ∙ lent-drawn (scene t) (a .voxel) (a .cell .0) _ _ (lists t) (t .pre .0) (t .pre .1) (sized .floats-of .ensures) (placed .three-d-cords .ensures) (a .count) (number (a .face)) in
+    λ i. record { lists = e i; quads = a .count + 1; moved = a .moved }
 
 pub append-quad-spec : {M : Type 1} → statement M
 append-quad-spec =
@@ -114,7 +114,7 @@ append-quad-spec =
     part-draw-quad-end
     three-d-cords-requires
     draw-quad-requires
-    add-t15
+    add-result
     same-length
     same-length-2
     same-length-3

@@ -34,12 +34,12 @@ cast-remove-quad c =
 
 remove-quad-requires : tie.Need-remove-quad-requires
 remove-quad-requires c κs =
-    let t = c .before .before .before .before .before .before .before .before .before .before in
+    let t = c .before .before .before .before .before .before .before .before .before .before .before in
     let a = t .args in
     let k = t .pre .good .0 in
     let z = standing (t .pre .mesh) .slots in
     let e = within (a .slots .now) (a .key) NONE 0 (omega arith) in
-    rw e at (removable (t .pre) (λ n. c .before .before .before .before .if1 .left (sym e ∙ n)))
+    rw e at (removable (t .pre) (λ n. c .before .before .before .before .before .if1 .left (sym e ∙ n)))
 
 same-length : tie.Need-same-length
 same-length c = search needs
@@ -55,14 +55,14 @@ same-length-4 c = search needs
 
 returns-2 : tie.Need-returns-2
 returns-2 c =
-    let t = c .before .before .before .before .before .before .before .before .before .before .before .before .before .before .before .before .before .before .before in
+    let t = c .before .before .before .before .before .before .before .before .before .before .before .before .before .before .before .before .before .before .before .before in
     let a = t .args in
     let k = t .pre .good .0 in
     let z = standing (t .pre .mesh) .slots in
     let e = within (a .slots .now) (a .key) NONE 0 (omega arith) in
     c .before .before .before .before .before .before .before .before .remove-quad .ensures
-    ∙ sym (rw e at (cut-one (a .words) (a .key) (stateOf (listsOf (a .vertices .now) (a .triangles .now) (a .links .now) (a .slots .now)) (a .count))
-    (λ n. c .before .before .before .before .before .before .before .before .before .before .before .before .before .if1 .left (sym e ∙ n))))
+    ∙ sym (rw e at (cut-one (a .words) (a .key) (stateOf (listsOf (a .vertices .now) (a .triangles .now) (a .links .now) (a .slots .now)) (a .count) (a .moved .now))
+    (λ n. c .before .before .before .before .before .before .before .before .before .before .before .before .before .before .if1 .left (sym e ∙ n))))
 
 pub cut-face-spec : {M : Type 1} → statement M
 cut-face-spec =

@@ -25,7 +25,7 @@ abbrev words : tie.Start → ℕ
 words t = span (sceneOf (t .args .scene) [] [] (t .args .cubes .now))
 
 abbrev state : tie.Start → State
-state t = let a = t .args in stateOf (listsOf (a .vertices .now) (a .triangles .now) (a .links .now) (a .slots .now)) (a .count)
+state t = let a = t .args in stateOf (listsOf (a .vertices .now) (a .triangles .now) (a .links .now) (a .slots .now)) (a .count) (a .moved)
 
 -- the slot of the face, as it is read
 inside : (t : tie.Start) → keyOf (t .args .cell .0) (number (t .args .face)) < length (t .args .slots .now)

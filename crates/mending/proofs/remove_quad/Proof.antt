@@ -12,6 +12,12 @@ use Rattle.mending.proofs.remove_quad.Tie as tie
 moved-by-requires : tie.Need-moved-by-requires
 moved-by-requires c κs = search needs
 
+add-moved : tie.Need-add-moved
+add-moved c =
+    let t = c .before .before .before .before .before .before in
+    let few = movedBy-le (t .args .count) (t .args .q) (t .pre .within) in
+    omega (arith, c .moved-by .ensures, t .pre .moves)
+
 renumber-requires : tie.Need-renumber-requires
 renumber-requires c κs = search needs
 
@@ -27,14 +33,8 @@ sub-clear c = search needs
 clear-requires : tie.Need-clear-requires
 clear-requires c κs = search needs
 
-sub-t21 : tie.Need-sub-t21
-sub-t21 c = search needs
-
-add-t23 : tie.Need-add-t23
-add-t23 c =
-    let t = c .before .before .before .before .before .before .before .before .before .before .before .before .before .before .before .before .before .before .before .before .before .before .before in
-    let few = movedBy-le (t .args .count .quads) (t .args .q) (t .pre .within) in
-    omega (arith, c .before .before .before .before .before .before .before .before .before .before .before .before .before .before .before .before .before .before .moved-by .ensures, t .pre .moves)
+sub-result : tie.Need-sub-result
+sub-result c = search needs
 
 same-length : tie.Need-same-length
 same-length c = search needs
@@ -51,27 +51,27 @@ same-length-4 c = search needs
 returns : tie.Need-returns
 unfolding removedAt
 returns c =
-    let cleared = c .before .before .before in
+    let cleared = c .before .before in
     let freed = cleared .before .before .before .before in
     let linked = freed .before .before .before .before in
     let renamed = linked .before .before .before .before in
     let counted = renamed .before .before .before in
-    let a = counted .before .before .before .before .before .args in
+    let a = counted .before .before .before .before .before .before .args in
     same-state (freed .free-row2 .ensures) (cleared .clear .ensures) (linked .free-row .ensures) (renamed .renumber .ensures) refl
-    (ap (λ (v : ℕ). a .count .moved + v) (counted .moved-by .ensures))
+    (ap (λ (v : ℕ). a .moved .now + v) (counted .moved-by .ensures))
 
 pub remove-quad-spec : {M : Type 1} → statement M
 remove-quad-spec =
     tie.close
     (tie.spec
     moved-by-requires
+    add-moved
     renumber-requires
     free-row-requires
     free-row-requires-2
     sub-clear
     clear-requires
-    sub-t21
-    add-t23
+    sub-result
     same-length
     same-length-2
     same-length-3

@@ -13,7 +13,7 @@ use Rattle.sides.specs.Tests.{testedBy}
 use Rattle.flat.specs.Flat.{flatRun}
 use Rattle.mending.specs.States.{stateOf}
 use Rattle.flat.specs.Holding.{Ready}
-use Rattle.flat.proofs.Doing.{Turning, start, this, turn, done, cuts-each}
+use Rattle.flat.proofs.Doing.{Turning, start, this, turn, done, cuts-each, ground-kept}
 use Rattle.mending.proofs.remove_quads_facing.Statement.{statement}
 use Rattle.mending.proofs.remove_quads_facing.Tie as tie
 
@@ -21,12 +21,12 @@ abbrev keys : rules.Tested → World → ℕ → ℕ → ℕ → List ℕ
 keys tested W t c i = hide tested W t i (neighbour (W .size) c i)
 
 abbrev Inv-loop : tie.InvT-loop
-Inv-loop vertices₀ triangles₀ links₀ slots₀ words scene covers tested voxel cell left₀ f₀ vertices triangles links slots left f =
+Inv-loop vertices₀ triangles₀ links₀ slots₀ words scene covers tested voxel cell count moved₀ left₀ f₀ vertices triangles links slots moved left f =
     Turning words (λ i. cuts (keys (testedBy tested) (world (sceneOf scene [] covers [])) voxel (cell .0) i)) f
-    (stateOf (listsOf vertices₀ triangles₀ links₀ slots₀) left₀) (stateOf (listsOf vertices triangles links slots) left)
+    (stateOf (listsOf vertices₀ triangles₀ links₀ slots₀) left₀ moved₀) (stateOf (listsOf vertices triangles links slots) left moved)
 
 abbrev μ-loop : tie.MeasureT-loop
-μ-loop vertices₀ triangles₀ links₀ slots₀ words scene covers tested voxel cell left₀ f₀ vertices triangles links slots left f =
+μ-loop vertices₀ triangles₀ links₀ slots₀ words scene covers tested voxel cell count moved₀ left₀ f₀ vertices triangles links slots moved left f =
     6 - f
 
 loop-holds : tie.Need-loop-holds Inv-loop μ-loop
@@ -34,17 +34,19 @@ loop-holds c =
     let t = c .before .before .before .before .before in
     let a = t .args in
     let W = world (sceneOf (a .scene) [] (a .covers .now) []) in
-    let entry = stateOf (listsOf (a .vertices .now) (a .triangles .now) (a .links .now) (a .slots .now)) (a .count) in
-    start (subst (λ (os : List Op). Ready (a .words) os entry) (cuts-each 6 0 (keys (testedBy (a .tested)) W (a .voxel) (a .cell .0))) (t .pre .2))
+    let entry = stateOf (listsOf (a .vertices .now) (a .triangles .now) (a .links .now) (a .slots .now)) (a .count) (a .moved .now) in
+    start (subst (λ (os : List Op). Ready (a .words) os entry) (cuts-each 6 0 (keys (testedBy (a .tested)) W (a .voxel) (a .cell .0))) (t .pre .1))
 
 face-at-requires : tie.Need-face-at-requires Inv-loop μ-loop
 face-at-requires c κs = c .before .before .before .before .loop-test .taken
 
 hide-facing-requires : tie.Need-hide-facing-requires Inv-loop μ-loop
 hide-facing-requires c κs =
-    let t = c .before .before .before .before .before .before .before .before .before .before .before .before in
-    let l = c .before .before .before .before .before .before .loop in
-    (t .pre .0, t .pre .1, rw (c .face-at .ensures) (this (l .inv) (c .before .before .before .before .before .loop-test .taken)))
+    let faced = c .before in
+    let test = faced .before .before .before .before .before in
+    let l = test .before .loop in
+    let t = test .before .before .before .before .before .before .before in
+    (ground-kept (l .inv .kept) (t .pre .0), rw (faced .face-at .ensures) (this (l .inv) (test .loop-test .taken)))
 
 add-f : tie.Need-add-f Inv-loop μ-loop
 add-f c = omega arith
@@ -55,12 +57,12 @@ loop-less c = omega arith
 loop-again : tie.Need-loop-again Inv-loop μ-loop
 loop-again c =
     let went = c .before .before .before .before .before .before .before .before in
-    let faced = went .before in
+    let faced = went .before .before in
     let test = faced .before .before .before .before .before in
     let l = test .before .loop in
     let a = test .before .before .before .before .before .before .before .args in
     let W = world (sceneOf (a .scene) [] (a .covers .now) []) in
-    let now = stateOf (listsOf (l .vertices) (l .triangles) (l .links) (l .slots)) (l .left) in
+    let now = stateOf (listsOf (l .vertices) (l .triangles) (l .links) (l .slots)) (l .left) (l .moved) in
     turn (l .inv) (test .loop-test .taken)
     (went .hide-facing .ensures ∙ ap (λ (i : ℕ). flatRun (a .words) (cuts (keys (testedBy (a .tested)) W (a .voxel) (a .cell .0) i)) now) (faced .face-at .ensures))
 
@@ -81,7 +83,7 @@ returns c =
     let t = c .before .before .before .before .before .before .before in
     let a = t .args in
     let W = world (sceneOf (a .scene) [] (a .covers .now) []) in
-    let entry = stateOf (listsOf (a .vertices .now) (a .triangles .now) (a .links .now) (a .slots .now)) (a .count) in
+    let entry = stateOf (listsOf (a .vertices .now) (a .triangles .now) (a .links .now) (a .slots .now)) (a .count) (a .moved .now) in
     done (c .before .loop .inv) (omega arith)
     ∙ sym (ap (λ (os : List Op). flatRun (a .words) os entry) (cuts-each 6 0 (keys (testedBy (a .tested)) W (a .voxel) (a .cell .0))))
 

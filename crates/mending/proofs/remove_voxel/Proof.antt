@@ -18,27 +18,31 @@ abbrev side : ℕ → ℕ → ℕ → List Op
 side set c f = cuts (only (has set f) (keyOf c f))
 
 abbrev Inv-loop : tie.InvT-loop
-Inv-loop vertices₀ triangles₀ links₀ slots₀ words cell set left₀ f₀ vertices triangles links slots left f =
-    Turning words (side set (cell .0)) f (stateOf (listsOf vertices₀ triangles₀ links₀ slots₀) left₀) (stateOf (listsOf vertices triangles links slots) left)
+Inv-loop vertices₀ triangles₀ links₀ slots₀ words cell set count moved₀ left₀ f₀ vertices triangles links slots moved left f =
+    Turning words (side set (cell .0)) f (stateOf (listsOf vertices₀ triangles₀ links₀ slots₀) left₀ moved₀) (stateOf (listsOf vertices triangles links slots) left moved)
 
 abbrev μ-loop : tie.MeasureT-loop
-μ-loop vertices₀ triangles₀ links₀ slots₀ words cell set left₀ f₀ vertices triangles links slots left f =
+μ-loop vertices₀ triangles₀ links₀ slots₀ words cell set count moved₀ left₀ f₀ vertices triangles links slots moved left f =
     6 - f
 
 loop-holds : tie.Need-loop-holds Inv-loop μ-loop
 loop-holds c =
     let t = c .before .before .before .before in
     let a = t .args in
-    start (subst (λ (os : List Op). Ready (a .words) os (stateOf (listsOf (a .vertices .now) (a .triangles .now) (a .links .now) (a .slots .now)) (a .count))) (cuts-each 6 0 (λ f. only (has (a .set) f) (keyOf (a .cell .0) f))) (t .pre .1))
+    start (subst (λ (os : List Op). Ready (a .words) os (stateOf (listsOf (a .vertices .now) (a .triangles .now) (a .links .now) (a .slots .now)) (a .count) (a .moved .now))) (cuts-each 6 0 (λ f. only (has (a .set) f) (keyOf (a .cell .0) f))) (t .pre .2))
 
 face-at-requires : tie.Need-face-at-requires Inv-loop μ-loop
 face-at-requires c κs = c .before .before .before .before .loop-test .taken
 
 remove-side-requires : tie.Need-remove-side-requires Inv-loop μ-loop
 remove-side-requires c κs =
-    let t = c .before .before .before .before .before .before .before .before .before .before .before in
-    let l = c .before .before .before .before .before .before .loop in
-    (t .pre .0, rw (c .face-at .ensures) (this (l .inv) (c .before .before .before .before .before .loop-test .taken)))
+    let faced = c .before in
+    let test = faced .before .before .before .before .before in
+    let l = test .before .loop in
+    let t = test .before .before .before .before .before .before in
+    let six = t .pre .1 in
+    let kept = l .inv .kept .slots in
+    (t .pre .0, omega arith, rw (faced .face-at .ensures) (this (l .inv) (test .loop-test .taken)))
 
 add-f : tie.Need-add-f Inv-loop μ-loop
 add-f c = omega arith
@@ -49,11 +53,11 @@ loop-less c = omega arith
 loop-again : tie.Need-loop-again Inv-loop μ-loop
 loop-again c =
     let went = c .before .before .before .before .before .before .before .before in
-    let faced = went .before in
+    let faced = went .before .before in
     let test = faced .before .before .before .before .before in
     let l = test .before .loop in
     let a = test .before .before .before .before .before .before .args in
-    let now = stateOf (listsOf (l .vertices) (l .triangles) (l .links) (l .slots)) (l .left) in
+    let now = stateOf (listsOf (l .vertices) (l .triangles) (l .links) (l .slots)) (l .left) (l .moved) in
     turn (l .inv) (test .loop-test .taken)
     (went .remove-side .ensures ∙ ap (λ (f : ℕ). flatRun (a .words) (side (a .set) (a .cell .0) f) now) (faced .face-at .ensures))
 
@@ -74,7 +78,7 @@ returns c =
     let t = c .before .before .before .before .before .before in
     let a = t .args in
     done (c .before .loop .inv) (omega arith)
-    ∙ sym (ap (λ (os : List Op). flatRun (a .words) os (stateOf (listsOf (a .vertices .now) (a .triangles .now) (a .links .now) (a .slots .now)) (a .count))) (cuts-each 6 0 (λ f. only (has (a .set) f) (keyOf (a .cell .0) f))))
+    ∙ sym (ap (λ (os : List Op). flatRun (a .words) os (stateOf (listsOf (a .vertices .now) (a .triangles .now) (a .links .now) (a .slots .now)) (a .count) (a .moved .now))) (cuts-each 6 0 (λ f. only (has (a .set) f) (keyOf (a .cell .0) f))))
 
 pub remove-voxel-spec : {M : Type 1} → statement M
 remove-voxel-spec =

@@ -25,7 +25,7 @@ abbrev scene : tie.Start → Scene
 scene t = sceneOf (t .args .scene) (t .args .kinds .now) (t .args .covers .now) (t .args .cubes .now)
 
 abbrev state : tie.Start → State
-state t = let a = t .args in stateOf (listsOf (a .vertices .now) (a .triangles .now) (a .links .now) (a .slots .now)) (a .count)
+state t = let a = t .args in stateOf (listsOf (a .vertices .now) (a .triangles .now) (a .links .now) (a .slots .now)) (a .count) (a .moved)
 
 -- the neighbour that is uncovered
 abbrev facing : (c : tie.After-known-told) → Facing

@@ -24,12 +24,12 @@ abbrev works : rules.Tested → Scene → List ℕ → ℕ → Work
 works tested S log k = work tested (world S) (entryAt log k)
 
 abbrev Inv-loop : tie.InvT-loop
-Inv-loop vertices₀ triangles₀ links₀ slots₀ scene kinds covers cubes tested log room entries left₀ k₀ vertices triangles links slots left k =
+Inv-loop vertices₀ triangles₀ links₀ slots₀ scene kinds covers cubes tested log room count moved₀ entries left₀ k₀ vertices triangles links slots moved left k =
     Going (sceneOf scene kinds covers cubes) room log (works (testedBy tested) (sceneOf scene kinds covers cubes) log) k
-    (stateOf (listsOf vertices₀ triangles₀ links₀ slots₀) left₀) (stateOf (listsOf vertices triangles links slots) left)
+    (stateOf (listsOf vertices₀ triangles₀ links₀ slots₀) left₀ moved₀) (stateOf (listsOf vertices triangles links slots) left moved)
 
 abbrev μ-loop : tie.MeasureT-loop
-μ-loop vertices₀ triangles₀ links₀ slots₀ scene kinds covers cubes tested log room entries left₀ k₀ vertices triangles links slots left k =
+μ-loop vertices₀ triangles₀ links₀ slots₀ scene kinds covers cubes tested log room count moved₀ entries left₀ k₀ vertices triangles links slots moved left k =
     length log / 12 - k
 
 loop-holds : tie.Need-loop-holds Inv-loop μ-loop
@@ -44,13 +44,15 @@ read-entry-requires c κs =
 
 apply-entry-requires : tie.Need-apply-entry-requires Inv-loop μ-loop
 apply-entry-requires c κs =
-    let t = c .before .before .before .before .before .before .before .before .before .before .before .before .before .before .before in
+    let read = c .before in
+    let test = read .before .before .before .before .before in
+    let t = test .before .before .before .before .before .before .before .before .before .before in
     let a = t .args in
-    let l = c .before .before .before .before .before .before .loop in
-    let n = log-entering (testedBy (a .tested)) (t .pre) (l .inv) (c .before .before .before .before .before .loop-test .taken) in
+    let l = test .before .loop in
+    let n = log-entering (testedBy (a .tested)) (t .pre) (l .inv) (test .loop-test .taken) in
     let S = sceneOf (a .scene) (a .kinds .now) (a .covers .now) (a .cubes .now) in
-    let now = stateOf (listsOf (l .vertices) (l .triangles) (l .links) (l .slots)) (l .left) in
-    subst (λ (i : ℕ). Entering S (a .room) i now) (sym (ap (λ (e : rules.Entry). e .cell) (c .read-entry .ensures))) n
+    let now = stateOf (listsOf (l .vertices) (l .triangles) (l .links) (l .slots)) (l .left) (l .moved) in
+    subst (λ (i : ℕ). Entering S (a .room) i now) (sym (ap (λ (e : rules.Entry). e .cell) (read .read-entry .ensures))) n
 
 enum-known-ran : tie.Need-enum-known-ran Inv-loop μ-loop
 enum-known-ran c = search needs
@@ -60,59 +62,59 @@ enum-known-ran-2 c = search needs
 
 same-length : tie.Need-same-length Inv-loop μ-loop
 same-length c =
-    c .before .before .before .before .before .before .before .before .before .before .before .apply-entry .kept .0 ∙ c .before .before .before .before .before .before .before .before .before .before .before .before .before .before .before .before .before .before .loop .inv .kept .vertices
+    c .before .before .before .before .before .before .before .before .before .before .before .apply-entry .kept .0 ∙ c .before .before .before .before .before .before .before .before .before .before .before .before .before .before .before .before .before .before .before .loop .inv .kept .vertices
 
 same-length-2 : tie.Need-same-length-2 Inv-loop μ-loop
 same-length-2 c =
-    c .before .before .before .before .before .before .before .before .before .before .before .apply-entry .kept .1 .0 ∙ c .before .before .before .before .before .before .before .before .before .before .before .before .before .before .before .before .before .before .loop .inv .kept .triangles
+    c .before .before .before .before .before .before .before .before .before .before .before .apply-entry .kept .1 .0 ∙ c .before .before .before .before .before .before .before .before .before .before .before .before .before .before .before .before .before .before .before .loop .inv .kept .triangles
 
 same-length-3 : tie.Need-same-length-3 Inv-loop μ-loop
 same-length-3 c =
-    c .before .before .before .before .before .before .before .before .before .before .before .apply-entry .kept .1 .1 .0 ∙ c .before .before .before .before .before .before .before .before .before .before .before .before .before .before .before .before .before .before .loop .inv .kept .links
+    c .before .before .before .before .before .before .before .before .before .before .before .apply-entry .kept .1 .1 .0 ∙ c .before .before .before .before .before .before .before .before .before .before .before .before .before .before .before .before .before .before .before .loop .inv .kept .links
 
 same-length-4 : tie.Need-same-length-4 Inv-loop μ-loop
 same-length-4 c =
-    c .before .before .before .before .before .before .before .before .before .before .before .apply-entry .kept .1 .1 .1 .0 ∙ c .before .before .before .before .before .before .before .before .before .before .before .before .before .before .before .before .before .before .loop .inv .kept .slots
+    c .before .before .before .before .before .before .before .before .before .before .before .apply-entry .kept .1 .1 .1 .0 ∙ c .before .before .before .before .before .before .before .before .before .before .before .before .before .before .before .before .before .before .before .loop .inv .kept .slots
 
 returns : tie.Need-returns Inv-loop μ-loop
 returns c =
     let applied = c .before .before .before .before .before .before .before .before .before .before .before in
-    let test = applied .before .before .before .before .before .before in
+    let test = applied .before .before .before .before .before .before .before in
     let t = test .before .before .before .before .before .before .before .before .before .before in
     let a = t .args in
     let l = test .before .loop in
     let r = applied .apply-entry in
     let S = sceneOf (a .scene) (a .kinds .now) (a .covers .now) (a .cubes .now) in
     log-stops (testedBy (a .tested)) (t .pre) (l .inv) (test .loop-test .taken)
-    (ap (λ (x : Ran). ranOf x (listsOf (r .last .0) (r .last .1 .0) (r .last .1 .1 .0) (r .last .1 .1 .1 .0))) (sym (c .before .ran2 .given .1))
+    (ap (λ (x : Ran). ranOf x (listsOf (r .last .0) (r .last .1 .0) (r .last .1 .1 .0) (r .last .1 .1 .1 .0)) (r .last .1 .1 .1 .1 .1 .1 .1 .1 .1 .1 .1 .1 .1 .0)) (sym (c .before .ran2 .given .1))
     ∙ r .ensures
     ∙ ap (λ (e : rules.Entry). flowOne (span S) (a .room) (work (testedBy (a .tested)) (world S) e) (l .k)
-    (stateOf (listsOf (l .vertices) (l .triangles) (l .links) (l .slots)) (l .left))) (applied .before .read-entry .ensures))
+    (stateOf (listsOf (l .vertices) (l .triangles) (l .links) (l .slots)) (l .left) (l .moved))) (applied .before .before .read-entry .ensures))
 
 add-k : tie.Need-add-k Inv-loop μ-loop
 add-k c =
-    let h = c .before .before .before .before .before .before .before .before .before .before .before .before .before .before .before .before .before .loop-test .taken in
-    omega (arith, c .before .before .before .before .before .before .before .before .before .before .before .before .before .before .before .before .before .before .before .before .before .before .before .before .before .before .before .pre .few)
+    let h = c .before .before .before .before .before .before .before .before .before .before .before .before .before .before .before .before .before .before .loop-test .taken in
+    omega (arith, c .before .before .before .before .before .before .before .before .before .before .before .before .before .before .before .before .before .before .before .before .before .before .before .before .before .before .before .before .pre .few)
 
 loop-less : tie.Need-loop-less Inv-loop μ-loop
 loop-less c =
-    let h = c .before .before .before .before .before .before .before .before .before .before .before .before .before .before .before .before .before .loop-test .taken in
+    let h = c .before .before .before .before .before .before .before .before .before .before .before .before .before .before .before .before .before .before .loop-test .taken in
     omega arith
 
 loop-again : tie.Need-loop-again Inv-loop μ-loop
 loop-again c =
     let applied = c .before .before .before .before .before .before .before .before .before .before .before in
-    let test = applied .before .before .before .before .before .before in
+    let test = applied .before .before .before .before .before .before .before in
     let t = test .before .before .before .before .before .before .before .before .before .before in
     let a = t .args in
     let l = test .before .loop in
     let r = applied .apply-entry in
     let S = sceneOf (a .scene) (a .kinds .now) (a .covers .now) (a .cubes .now) in
     log-on (testedBy (a .tested)) (t .pre) (l .inv) (test .loop-test .taken)
-    (ap (λ (x : Ran). ranOf x (listsOf (r .last .0) (r .last .1 .0) (r .last .1 .1 .0) (r .last .1 .1 .1 .0))) (sym (c .before .ran .given .1))
+    (ap (λ (x : Ran). ranOf x (listsOf (r .last .0) (r .last .1 .0) (r .last .1 .1 .0) (r .last .1 .1 .1 .0)) (r .last .1 .1 .1 .1 .1 .1 .1 .1 .1 .1 .1 .1 .1 .0)) (sym (c .before .ran .given .1))
     ∙ r .ensures
     ∙ ap (λ (e : rules.Entry). flowOne (span S) (a .room) (work (testedBy (a .tested)) (world S) e) (l .k)
-    (stateOf (listsOf (l .vertices) (l .triangles) (l .links) (l .slots)) (l .left))) (applied .before .read-entry .ensures))
+    (stateOf (listsOf (l .vertices) (l .triangles) (l .links) (l .slots)) (l .left) (l .moved))) (applied .before .before .read-entry .ensures))
 
 same-length-5 : tie.Need-same-length-5 Inv-loop μ-loop
 same-length-5 c = c .before .loop .inv .kept .vertices

@@ -86,8 +86,8 @@ slice-aggregate-run-log c =
 
 run-log-requires : tie.Need-run-log-requires
 run-log-requires c κs =
-    let t = c .before .before .before .before .before .before .before .before .before .before .before .before .before .before .before .before .before .before .before .before .before .before in
-    lent-logging source (scene t) (t .args .log .now) (lists t) (t .args .quads) (accepted (c .before .before .before .before .before .before .before)) (six (c .before .before .before .before .before)) (found (c .before .before .before .before))
+    let t = c .before .before .before .before .before .before .before .before .before .before .before .before .before .before .before .before .before .before .before .before .before .before .before in
+    lent-logging source (scene t) (t .args .log .now) (lists t) (t .args .quads) (accepted (c .before .before .before .before .before .before .before .before)) (six (c .before .before .before .before .before .before)) (found (c .before .before .before .before .before))
 
 enum-known-ran : tie.Need-enum-known-ran
 enum-known-ran c = search needs
@@ -110,11 +110,11 @@ same-length-8 c = search needs
 returns-2 : tie.Need-returns-2
 returns-2 c =
     let went = c .before .before .before .before .before .before .before .before .before .before .before in
-    let roomed = went .before .before .before .before .before in
+    let roomed = went .before .before .before .before .before .before in
     let t = roomed .before .before .before .before .before .before .before .before .before .before .before .before .before .before .before .before .before .before in
     let r = went .run-log in
     lent-outcome source (scene t) (t .args .log .now) (lists t) (t .args .quads) (accepted (roomed .before .before .before)) (six (roomed .before)) (found roomed)
-    (ap (λ (x : Ran). ranOf x (listsOf (r .last .0) (r .last .1 .0) (r .last .1 .1 .0) (r .last .1 .1 .1 .0))) (sym (c .before .ran .given .1)) ∙ r .ensures)
+    (ap (λ (x : Ran). ranOf x (listsOf (r .last .0) (r .last .1 .0) (r .last .1 .1 .0) (r .last .1 .1 .1 .0)) (r .last .1 .1 .1 .1 .1 .1 .1 .1 .1 .1 .1 .1 .0)) (sym (c .before .ran .given .1)) ∙ r .ensures)
 
 same-length-9 : tie.Need-same-length-9
 same-length-9 c = search needs
@@ -131,11 +131,11 @@ same-length-12 c = search needs
 returns-3 : tie.Need-returns-3
 returns-3 c =
     let went = c .before .before .before .before .before .before .before .before .before .before .before in
-    let roomed = went .before .before .before .before .before in
+    let roomed = went .before .before .before .before .before .before in
     let t = roomed .before .before .before .before .before .before .before .before .before .before .before .before .before .before .before .before .before .before in
     let r = went .run-log in
     lent-outcome source (scene t) (t .args .log .now) (lists t) (t .args .quads) (accepted (roomed .before .before .before)) (six (roomed .before)) (found roomed)
-    (ap (λ (x : Ran). ranOf x (listsOf (r .last .0) (r .last .1 .0) (r .last .1 .1 .0) (r .last .1 .1 .1 .0))) (sym (c .before .ran2 .given .1)) ∙ r .ensures)
+    (ap (λ (x : Ran). ranOf x (listsOf (r .last .0) (r .last .1 .0) (r .last .1 .1 .0) (r .last .1 .1 .1 .0)) (r .last .1 .1 .1 .1 .1 .1 .1 .1 .1 .1 .1 .1 .0)) (sym (c .before .ran2 .given .1)) ∙ r .ensures)
 
 pub update-mesh-spec : {M : Type 1} → statement M
 update-mesh-spec =
