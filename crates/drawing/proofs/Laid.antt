@@ -1,19 +1,17 @@
 -- Faces drawn one after the other are the layout of the quads drawn. Assumes nothing.
-use mathlib.Core.Path.{_≡_, refl, sym, ap, _∙_, subst}
-use mathlib.Core.Logic.{_≢_}
-use mathlib.Core.Bool.{Bool, true, false, cond, not, false≢true}
+use mathlib.Core.Path.{_≡_, refl, sym, ap, _∙_}
+use mathlib.Core.Bool.{Bool, true, false, cond}
 use mathlib.Core.List.{List, [], _∷_, _++_, append-assoc, append-nil}
 use Prim.Native.Nat.{ℕ, zero, suc, _+_, _-_, _*_, _≤_, _<_, max}
 use native.Mathlib.Nat.{mul-le-mul-left}
 use native.Mathlib.Omega.{arith}
-use lib.Dec.{eqb}
-use lib.ListN.{length, getD, set, take, drop, length-append, length-set}
+use lib.ListN.{length, getD, set, drop, length-append}
 use lib.Seq.{drop-cons, set-at, set-split}
-use borrow.Author.Tests.{eq-eqb, ne-eqb}
-use Rattle.rules.specs.Lists.{each, only, table, count, isNil}
+use borrow.Author.Tests.{ne-eqb}
+use Rattle.rules.specs.Lists.{each, only, table, count}
 use Rattle.rules.specs.Cells.{keyOf, linkOf, firstVertex, has, rank, quadsOf}
-use Rattle.rules.specs.Mesh.{Quad, Lists, NONE, at, there, placeOf, pattern, laid, slotOf, slotted, layout}
-use Rattle.rules.proofs.ListLaws.{All, all-append, all-each, all-only, split, length-table, getD-table, table-is, getD-row, length-row}
+use Rattle.rules.specs.Mesh.{Quad, Lists, NONE, at, pattern, laid, slotOf, slotted, layout}
+use Rattle.rules.proofs.ListLaws.{All, all-append, all-each, all-only, split, length-table}
 use Rattle.rules.proofs.Slotting.{slot-kept, slot-new}
 use Rattle.rules.proofs.Laying.{Sized, length-laid}
 use Rattle.vav.specs.Rows.{put}

@@ -10,14 +10,14 @@ use native.Mathlib.Omega.{arith}
 use lib.ListN.{length, getD, set, length-set}
 use lib.Seq.{set-getD, getD-set-other}
 use Rattle.rules.specs.Lists.{count}
-use Rattle.rules.specs.Cells.{Triple, has, rank, quadsOf, keyOf, linkOf, firstVertex}
+use Rattle.rules.specs.Cells.{has, rank, quadsOf, keyOf, linkOf, firstVertex}
 use Rattle.rules.specs.Mesh.{Quad, Lists, NONE, pattern, listsOf}
 use Rattle.rules.proofs.ListLaws.{split}
 use Rattle.vav.specs.Rows.{put}
 use Rattle.vav.proofs.Laws.{length-put}
 use Rattle.quads.proofs.Writing.{stored}
 use Rattle.drawing.specs.Drawn.{drawnAt, bareAt, faceDrawn, facesDrawn}
-use Rattle.drawing.specs.Rooms.{Room, Slotted, Ready, Bare}
+use Rattle.drawing.specs.Rooms.{Room, Slotted, Bare}
 
 pub same-lists : {a b c d e f g h : List ℕ} → a ≡ e → b ≡ f → c ≡ g → d ≡ h → listsOf a b c d ≡ listsOf e f g h
 same-lists p q r s = λ i. listsOf (p i) (q i) (r i) (s i)
@@ -84,11 +84,6 @@ room-kept k r =
 
 pub slotted-kept : {c : ℕ} {A B : Lists} → Kept A B → Slotted c A → Slotted c B
 slotted-kept k h = record { fits = h .fits; six = rw (k .slots) (h .six) }
-
-pub ready-kept : {cube : List ℕ} {n : ℕ} {a d : Triple} {set base c : ℕ} {A B : Lists} → Kept A B → Ready cube n a d set base c A
-    → Ready cube n a d set base c B
-ready-kept k h =
-    record { few = h .few; drawable = h .drawable; room = room-kept k (h .room); slotted = slotted-kept k (h .slotted) }
 
 pub kept-drawn : (s q : ℕ) (x : Quad) (B : Lists) → length (x .words) ≡ s → Room s (q + 1) B → Kept B (drawnAt s q x B)
 unfolding drawnAt

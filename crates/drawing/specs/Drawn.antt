@@ -1,7 +1,6 @@
 -- Quads written into the four lists, face by face and cell by cell. Definitions only.
 use Prim.Native.Nat.{ℕ, zero, suc, _+_, _*_}
 use mathlib.Core.Bool.{cond}
-use mathlib.Core.List.{List}
 use lib.ListN.{set, replicate}
 use Rattle.rules.specs.Cells.{keyOf, linkOf, firstVertex, has, rank, quadsOf}
 use Rattle.rules.specs.Mesh.{Quad, Lists, NONE, pattern}

@@ -1,11 +1,11 @@
 -- `drawing::draw_face` meets its contract. Assumes nothing.
-use mathlib.Core.Path.{_≡_, refl, sym, ap, _∙_}
+use mathlib.Core.Path.{_≡_, sym, ap, _∙_}
 use mathlib.Core.Bool.{Bool, true, cond}
-use Prim.Native.Nat.{ℕ, _+_, _*_}
+use Prim.Native.Nat.{_+_, _*_}
 use native.Mathlib.Omega.{arith}
 use borrow.Author.Needs.{needs}
 use Rattle.rules.specs.Cells.{has}
-use Rattle.rules.specs.Mesh.{Quad, Lists, listsOf}
+use Rattle.rules.specs.Mesh.{Lists, listsOf}
 use Rattle.face.specs.Face.{number}
 use Rattle.util.specs.Grid.{cordsOf}
 use Rattle.quads.specs.Quads.{quadOf}
