@@ -10,6 +10,7 @@ use lib.ListN.{length, getD}
 use Rattle.rules.specs.Cells.{Size, cells, cellAt, neighbour, has, setOf}
 use Rattle.rules.specs.Mesh.{drawn}
 use Rattle.util.specs.Grid.{Within}
+use Rattle.culling.specs.declared.Around.{Around}
 use Rattle.culling.specs.Culling.{worldOf}
 
 -- a whole grid whose codes are types
@@ -108,6 +109,9 @@ pub record Rows (size : Size) (y z at up down back forward sides : ℕ) : Type 0
   pub back-in : back + size .w ≤ cells size
   pub forward-in : forward + size .w ≤ cells size
   pub sides-are : sides ≡ rowSides size y z
+
+abbrev pub RowsOf : Size → ℕ → ℕ → Around → Type 0
+RowsOf size y z rows = Rows size y z (rows .at) (rows .up) (rows .down) (rows .back) (rows .forward) (rows .sides)
 
 -- a cell of the row: the sides with cells beside them, the sides of the edge, and where its neighbours in the row are
 pub record Placed (size : Size) (outer x y z at keep edge right left : ℕ) : Type 0 where

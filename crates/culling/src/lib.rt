@@ -17,7 +17,7 @@ ghost use Rattle.rules.specs.Mesh.{drawn};
 ghost use Rattle.face.specs.Face.{number};
 ghost use Rattle.util.specs.Grid.{sizeOf, cordsOf, Within};
 ghost use Rattle.culling.specs.Culling.{worldOf, outerSet, shownAt, Laid};
-ghost use Rattle.culling.specs.Rows.{Whole, RowShown, ClearBelow, FullFrom, Plainly, Plain, PlainAround, six, edgeSet, plainSet, plainAt, PlainRow, rowSides, Rows, Placed};
+ghost use Rattle.culling.specs.Rows.{Whole, RowShown, ClearBelow, FullFrom, Plainly, Plain, PlainAround, six, edgeSet, plainSet, plainAt, PlainRow, rowSides, RowsOf, Placed};
 
 // The faces of the outer list.
 pub fn outer_set(outer: &[u8]) -> u8
@@ -257,7 +257,7 @@ struct Around {
 
 fn rows_around(dims: Dimensions, y: u32, z: u32) -> Around
     requires { ⌜ Within (sizeOf dims) × (y < dims .height) × (z < dims .length) ⌝ }
-    ensures { λ r. ⌜ Rows (sizeOf dims) y z (r .at) (r .up) (r .down) (r .back) (r .forward) (r .sides) ⌝ }
+    ensures { λ r. ⌜ RowsOf (sizeOf dims) y z r ⌝ }
 {
     let row = dims.width as usize;
     let layer = layer_size(dims);
@@ -285,29 +285,24 @@ fn cell_set(
     full: u8,
     y: u32,
     z: u32,
-    at: usize,
-    up: usize,
-    down: usize,
-    back: usize,
-    forward: usize,
-    sides: u8,
+    rows: Around,
     x: usize,
     keep: u8,
     edge: u8,
     right: usize,
     left: usize,
 ) -> u8
-    requires { ⌜ Rows (sizeOf dims) y z at up down back forward sides × Placed (sizeOf dims) outer x y z at keep edge right left × (length (now grid) ≡ cells (sizeOf dims)) ⌝ }
+    requires { ⌜ RowsOf (sizeOf dims) y z rows × Placed (sizeOf dims) outer x y z (rows .at) keep edge right left × (length (now grid) ≡ cells (sizeOf dims)) ⌝ }
     ensures { λ r. ⌜ r ≡ plainAt (sizeOf dims) full outer (now (grid .entry)) (cellAt (sizeOf dims) x y z) ⌝ }
 {
     plain_set(
-        grid[at + x],
-        grid[up + x],
-        grid[down + x],
+        grid[rows.at + x],
+        grid[rows.up + x],
+        grid[rows.down + x],
         grid[right],
         grid[left],
-        grid[back + x],
-        grid[forward + x],
+        grid[rows.back + x],
+        grid[rows.forward + x],
         full,
         keep,
         edge,
@@ -322,22 +317,17 @@ fn lone_set(
     full: u8,
     y: u32,
     z: u32,
-    at: usize,
-    up: usize,
-    down: usize,
-    back: usize,
-    forward: usize,
-    sides: u8,
+    rows: Around,
     x: usize,
 ) -> u8
-    requires { ⌜ Rows (sizeOf dims) y z at up down back forward sides × (length (now grid) ≡ cells (sizeOf dims)) × (outer < 64) × (x < dims .width) ⌝ }
+    requires { ⌜ RowsOf (sizeOf dims) y z rows × (length (now grid) ≡ cells (sizeOf dims)) × (outer < 64) × (x < dims .width) ⌝ }
     ensures { λ r. ⌜ r ≡ plainAt (sizeOf dims) full outer (now (grid .entry)) (cellAt (sizeOf dims) x y z) ⌝ }
 {
     let width = dims.width as usize;
-    let keep = cell_sides(sides, x, width);
+    let keep = cell_sides(rows.sides, x, width);
     let edge = edge_set(keep, outer);
-    let right = step_ahead(at + x, 1, x, width);
-    let left = step_behind(at + x, 1, x);
+    let right = step_ahead(rows.at + x, 1, x, width);
+    let left = step_behind(rows.at + x, 1, x);
     cell_set(
         dims,
         outer,
@@ -345,12 +335,7 @@ fn lone_set(
         full,
         y,
         z,
-        at,
-        up,
-        down,
-        back,
-        forward,
-        sides,
+        rows,
         x,
         keep,
         edge,
@@ -367,25 +352,20 @@ fn block_of(
     full: u8,
     y: u32,
     z: u32,
-    at: usize,
-    up: usize,
-    down: usize,
-    back: usize,
-    forward: usize,
-    sides: u8,
+    rows: Around,
     x: usize,
 ) -> [u8; 16]
-    requires { ⌜ Rows (sizeOf dims) y z at up down back forward sides × (length (now grid) ≡ cells (sizeOf dims)) × (outer < 64) × (0 < x) × (x + 16 < dims .width) ⌝ }
+    requires { ⌜ RowsOf (sizeOf dims) y z rows × (length (now grid) ≡ cells (sizeOf dims)) × (outer < 64) × (0 < x) × (x + 16 < dims .width) ⌝ }
     ensures { λ r. ⌜ ((i : ℕ) → i < 16 → getD r i 0 ≡ plainAt (sizeOf dims) full outer (now (grid .entry)) (cellAt (sizeOf dims) (x + i) y z)) ⌝ }
 {
-    let keep = sides + 12;
+    let keep = rows.sides + 12;
     let edge = edge_set(keep, outer);
     let mut block: [u8; 16] = [0; 16];
     let mut i: usize = 0;
     while i < 16 {
         let on = x + i;
-        let right = at + on + 1;
-        let left = at + on - 1;
+        let right = rows.at + on + 1;
+        let left = rows.at + on - 1;
         block[i] = cell_set(
             dims,
             outer,
@@ -393,12 +373,7 @@ fn block_of(
             full,
             y,
             z,
-            at,
-            up,
-            down,
-            back,
-            forward,
-            sides,
+            rows,
             on,
             keep,
             edge,
@@ -440,14 +415,9 @@ fn inner_row(
     full: u8,
     y: u32,
     z: u32,
-    at: usize,
-    up: usize,
-    down: usize,
-    back: usize,
-    forward: usize,
-    sides: u8,
+    rows: Around,
 )
-    requires { ⌜ Rows (sizeOf dims) y z at up down back forward sides × (length (now grid) ≡ cells (sizeOf dims)) × (outer < 64) × (18 ≤ dims .width) × (dims .width ≤ length (now sets)) ⌝ }
+    requires { ⌜ RowsOf (sizeOf dims) y z rows × (length (now grid) ≡ cells (sizeOf dims)) × (outer < 64) × (18 ≤ dims .width) × (dims .width ≤ length (now sets)) ⌝ }
     ensures { λ _. ⌜ (length (now (sets .exit)) ≡ length (now (sets .entry)))
         × ((x : ℕ) → 0 < x → x + 1 < dims .width → getD (now (sets .exit)) x 0 ≡ plainAt (sizeOf dims) full outer (now (grid .entry)) (cellAt (sizeOf dims) x y z)) ⌝ }
 {
@@ -455,21 +425,7 @@ fn inner_row(
     let mut x: usize = 1;
     while x < end {
         let start = block_start(x, end);
-        let block = block_of(
-            dims,
-            outer,
-            grid,
-            full,
-            y,
-            z,
-            at,
-            up,
-            down,
-            back,
-            forward,
-            sides,
-            start,
-        );
+        let block = block_of(dims, outer, grid, full, y, z, rows, start);
         store_block(sets, start, block);
         x = start + 16;
     }
@@ -484,34 +440,15 @@ fn short_row(
     full: u8,
     y: u32,
     z: u32,
-    at: usize,
-    up: usize,
-    down: usize,
-    back: usize,
-    forward: usize,
-    sides: u8,
+    rows: Around,
 )
-    requires { ⌜ Rows (sizeOf dims) y z at up down back forward sides × (length (now grid) ≡ cells (sizeOf dims)) × (outer < 64) × (dims .width ≤ length (now sets)) ⌝ }
+    requires { ⌜ RowsOf (sizeOf dims) y z rows × (length (now grid) ≡ cells (sizeOf dims)) × (outer < 64) × (dims .width ≤ length (now sets)) ⌝ }
     ensures { λ _. ⌜ PlainRow (sizeOf dims) full outer (now (grid .entry)) y z (now (sets .exit)) ⌝ }
 {
     let width = dims.width as usize;
     let mut x: usize = 0;
     while x < width {
-        sets[x] = lone_set(
-            dims,
-            outer,
-            grid,
-            full,
-            y,
-            z,
-            at,
-            up,
-            down,
-            back,
-            forward,
-            sides,
-            x,
-        );
+        sets[x] = lone_set(dims, outer, grid, full, y, z, rows, x);
         x += 1;
     }
 }
@@ -527,80 +464,18 @@ fn plain_row(
     z: u32,
     rows: Around,
 )
-    requires { ⌜ Rows (sizeOf dims) y z (rows .at) (rows .up) (rows .down) (rows .back) (rows .forward) (rows .sides) × (length (now grid) ≡ cells (sizeOf dims)) × (outer < 64) × (dims .width ≤ length (now sets)) ⌝ }
+    requires { ⌜ RowsOf (sizeOf dims) y z rows × (length (now grid) ≡ cells (sizeOf dims)) × (outer < 64) × (dims .width ≤ length (now sets)) ⌝ }
     ensures { λ _. ⌜ PlainRow (sizeOf dims) full outer (now (grid .entry)) y z (now (sets .exit)) ⌝ }
 {
     let width = dims.width as usize;
-    let at = rows.at;
-    let up = rows.up;
-    let down = rows.down;
-    let back = rows.back;
-    let forward = rows.forward;
-    let sides = rows.sides;
     if width < 18 {
-        short_row(
-            sets,
-            dims,
-            outer,
-            grid,
-            full,
-            y,
-            z,
-            at,
-            up,
-            down,
-            back,
-            forward,
-            sides,
-        );
+        short_row(sets, dims, outer, grid, full, y, z, rows);
         return;
     }
-    inner_row(
-        sets,
-        dims,
-        outer,
-        grid,
-        full,
-        y,
-        z,
-        at,
-        up,
-        down,
-        back,
-        forward,
-        sides,
-    );
+    inner_row(sets, dims, outer, grid, full, y, z, rows);
     let end = width - 1;
-    sets[0] = lone_set(
-        dims,
-        outer,
-        grid,
-        full,
-        y,
-        z,
-        at,
-        up,
-        down,
-        back,
-        forward,
-        sides,
-        0,
-    );
-    sets[end] = lone_set(
-        dims,
-        outer,
-        grid,
-        full,
-        y,
-        z,
-        at,
-        up,
-        down,
-        back,
-        forward,
-        sides,
-        end,
-    );
+    sets[0] = lone_set(dims, outer, grid, full, y, z, rows, 0);
+    sets[end] = lone_set(dims, outer, grid, full, y, z, rows, end);
 }
 
 // The side sets of a row, cell by cell.
@@ -651,7 +526,7 @@ fn is_plain_row(
     z: u32,
     rows: Around,
 ) -> bool
-    requires { ⌜ Rows (sizeOf dims) y z (rows .at) (rows .up) (rows .down) (rows .back) (rows .forward) (rows .sides) × (length (now grid) ≡ cells (sizeOf dims)) ⌝ }
+    requires { ⌜ RowsOf (sizeOf dims) y z rows × (length (now grid) ≡ cells (sizeOf dims)) ⌝ }
     ensures { λ r. ⌜ (r ≡ true → PlainAround (sizeOf dims) clear full (now (grid .entry)) y z) ⌝ }
 {
     if full <= clear {

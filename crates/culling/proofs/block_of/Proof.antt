@@ -1,8 +1,5 @@
 -- `culling::block_of` meets its contract. Assumes nothing.
-use mathlib.Core.Path.{_≡_, _∙_}
-use Prim.Native.Nat.{ℕ, _+_, _-_, _≤_, _<_}
-use denote.Ref.{now}
-use lib.ListN.{length, getD}
+use Prim.Native.Nat.{_+_, _-_, _≤_}
 use Rattle.rules.specs.Cells.{cellAt}
 use Rattle.util.specs.Grid.{sizeOf}
 use Rattle.culling.specs.Rows.{plainAt}
@@ -13,17 +10,17 @@ use Rattle.culling.proofs.block_of.Statement.{statement}
 use Rattle.culling.proofs.block_of.Tie as tie
 
 abbrev Inv-loop : tie.InvT-loop
-Inv-loop dims outer grid full y z at up down back forward sides x keep edge block₀ i₀ block i =
+Inv-loop dims outer grid full y z rows x keep edge block₀ i₀ block i =
     (i ≤ 16) × Passed (λ k. plainAt (sizeOf dims) full outer grid (cellAt (sizeOf dims) (x + k) y z)) block₀ block i
 
 abbrev μ-loop : tie.MeasureT-loop
-μ-loop dims outer grid full y z at up down back forward sides x keep edge block₀ i₀ block i = 16 - i
+μ-loop dims outer grid full y z rows x keep edge block₀ i₀ block i = 16 - i
 
 add-keep : tie.Need-add-keep Inv-loop μ-loop
-add-keep c = omega (arith, few-sides (sizeOf (c .before .args .dims)) (c .before .pre .0))
+add-keep c = omega (arith, few-sides (sizeOf (c .before .before .args .dims)) (c .before .before .pre .0))
 
 edge-set-requires : tie.Need-edge-set-requires Inv-loop μ-loop
-edge-set-requires c κs = (omega (arith, few-sides (sizeOf (c .before .args .dims)) (c .before .pre .0)), c .before .pre .2)
+edge-set-requires c κs = (omega (arith, few-sides (sizeOf (c .before .before .args .dims)) (c .before .before .pre .0)), c .before .before .pre .2)
 
 loop-holds : tie.Need-loop-holds Inv-loop μ-loop
 loop-holds c = (omega arith, passed _ _)
@@ -45,8 +42,8 @@ sub-left c = omega arith
 
 cell-set-requires : tie.Need-cell-set-requires Inv-loop μ-loop
 cell-set-requires c κs =
-    let s = c .before .before .before .before in
-    (s .pre .0, inner-placed (sizeOf (s .args .dims)) (s .args .x + c .before .loop .i) (s .pre .0) (omega arith) (omega arith) (c .before .before .edge-set .ensures .1), s .pre .1)
+    let s = c .before .before .before .before .before .before .before in
+    (s .pre .0, inner-placed (sizeOf (s .args .dims)) (s .args .x + c .before .before .before .loop .i) (s .pre .0) (omega arith) (omega arith) (c .before .before .before .before .edge-set .ensures .1), s .pre .1)
 
 array-write-block : tie.Need-array-write-block Inv-loop μ-loop
 array-write-block c = search needs
@@ -59,7 +56,7 @@ loop-less c = search needs
 
 loop-again : tie.Need-loop-again Inv-loop μ-loop
 loop-again c =
-    let l = c .before .before .loop in
+    let l = c .before .before .before .before .loop in
     (omega arith, pass _ _ (l .inv .1) (omega (arith, l .inv .1 .long)) (c .cell-set .ensures))
 
 returns : tie.Need-returns Inv-loop μ-loop

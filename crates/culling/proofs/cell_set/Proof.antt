@@ -1,9 +1,8 @@
 -- `culling::cell_set` meets its contract. Assumes nothing.
-use mathlib.Core.Path.{_≡_, _∙_}
+use mathlib.Core.Path.{_∙_}
 use denote.Ref.{now}
 use Rattle.util.specs.Grid.{sizeOf}
 use Rattle.culling.proofs.Plain.{cell-is-plain, few-kept}
-use borrow.Author.Needs.{needs}
 use native.Mathlib.Omega.{arith}
 use Rattle.culling.proofs.cell_set.Statement.{statement}
 use Rattle.culling.proofs.cell_set.Tie as tie
@@ -45,11 +44,11 @@ shared-slice-read-plain-set-7 : tie.Need-shared-slice-read-plain-set-7
 shared-slice-read-plain-set-7 c = omega arith
 
 plain-set-requires : tie.Need-plain-set-requires
-plain-set-requires c κs = let s = c .before .before .before .before .before .before .before .before in few-kept (sizeOf (s .args .dims)) (s .pre .1)
+plain-set-requires c κs = let s = c .before .before .before .before .before .before .before .before .before .before .before .before .before in few-kept (sizeOf (s .args .dims)) (s .pre .1)
 
 returns : tie.Need-returns
 returns c =
-    let s = c .before .before .before .before .before .before .before .before .before in
+    let s = c .before .before .before .before .before .before .before .before .before .before .before .before .before .before in
     c .plain-set .ensures ∙ cell-is-plain (sizeOf (s .args .dims)) (s .args .full) (s .args .outer) (now (s .args .grid)) (s .pre .0) (s .pre .1)
 
 pub cell-set-spec : {M : Type 1} → statement M

@@ -1,8 +1,6 @@
 -- `culling::clear_types` meets its contract: every type passed is clear. Assumes nothing.
-use mathlib.Core.Path.{_≡_}
-use Prim.Native.Nat.{ℕ, _-_, _≤_, _<_}
-use denote.Ref.{now}
-use lib.ListN.{length, getD}
+use Prim.Native.Nat.{_-_, _≤_}
+use lib.ListN.{length}
 use Rattle.culling.specs.Rows.{ClearBelow}
 use Rattle.culling.proofs.Plain.{no-clear, one-clear}
 use borrow.Author.Needs.{needs}

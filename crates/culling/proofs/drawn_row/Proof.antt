@@ -1,5 +1,5 @@
 -- `culling::drawn_row` meets its contract. Assumes nothing.
-use mathlib.Core.Path.{_≡_, _∙_}
+use mathlib.Core.Path.{_∙_}
 use denote.Ref.{now}
 use Rattle.util.specs.Grid.{sizeOf}
 use Rattle.culling.proofs.Plain.{row-is-drawn}

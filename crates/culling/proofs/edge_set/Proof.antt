@@ -1,8 +1,6 @@
 -- `culling::edge_set` meets its contract. Assumes nothing.
-use lib.Bits.{bitOr, or-lt}
-use Rattle.culling.specs.Rows.{edgeSet}
+use lib.Bits.{or-lt}
 use Rattle.culling.proofs.Plain.{edge-is}
-use borrow.Author.Needs.{needs}
 use native.Mathlib.Omega.{arith}
 use Rattle.culling.proofs.edge_set.Statement.{statement}
 use Rattle.culling.proofs.edge_set.Tie as tie

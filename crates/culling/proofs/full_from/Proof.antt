@@ -1,8 +1,8 @@
 -- `culling::full_from` meets its contract: every type passed is full. Assumes nothing.
 use mathlib.Core.Path.{_≡_, subst}
-use Prim.Native.Nat.{ℕ, _-_, _≤_, _<_}
+use Prim.Native.Nat.{ℕ, _-_, _≤_}
 use denote.Ref.{now}
-use lib.ListN.{length, getD}
+use lib.ListN.{length}
 use Rattle.culling.specs.Rows.{FullFrom}
 use Rattle.culling.proofs.Plain.{no-full, one-full}
 use borrow.Author.Needs.{needs}

@@ -1,7 +1,6 @@
 -- `culling::layer_size` meets its contract. Assumes nothing.
 use Rattle.util.specs.Grid.{sizeOf}
 use Rattle.util.proofs.Cells.{layer-fits}
-use borrow.Author.Needs.{needs}
 use native.Mathlib.Omega.{arith}
 use Rattle.culling.proofs.layer_size.Statement.{statement}
 use Rattle.culling.proofs.layer_size.Tie as tie

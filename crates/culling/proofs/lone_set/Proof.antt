@@ -1,6 +1,4 @@
 -- `culling::lone_set` meets its contract. Assumes nothing.
-use mathlib.Core.Path.{_≡_, _∙_}
-use denote.Ref.{now}
 use Rattle.util.specs.Grid.{sizeOf}
 use Rattle.culling.proofs.Plain.{few-sides, few-beside, lone-kept, lone-placed}
 use borrow.Author.Needs.{needs}
@@ -35,10 +33,10 @@ step-behind-requires c κs = search needs
 
 cell-set-requires : tie.Need-cell-set-requires
 cell-set-requires c κs =
-    let s = c .before .before .before .before .before .before in (
+    let s = c .before .before .before .before .before .before .before .before in (
       s .pre .0,
-      lone-placed (sizeOf (s .args .dims)) (s .args .x) (s .pre .0) (s .pre .3) (c .before .before .before .cell-sides .ensures) (c .before .before .edge-set .ensures .1)
-          (c .before .step-ahead .ensures) (c .step-behind .ensures),
+      lone-placed (sizeOf (s .args .dims)) (s .args .x) (s .pre .0) (s .pre .3) (c .before .before .before .before .before .cell-sides .ensures) (c .before .before .before .before .edge-set .ensures .1)
+          (c .before .before .step-ahead .ensures) (c .step-behind .ensures),
       s .pre .1,
     )
 

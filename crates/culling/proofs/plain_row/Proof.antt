@@ -1,7 +1,6 @@
 -- `culling::plain_row` meets its contract: the blocks, then the two ends. Assumes nothing.
-use mathlib.Core.Path.{_≡_, _∙_}
 use denote.Ref.{now}
-use lib.ListN.{length, length-set}
+use lib.ListN.{length-set}
 use Rattle.rules.specs.Cells.{cellAt}
 use Rattle.util.specs.Grid.{sizeOf}
 use Rattle.culling.specs.Rows.{plainAt}

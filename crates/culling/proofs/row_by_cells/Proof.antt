@@ -1,9 +1,9 @@
 -- `culling::row_by_cells` meets its contract. Assumes nothing.
-use mathlib.Core.Path.{_≡_, refl, sym, ap, _∙_}
+use mathlib.Core.Path.{_≡_, refl, ap, _∙_}
 use mathlib.Core.List.{List}
-use Prim.Native.Nat.{ℕ, _+_, _-_, _≤_, _<_}
+use Prim.Native.Nat.{ℕ, _+_, _-_, _≤_}
 use denote.Ref.{now}
-use lib.ListN.{length, getD, length-set}
+use lib.ListN.{length, length-set}
 use Rattle.rules.specs.Cells.{cellAt, setOf}
 use Rattle.rules.specs.Mesh.{drawn}
 use Rattle.util.specs.Grid.{sizeOf}

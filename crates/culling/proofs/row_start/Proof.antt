@@ -5,7 +5,6 @@ use Rattle.rules.specs.Cells.{Size, cells, cellAt}
 use Rattle.util.specs.Grid.{sizeOf}
 use Rattle.util.proofs.Cells.{plane-fits}
 use Rattle.culling.proofs.Plain.{row-start, row-in}
-use borrow.Author.Needs.{needs}
 use native.Mathlib.Omega.{arith}
 use Rattle.culling.proofs.row_start.Statement.{statement}
 use Rattle.culling.proofs.row_start.Tie as tie

@@ -1,8 +1,6 @@
 -- `culling::store_block` meets its contract. Assumes nothing.
-use mathlib.Core.Path.{_≡_, refl, _∙_}
-use Prim.Native.Nat.{ℕ, _+_, _-_, _≤_, _<_}
-use denote.Ref.{now}
-use lib.ListN.{length, getD}
+use mathlib.Core.Path.{refl}
+use Prim.Native.Nat.{_-_, _≤_}
 use Rattle.culling.proofs.Plain.{Stored, stored, store}
 use borrow.Author.Needs.{needs}
 use native.Mathlib.Omega.{arith}
