@@ -195,6 +195,8 @@ pub fn append_quad(
     let floats = floats_of(scene.coloured);
     let start = 24 * floats * (voxel as usize);
     let end = start + 24 * floats;
+    let at = three_d_cords(cell, scene.dims);
+    let d = scene.d;
     draw_quad(
         vertices,
         triangles,
@@ -204,8 +206,12 @@ pub fn append_quad(
         floats,
         cell,
         face,
-        three_d_cords(cell, scene.dims),
-        scene.d,
+        at.x,
+        at.y,
+        at.z,
+        d.x,
+        d.y,
+        d.z,
         count,
     );
     count + 1

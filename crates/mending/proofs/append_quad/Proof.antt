@@ -44,8 +44,11 @@ mul-end c = search needs
 add-end : tie.Need-add-end
 add-end c = omega (arith, words c, ends c)
 
+three-d-cords-requires : tie.Need-three-d-cords-requires
+three-d-cords-requires c κs = search needs
+
 mul-draw-quad : tie.Need-mul-draw-quad
-mul-draw-quad c = omega (arith, ends (c .before .before .before .before))
+mul-draw-quad c = omega (arith, ends (c .before .before .before .before .before .before))
 
 sub-draw-quad : tie.Need-sub-draw-quad
 sub-draw-quad c = search needs
@@ -54,21 +57,19 @@ part-draw-quad-start : tie.Need-part-draw-quad-start
 part-draw-quad-start c = search needs
 
 part-draw-quad-end : tie.Need-part-draw-quad-end
-part-draw-quad-end c = omega (arith, ends (c .before .before .before .before))
-
-three-d-cords-requires : tie.Need-three-d-cords-requires
-three-d-cords-requires c κs = search needs
+part-draw-quad-end c = omega (arith, ends (c .before .before .before .before .before .before))
 
 draw-quad-requires : tie.Need-draw-quad-requires
 draw-quad-requires c κs =
-    let sized = c .before .before .before .before .before .before in
+    let placed = c .before .before .before .before .before .before in
+    let sized = placed .before in
     let t = sized .before .before .before .before .before .before in
     let a = t .args in
     let g = t .pre .0 in
     let inside = g .inside in
     let most = g .within .most in
     let six = g .slots in (
-      lent-drawable (scene t) (a .voxel) (a .cell .0) _ _ (lists t) g (t .pre .1) (sized .floats-of .ensures) (c .three-d-cords .ensures),
+      lent-drawable (scene t) (a .voxel) (a .cell .0) _ _ (lists t) g (t .pre .1) (sized .floats-of .ensures) (placed .three-d-cords .ensures),
       rw (sized .floats-of .ensures) (t .pre .2),
       record { fits = omega arith; six = omega arith },
     )
@@ -91,8 +92,8 @@ same-length-4 c = search needs
 returns : tie.Need-returns
 returns c =
     let drew = c .before .before .before .before .before .before .before .before in
-    let placed = drew .before in
-    let sized = placed .before .before .before .before .before .before in
+    let placed = drew .before .before .before .before .before .before .before in
+    let sized = placed .before in
     let t = sized .before .before .before .before .before .before in
     let a = t .args in
     let e = drew .draw-quad .ensures
@@ -108,11 +109,11 @@ append-quad-spec =
     mul-start-2
     mul-end
     add-end
+    three-d-cords-requires
     mul-draw-quad
     sub-draw-quad
     part-draw-quad-start
     part-draw-quad-end
-    three-d-cords-requires
     draw-quad-requires
     add-result
     same-length
