@@ -23,7 +23,7 @@ use Rattle.checking.specs.Faces.{isFilled, unlike, wrongSlot}
 
 -- ---- searches
 
-passed-many : (n : ℕ) (bad : ℕ → Bool) (t k : ℕ) → t + k ≤ n → Searched n bad t → ((f : ℕ) → f < k → bad (t + f) ≡ false) → Searched n bad (t + k)
+pub passed-many : (n : ℕ) (bad : ℕ → Bool) (t k : ℕ) → t + k ≤ n → Searched n bad t → ((f : ℕ) → f < k → bad (t + f) ≡ false) → Searched n bad (t + k)
 passed-many n bad t zero h s none = let e : t + 0 ≡ t = omega arith in rw e s
 passed-many n bad t (suc k) h s none =
     let before = passed-many n bad t k (omega arith) s (λ f l. none f (omega arith)) in

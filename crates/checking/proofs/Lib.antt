@@ -1,3 +1,4 @@
 pub mod Faces
+pub mod Rows
 pub mod Compared
 pub mod Checked

@@ -1,5 +1,5 @@
 -- WRONG_SET, told by slots: after BAD_LINKS has passed, a face is there exactly if its slot is filled. Definitions only.
-use Prim.Native.Nat.{ℕ, _*_, _/_, _%_, _≤_, _<_}
+use Prim.Native.Nat.{ℕ, _+_, _*_, _/_, _%_, _≤_, _<_}
 use mathlib.Core.Path.{_≡_}
 use mathlib.Core.Bool.{Bool, cond, not}
 use mathlib.Core.List.{List}
@@ -22,6 +22,10 @@ unlike a b = cond a (not b) b
 -- a face that is drawn and not there, or there and not drawn
 abbrev pub wrongSlot : World → List ℕ → List ℕ → List ℕ → ℕ → Bool
 wrongSlot W outer g slots k = unlike (drawn W outer g (k / 6) (k % 6)) (isFilled slots k)
+
+-- the same in a row of cells from `first` on, by the sides that each is to show, its faces counted from the row's first
+abbrev pub wrongInRow : (ℕ → ℕ → Bool) → List ℕ → ℕ → ℕ → Bool
+wrongInRow sides slots first k = unlike (sides (k / 6) (k % 6)) (isFilled slots (6 * first + k))
 
 -- a whole grid whose codes are types, with six slots a cell
 pub record Gridded (size : Size) (g slots : List ℕ) (types : ℕ) : Type 0 where

@@ -6,29 +6,30 @@ use answers::Verdict;
 use answers::is_refusal;
 use answers::refuse_if;
 use books::book_verdict;
-use culling::drawn_set;
+use culling::clear_types;
+use culling::drawn_row;
+use culling::full_from;
 use culling::outer_set;
 use face::Cell;
 use face::NONE;
 use util::Dimensions;
-use util::next_x;
 use util::next_y;
 use util::next_z;
 use words::first_wrong_quad;
 ghost use mathlib.Core.Path.{_≡_};
-ghost use mathlib.Core.Bool.{cond};
+ghost use mathlib.Core.Bool.{Bool, cond};
 ghost use mathlib.Core.List.{List};
 ghost use Prim.Native.Nat.{ℕ, _+_, _*_, _≤_, _<_};
-ghost use lib.ListN.{length};
+ghost use lib.ListN.{length, getD};
 ghost use Rattle.rules.specs.Lists.{lowest};
-ghost use Rattle.rules.specs.Cells.{cells, has};
+ghost use Rattle.rules.specs.Cells.{cells, has, setOf};
 ghost use Rattle.rules.specs.Calls.{checkVerdict};
 ghost use Rattle.answers.specs.Verdicts.{verdictOf};
 ghost use Rattle.util.specs.Grid.{sizeOf};
 ghost use Rattle.admit.specs.Scenes.{sceneOf};
 ghost use Rattle.rules.specs.Mesh.{listsOf};
 ghost use Rattle.culling.specs.Culling.{worldOf, outerSet};
-ghost use Rattle.checking.specs.Faces.{filledSet, unlike, wrongSlot, Gridded};
+ghost use Rattle.checking.specs.Faces.{filledSet, unlike, wrongSlot, wrongInRow, Gridded};
 
 pub mod words; // words.rt: the words of the quads, compared
 
@@ -66,6 +67,61 @@ fn lowest_unlike(a: u8, b: u8) -> usize
     face
 }
 
+// The lowest face of a row of cells that its side set has and its slots have not, or they have and it has not, counted from the row's first; or how many there are.
+fn lowest_in_row(sets: &[u8], slots: &[u32], first: usize) -> usize
+    requires { ⌜ (6 * (first + length (now sets)) ≤ length (now slots)) × (first + length (now sets) ≤ 1048576) ⌝ }
+    ensures { λ r. ⌜ ((sides : ℕ → ℕ → Bool) → ((x : ℕ) → x < length (now (sets .entry)) → getD (now (sets .entry)) x 0 ≡ setOf (sides x))
+        → r ≡ lowest (6 * length (now (sets .entry))) (wrongInRow sides (now (slots .entry)) first)) ⌝ }
+{
+    let mut x: usize = 0;
+    while x < sets.len() {
+        let drawn = sets[x];
+        let filled = filled_set(slots, first + x);
+        if drawn != filled {
+            return 6 * x + lowest_unlike(drawn, filled);
+        }
+        x += 1;
+    }
+    6 * x
+}
+
+// Searches row by row; `sets` is room for a row.
+fn lowest_by_rows(
+    dims: Dimensions,
+    outer: u8,
+    grid: &[u8],
+    kinds: &[u8],
+    covers: &[u8],
+    slots: &[u32],
+    sets: &mut [u8],
+) -> usize
+    requires { ⌜ Gridded (sizeOf dims) (now grid) (now slots) (length (now covers)) × (length (now covers) ≡ length (now kinds)) × (length (now kinds) ≤ 255)
+        × (outer < 64) × (dims .width ≤ length (now sets)) ⌝ }
+    ensures { λ r. ⌜ ((faces : List ℕ) → outer ≡ outerSet faces → r ≡ lowest (6 * cells (sizeOf dims)) (wrongSlot (worldOf (sizeOf dims) (now (kinds .entry)) (now (covers .entry))) faces (now (grid .entry)) (now (slots .entry)))) ⌝ }
+{
+    let clear = clear_types(kinds, covers);
+    let full = full_from(kinds, covers);
+    let width = dims.width as usize;
+    let end = dims.cell_count();
+    let mut y: u32 = 0;
+    let mut z: u32 = 0;
+    let mut c: u32 = 0;
+    while c < end {
+        drawn_row(sets, dims, outer, grid, kinds, covers, clear, full, y, z);
+        let start = c as usize;
+        let face = lowest_in_row(&sets[..width], slots, start);
+        if face < 6 * width {
+            return 6 * start + face;
+        }
+        let last = c + (dims.width - 1);
+        let to_y = next_y(Cell(last), dims.width - 1, y, z, dims);
+        z = next_z(Cell(last), dims.width - 1, y, z, dims);
+        y = to_y;
+        c = last + 1;
+    }
+    6 * end as usize
+}
+
 // The lowest face that is drawn and not there, or there and not drawn, or the number of faces.
 fn lowest_wrong_face(
     dims: Dimensions,
@@ -75,29 +131,12 @@ fn lowest_wrong_face(
     covers: &[u8],
     slots: &[u32],
 ) -> usize
-    requires { ⌜ Gridded (sizeOf dims) (now grid) (now slots) (length (now covers)) × (length (now covers) ≡ length (now kinds)) ⌝ }
+    requires { ⌜ Gridded (sizeOf dims) (now grid) (now slots) (length (now covers)) × (length (now covers) ≡ length (now kinds)) × (length (now kinds) ≤ 255)
+        × (outer < 64) ⌝ }
     ensures { λ r. ⌜ ((faces : List ℕ) → outer ≡ outerSet faces → r ≡ lowest (6 * cells (sizeOf dims)) (wrongSlot (worldOf (sizeOf dims) (now (kinds .entry)) (now (covers .entry))) faces (now (grid .entry)) (now (slots .entry)))) ⌝ }
 {
-    let cells = dims.cell_count();
-    let mut x: u32 = 0;
-    let mut y: u32 = 0;
-    let mut z: u32 = 0;
-    let mut cell: u32 = 0;
-    while cell < cells {
-        let here = cell as usize;
-        let drawn = drawn_set(dims, outer, grid, kinds, covers, Cell(cell), x, y, z);
-        let filled = filled_set(slots, here);
-        if drawn != filled {
-            return 6 * here + lowest_unlike(drawn, filled);
-        }
-        let to_x = next_x(Cell(cell), x, y, z, dims);
-        let to_y = next_y(Cell(cell), x, y, z, dims);
-        z = next_z(Cell(cell), x, y, z, dims);
-        x = to_x;
-        y = to_y;
-        cell += 1;
-    }
-    6 * cell as usize
+    let mut sets: [u8; 1024] = [0; 1024];
+    lowest_by_rows(dims, outer, grid, kinds, covers, slots, &mut sets)
 }
 
 // Tries the refusals in their order; a mesh that passes is right.

@@ -6,6 +6,8 @@ use Rattle.rules.specs.Mesh.{Lists, decode, listsOf}
 use Rattle.rules.specs.Answers.{Verdict, fine, _then_, WRONG-SET}
 use Rattle.rules.specs.Calls as rules
 use Rattle.rules.specs.Calls.{world, span, openVerdict, bookVerdict}
+use Rattle.rules.specs.Lists.{member}
+use Rattle.rules.proofs.Sets.{setOf-lt}
 use Rattle.answers.specs.Verdicts.{verdictOf, refuses}
 use Rattle.admit.specs.Scenes.{sceneOf}
 use Rattle.answers.proofs.Chains.{stops, passes, goes}
@@ -112,6 +114,8 @@ lowest-wrong-face-requires c κs =
       gridded (args .scene) (now (args .kinds)) (now (args .covers)) (now (args .cubes)) (now (args .outer)) (now (args .grid)) (lists (start opened))
           (args .count) o,
       o .input .typed .covered,
+      o .input .typed .counted .few,
+      rw (c .outer-set .ensures) (setOf-lt (λ f. member f (now (args .outer)))),
     )
 
 cast-refuse-if : tie.Need-cast-refuse-if
