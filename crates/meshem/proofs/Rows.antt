@@ -1,4 +1,4 @@
--- The cells of a row, and rows drawn one after the other. Assumes nothing.
+-- Cells drawn one after the other, and a row of them. Assumes nothing.
 use mathlib.Core.Path.{_≡_, refl, sym, ap, _∙_}
 use mathlib.Core.Logic.{_≢_}
 use mathlib.Core.List.{List}
@@ -6,73 +6,18 @@ use Prim.Native.Nat.{ℕ, zero, suc, _+_, _-_, _*_, _≤_, _<_}
 use native.Mathlib.Omega.{arith}
 use lib.ListN.{length, getD, take}
 use lib.Seq.{getD-take, length-take-le}
-use Rattle.rules.specs.Cells.{Size, Triple, cells, cellAt, xOf, yOf, zOf, coordinates, keyOf, quadsOf}
+use Rattle.rules.specs.Cells.{keyOf, quadsOf}
 use Rattle.rules.specs.Mesh.{Quad, Lists, typeAt, quadAt}
 use Rattle.rules.specs.Calls.{Scene, world, span}
-use Rattle.rules.proofs.Neighbours.{Inside, inside-of, cellAt-in, cellAt-coordinates, coordinates-cellAt}
 use Rattle.rules.proofs.Demands.{words-sized}
-use Rattle.util.specs.Grid.{Within, cordsOf}
-use Rattle.util.proofs.Nexts.{first, next, together}
+use Rattle.util.specs.Grid.{Starts}
+use Rattle.util.proofs.Rows.{row-end}
 use Rattle.drawing.specs.Drawn.{facesDrawn, cellsDrawn, asked}
 use Rattle.drawing.specs.Rooms.{Room, Bare}
 use Rattle.drawing.proofs.Bare.{stays-bare}
 use Rattle.drawing.proofs.Turns.{Kept, kept-none, kept-then, kept-faces, room-less, room-kept}
-use Rattle.meshem.specs.Fresh.{Starts, RowOf, setsFrom, CellReady, RowReady}
+use Rattle.meshem.specs.Fresh.{RowOf, setsFrom, CellReady, RowReady}
 use Rattle.meshem.proofs.Sets.{quads-le}
-
-pub first-row : (s : Size) → Within s → Starts s 0 0 0
-first-row s k = record { inside = some-cell; cords = first s }
-  where
-    some-cell : 0 < cells s
-    some-cell =
-        let a : 0 < s .w = k .sides .wide in
-        let b : 0 < s .h = k .sides .high in
-        let c : 0 < s .l = k .sides .long in
-        omega (arith, cellAt-in s a b c)
-
-module _ (s : Size) {c y z : ℕ} (within : Within s) (starts : Starts s c y z) where
-  there : Inside s c
-  there = inside-of s c (within .sides .wide) (within .sides .long) (starts .inside)
-
-  y-is : y ≡ yOf s c
-  y-is = ap (λ (v : Triple). v .y) (starts .cords)
-
-  z-is : z ≡ zOf s c
-  z-is = ap (λ (v : Triple). v .z) (starts .cords)
-
-  pub high : y < s .h
-  high = rw y-is (there .y)
-
-  pub long : z < s .l
-  long = rw z-is (there .z)
-
-  start-is : cellAt s 0 y z ≡ c
-  start-is = (λ i. cellAt s (starts .cords i .x) (starts .cords i .y) (starts .cords i .z)) ∙ cellAt-coordinates s c
-
-  pub cell-is : (x : ℕ) → cellAt s x y z ≡ c + x
-  cell-is x = omega (arith, start-is)
-
-  pub row-end : c + s .w ≤ cells s
-  row-end =
-      let w = within .sides .wide in
-      let l : s .w - 1 < s .w = omega arith in
-      omega (arith, cellAt-in s l high long, cell-is (s .w - 1))
-
-  pub row-cords : (x : ℕ) → x < s .w → cordsOf x y z ≡ coordinates s (c + x)
-  row-cords x h = sym (coordinates-cellAt s h long) ∙ ap (coordinates s) (cell-is x)
-
-  -- its last cell, and the row after it
-  pub last-in : c + (s .w - 1) < cells s
-  last-in = let w = within .sides .wide in omega (arith, row-end)
-
-  pub last-cords : cordsOf (s .w - 1) y z ≡ coordinates s (c + (s .w - 1))
-  last-cords = let w = within .sides .wide in row-cords (s .w - 1) (omega arith)
-
-  pub next-cords : {y′ z′ : ℕ} → y′ ≡ yOf s (c + (s .w - 1) + 1) → z′ ≡ zOf s (c + (s .w - 1) + 1) → cordsOf 0 y′ z′ ≡ coordinates s (c + (s .w - 1) + 1)
-  next-cords p q =
-      let w = within .sides .wide in
-      let n = next s (c + (s .w - 1)) within last-in last-cords in
-      together s (c + (s .w - 1) + 1) (n .wraps (omega arith)) p q
 
 -- ---- cells drawn, some and then the others
 pub asked-split : (sets : ℕ → ℕ) (m n c : ℕ) → asked sets c (m + n) ≡ asked sets c m + asked sets (c + m) n

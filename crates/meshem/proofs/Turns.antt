@@ -29,9 +29,11 @@ use Rattle.drawing.proofs.Bare.{kept-bare-cells}
 use Rattle.quads.specs.Quads.{Drawable}
 use Rattle.drawing.specs.Rooms.{Room, Bare}
 use Rattle.drawing.proofs.Turns.{Kept, room-less, room-kept}
-use Rattle.meshem.specs.Fresh.{setAt, facesOf, Roomy, Starts, RowOf, setsFrom, RowReady}
+use Rattle.util.specs.Grid.{Starts}
+use Rattle.meshem.specs.Fresh.{setAt, facesOf, Roomy, RowOf, setsFrom, RowReady}
 use Rattle.meshem.proofs.Sets.{set-below}
-use Rattle.meshem.proofs.Rows.{row-end, asked-le, asked-few, asked-moved, asked-on, kept-cells, bare-cells, drawn-like, drawn-on}
+use Rattle.util.proofs.Rows.{row-end}
+use Rattle.meshem.proofs.Rows.{asked-le, asked-few, asked-moved, asked-on, kept-cells, bare-cells, drawn-like, drawn-on}
 
 -- the sets ask nothing of the words of quads
 pub set-world : (S : Scene) (culling : Bool) (outer g : List ℕ) (c : ℕ)

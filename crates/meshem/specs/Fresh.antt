@@ -9,7 +9,7 @@ use Rattle.rules.specs.Cells.{Size, cells, coordinates, has, setOf, quadsOf}
 use Rattle.rules.specs.Types.{floats, cubeOf}
 use Rattle.rules.specs.Mesh.{World, Lists, typeAt, isNormalCube, drawn}
 use Rattle.rules.specs.Calls.{Scene, world, span, faces, room}
-use Rattle.util.specs.Grid.{Within, cordsOf}
+use Rattle.util.specs.Grid.{Within}
 use Rattle.culling.specs.Rows.{Whole, Plainly}
 use Rattle.quads.specs.Quads.{Drawable}
 use Rattle.drawing.specs.Rooms.{Room, Ready, Bare}
@@ -26,11 +26,6 @@ setAt culling W outer g c = setOf (sideDrawn culling W outer g c)
 -- the faces of a side set
 abbrev pub facesOf : ℕ → List ℕ
 facesOf set = each 6 0 (λ f. only (has set f) f)
-
--- the row of y and z starts at cell c
-pub record Starts (size : Size) (c y z : ℕ) : Type 0 where
-  pub inside : c < cells size
-  pub cords : cordsOf 0 y z ≡ coordinates size c
 
 -- a whole grid, and what is known of its types
 pub record Rows (size : Size) (g kinds covers : List ℕ) (clear full : ℕ) : Type 0 where

@@ -24,13 +24,13 @@ ghost use lib.ListN.{length, getD};
 ghost use Rattle.rules.specs.Cells.{cells, quadsOf, coordinates};
 ghost use Rattle.rules.specs.Mesh.{quadAt, listsOf};
 ghost use Rattle.rules.specs.Calls.{world, span, meshGrid};
-ghost use Rattle.util.specs.Grid.{sizeOf, cordsOf};
+ghost use Rattle.util.specs.Grid.{sizeOf, cordsOf, Starts};
 ghost use Rattle.admit.specs.Scenes.{sceneOf};
 ghost use Rattle.culling.specs.Culling.{worldOf};
 ghost use Rattle.culling.specs.Rows.{Whole};
 ghost use Rattle.drawing.specs.Rooms.{Bare};
 ghost use Rattle.drawing.specs.Drawn.{facesDrawn, cellsDrawn, asked};
-ghost use Rattle.meshem.specs.Fresh.{setAt, facesOf, Starts, Rows, RowOf, setsFrom, Roomy, CellReady, RowReady};
+ghost use Rattle.meshem.specs.Fresh.{setAt, facesOf, Rows, RowOf, setsFrom, Roomy, CellReady, RowReady};
 ghost use Rattle.meshem.specs.Outcome.{isCulling, outcome};
 
 pub enum MeshingAlgorithm {

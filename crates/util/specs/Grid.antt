@@ -1,7 +1,8 @@
 -- The grid's declared types as those of the rules. Definitions only.
-use Prim.Native.Nat.{ℕ, _≤_}
+use Prim.Native.Nat.{ℕ, _≤_, _<_}
+use mathlib.Core.Path.{_≡_}
 use mathlib.Core.Option.{Option, none, some}
-use Rattle.rules.specs.Cells.{Size, Triple, cells}
+use Rattle.rules.specs.Cells.{Size, Triple, cells, coordinates}
 use Rattle.util.specs.declared.Dimensions.{Dimensions}
 use Rattle.util.specs.declared.Coordinates.{Coordinates}
 use Rattle.util.specs.declared.Neighbor.{Neighbor}
@@ -33,3 +34,8 @@ pub record Sides (s : Size) : Type 0 where
 pub record Within (s : Size) : Type 0 where
   pub sides : Sides s
   pub most : cells s ≤ 1048576
+
+-- cell c starts the row of y and z
+pub record Starts (s : Size) (c y z : ℕ) : Type 0 where
+  pub inside : c < cells s
+  pub cords : cordsOf 0 y z ≡ coordinates s c

@@ -12,11 +12,12 @@ use Rattle.rules.specs.Lists.{lowest}
 use Rattle.rules.specs.Cells.{Size, cells, coordinates, setOf}
 use Rattle.rules.specs.Mesh.{World, drawn}
 use Rattle.rules.proofs.Searches.{Searched, searched, ended}
-use Rattle.util.specs.Grid.{sizeOf, Within, cordsOf}
+use Rattle.util.specs.Grid.{Starts, sizeOf, Within, cordsOf}
 use Rattle.util.proofs.Nexts.{first}
 use Rattle.culling.specs.Culling.{worldOf, outerSet}
 use Rattle.checking.specs.Faces.{wrongSlot, wrongInRow}
-use Rattle.checking.proofs.Rows.{Starts, high, long, cell-is, row-end, last-in, last-cords, next-cords, row-right, row-wrong}
+use Rattle.util.proofs.Rows.{high, long, cell-is, row-end, last-in, last-cords, next-cords}
+use Rattle.checking.proofs.Rows.{row-right, row-wrong}
 use Rattle.checking.proofs.lowest_by_rows.Statement.{statement}
 use Rattle.checking.proofs.lowest_by_rows.Tie as tie
 

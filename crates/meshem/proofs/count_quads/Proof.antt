@@ -9,13 +9,14 @@ use denote.Ref.{now}
 use lib.ListN.{length, getD, take}
 use lib.Seq.{getD-take, length-take-le}
 use Rattle.rules.specs.Cells.{Size, cells, coordinates}
-use Rattle.util.specs.Grid.{sizeOf, Within, cordsOf}
+use Rattle.util.specs.Grid.{Starts, sizeOf, Within, cordsOf}
 use Rattle.util.proofs.Nexts.{first}
 use Rattle.culling.specs.Culling.{worldOf}
 use Rattle.drawing.specs.Drawn.{asked}
-use Rattle.meshem.specs.Fresh.{setAt, facesOf, Starts, RowOf}
+use Rattle.meshem.specs.Fresh.{setAt, facesOf, RowOf}
 use Rattle.meshem.proofs.Sets.{set-below}
-use Rattle.meshem.proofs.Rows.{row-end, last-in, last-cords, next-cords, asked-few, asked-row, asked-on}
+use Rattle.util.proofs.Rows.{row-end, last-in, last-cords, next-cords}
+use Rattle.meshem.proofs.Rows.{asked-few, asked-row, asked-on}
 use Rattle.meshem.proofs.count_quads.Statement.{statement}
 use Rattle.meshem.proofs.count_quads.Tie as tie
 

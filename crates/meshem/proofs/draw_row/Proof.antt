@@ -13,7 +13,8 @@ use Rattle.drawing.specs.Drawn.{cellsDrawn, asked}
 use Rattle.drawing.proofs.Turns.{Kept}
 use Rattle.admit.specs.Scenes.{sceneOf}
 use Rattle.meshem.specs.Fresh.{setsFrom, CellReady}
-use Rattle.meshem.proofs.Rows.{row-end, row-cords, asked-step, row-kept, cell-ready, row-more}
+use Rattle.util.proofs.Rows.{row-end, row-cords}
+use Rattle.meshem.proofs.Rows.{asked-step, row-kept, cell-ready, row-more}
 use Rattle.meshem.proofs.draw_row.Statement.{statement}
 use Rattle.meshem.proofs.draw_row.Tie as tie
 

@@ -9,14 +9,15 @@ use lib.ListN.{length}
 use Rattle.rules.specs.Cells.{Size, cells, coordinates}
 use Rattle.rules.specs.Mesh.{Lists, quadAt, listsOf}
 use Rattle.rules.specs.Calls.{Scene, world, span}
-use Rattle.util.specs.Grid.{sizeOf, Within, cordsOf}
+use Rattle.util.specs.Grid.{Starts, sizeOf, Within, cordsOf}
 use Rattle.util.proofs.Nexts.{first}
 use Rattle.culling.specs.Culling.{worldOf}
 use Rattle.drawing.specs.Drawn.{cellsDrawn, asked}
 use Rattle.drawing.proofs.Turns.{Kept}
 use Rattle.admit.specs.Scenes.{sceneOf}
-use Rattle.meshem.specs.Fresh.{setAt, facesOf, Starts, RowOf}
-use Rattle.meshem.proofs.Rows.{row-end, last-in, last-cords, next-cords, asked-on}
+use Rattle.meshem.specs.Fresh.{setAt, facesOf, RowOf}
+use Rattle.util.proofs.Rows.{row-end, last-in, last-cords, next-cords}
+use Rattle.meshem.proofs.Rows.{asked-on}
 use Rattle.meshem.proofs.Turns.{set-world, kept-to, asked-is, row-ready, row-drawn}
 use Rattle.meshem.proofs.draw_rows.Statement.{statement}
 use Rattle.meshem.proofs.draw_rows.Tie as tie

@@ -10,7 +10,7 @@ use Rattle.util.specs.Grid.{sizeOf}
 use Rattle.culling.specs.Culling.{worldOf}
 use Rattle.meshem.specs.Fresh.{setAt, facesOf}
 use Rattle.meshem.proofs.Sets.{outer-faces}
-use Rattle.meshem.proofs.Rows.{high, long, cell-is, row-end}
+use Rattle.util.proofs.Rows.{high, long, cell-is, row-end}
 use Rattle.meshem.proofs.side_row.Statement.{statement}
 use Rattle.meshem.proofs.side_row.Tie as tie
 
