@@ -6,7 +6,7 @@ use Prim.Native.Nat.{ℕ, _+_, _-_, _*_, _≤_, _<_}
 use borrow.Author.Needs.{needs}
 use native.Mathlib.Omega.{arith}
 use denote.Ref.{now}
-use lib.ListN.{length, getD, take}
+use lib.ListN.{length}
 use lib.Seq.{getD-take, length-take-le}
 use Rattle.rules.specs.Lists.{lowest}
 use Rattle.rules.specs.Cells.{Size, cells, coordinates, setOf}

@@ -1,11 +1,9 @@
 -- `checking::lowest_in_row` meets its contract. Assumes nothing.
-use mathlib.Core.Path.{_≡_, _∙_}
+use mathlib.Core.Path.{_≡_}
 use mathlib.Core.Bool.{Bool}
-use mathlib.Core.List.{List}
 use Prim.Native.Nat.{ℕ, _+_, _*_, _≤_, _<_, _-_}
 use denote.Ref.{now}
 use lib.ListN.{length, getD}
-use Rattle.rules.specs.Lists.{lowest}
 use Rattle.rules.specs.Cells.{has, setOf, keyOf}
 use Rattle.rules.proofs.ListLaws.{lowestFrom-le}
 use Rattle.rules.proofs.Searches.{Searched, searched, ended}
@@ -69,7 +67,7 @@ returns c =
     let h = inside i in
     rw (c .lowest-unlike .ensures)
     (first-unlike (6 * length sets) x (wrongInRow sides slots (s .args .first)) (sides x) (λ f. isFilled slots (keyOf (s .args .first + x) f)) (set i) (c .before .before .filled-set .result)
-    (row-slot sides slots (s .args .first) x) (e x h) (c .before .before .filled-set .ensures) (omega arith) (i .before .loop .inv .1 sides e) (c .before .if1 .taken))
+    (row-slot sides slots (s .args .first) x) (e x h) (c .before .before .filled-set .ensures) (omega arith) (i .before .loop .inv .1 sides e) (λ alike. omega (arith, c .before .if1 .taken)))
 
 add-x : tie.Need-add-x Inv-loop μ-loop
 add-x c = let i = c .before .before .before in omega (arith, inside i, start i .pre .1)
@@ -87,7 +85,7 @@ loop-again c =
     let h = inside i in (
       omega arith,
       λ sides e. all-like (6 * length sets) x (wrongInRow sides slots (s .args .first)) (sides x) (λ f. isFilled slots (keyOf (s .args .first + x) f)) (set i) (c .before .filled-set .result)
-          (row-slot sides slots (s .args .first) x) (e x h) (c .before .filled-set .ensures) (omega arith) (i .before .loop .inv .1 sides e) (c .if1 .left),
+          (row-slot sides slots (s .args .first) x) (e x h) (c .before .filled-set .ensures) (omega arith) (i .before .loop .inv .1 sides e) (omega (arith, c .if1 .left)),
     )
 
 mul-result-2 : tie.Need-mul-result-2 Inv-loop μ-loop
