@@ -111,13 +111,6 @@ fn behind(cell: u32, step: u32, at: u32) -> Neighbor
 }
 
 // The coordinates of the cell after a cell, each from the cell's own.
-pub fn next_x(cell: Cell, x: u32, y: u32, z: u32, dims: Dimensions) -> u32
-    requires { ⌜ Within (sizeOf dims) × (cell .0 < cells (sizeOf dims)) × (cordsOf x y z ≡ coordinates (sizeOf dims) (cell .0)) ⌝ }
-    ensures { λ r. ⌜ r ≡ xOf (sizeOf dims) (cell .0 + 1) ⌝ }
-{
-    if x + 1 < dims.width { x + 1 } else { 0 }
-}
-
 pub fn next_y(cell: Cell, x: u32, y: u32, z: u32, dims: Dimensions) -> u32
     requires { ⌜ Within (sizeOf dims) × (cell .0 < cells (sizeOf dims)) × (cordsOf x y z ≡ coordinates (sizeOf dims) (cell .0)) ⌝ }
     ensures { λ r. ⌜ r ≡ yOf (sizeOf dims) (cell .0 + 1) ⌝ }

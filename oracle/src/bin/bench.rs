@@ -2,8 +2,9 @@
 //!
 //!     bench [SECONDS [SEED]]
 //!
-//! Every row is timed in rounds. A round runs each subject once, the first last in every other round; a row's figure is the median
-//! of its rounds. SECONDS (110) is shared out among the rows, set-up included; each has three rounds at least. Before a row is timed,
+//! Every row is timed in rounds. In a round each subject has a turn of four runs, one after the other as a batch makes them, the first
+//! subject last in every other round; a row's figure is the median of all runs. SECONDS (110) is shared out among the rows, set-up
+//! included; each has three rounds at least. Before a row is timed,
 //! the two answers are compared word for word. The last table holds the figures to their goals.
 
 use oracle::calls::Calls;
@@ -15,6 +16,7 @@ use std::time::{Duration, Instant};
 
 const ROWS: u32 = 14;
 const MOST_ROUNDS: usize = 201;
+const RUNS: usize = 4;
 
 fn main() {
     let mut arguments = std::env::args().skip(1).map(|argument| argument.parse().expect("a number"));
@@ -143,7 +145,7 @@ struct Bench {
 type Subject<'a> = &'a mut dyn FnMut() -> Duration;
 
 impl Bench {
-    /// The median time of each subject, and the number of rounds. A subject answers how long its timed part took.
+    /// The median time of each subject's runs, and the number of rounds. A subject answers how long its timed part took.
     fn interleaved<const N: usize>(&self, subjects: [Subject; N]) -> ([f64; N], usize) {
         let mut times = [(); N].map(|()| vec![]);
         let start = Instant::now();
@@ -153,10 +155,10 @@ impl Bench {
             }
             for turn in 0..N {
                 let which = if round % 2 == 0 { turn } else { N - 1 - turn };
-                times[which].push(subjects[which]().as_secs_f64());
+                times[which].extend((0..RUNS).map(|_| subjects[which]().as_secs_f64()));
             }
         }
-        let rounds = times[0].len();
+        let rounds = times[0].len() / RUNS;
         (times.map(median), rounds)
     }
 
