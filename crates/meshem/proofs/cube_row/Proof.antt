@@ -87,11 +87,10 @@ loop-again : tie.Need-loop-again Inv-loop μ-loop
 loop-again c =
     let l = c .before .before .before .before .loop in
     let a = c .before .before .before .before .before .before .before .before .before .args in
-    let v = 63 * boolByte (eqb (getD (now (a .kinds)) (c .before .wide .result) 0) 1) in
-    let own : v ≡ setOf (now (a .grid)) (now (a .kinds)) (a .first + l .x) = rw (c .before .wide .ensures .0) in (
+    let code = c .before .wide .ensures .0 in (
       omega (arith, c .before .before .before .loop-test .taken),
-      length-set (l .sets) (l .x) v ∙ l .inv .1,
-      λ k h. along (now (a .grid)) (now (a .kinds)) (l .sets) (a .first) own (slice-write-sets c) (l .inv .2) k h (ℕ-discrete k (l .x)),
+      length-set (l .sets) (l .x) _ ∙ l .inv .1,
+      λ k h. along (now (a .grid)) (now (a .kinds)) (l .sets) (a .first) (rw code) (slice-write-sets c) (l .inv .2) k h (ℕ-discrete k (l .x)),
     )
   where
     along : (grid kinds sets : List ℕ) (first : ℕ) {x v : ℕ} → v ≡ setOf grid kinds (first + x) → x < length sets
