@@ -1,20 +1,21 @@
 -- WRONG_VERTEX, word by word. Assumes nothing.
 use mathlib.Core.Path.{_≡_, sym, ap, _∙_}
-use mathlib.Core.Bool.{Bool, true, false, _&&_}
+use mathlib.Core.Bool.{true, false}
 use mathlib.Core.List.{List}
 use Prim.Native.Nat.{ℕ, _+_, _-_, _*_, _≤_, _<_}
+use native.Mathlib.Nat.{zero-add, mul-suc}
+use native.Mathlib.Numerals.{add-one}
 use native.Mathlib.Omega.{arith}
-use lib.Dec.{T, eqb}
+use lib.Dec.{T}
 use lib.ListN.{length, getD, take, drop}
 use lib.Seq.{ext-getD}
-use Rattle.rules.specs.Lists.{part, row, same}
+use Rattle.rules.specs.Lists.{table, part, row, same}
 use Rattle.rules.specs.Cells.{Triple, coordinates, code, codeIn, cellIn}
 use Rattle.rules.specs.Floats.{finite3}
-use Rattle.rules.specs.Types.{quadWords}
+use Rattle.rules.specs.Types.{quadWord, quadWords}
 use Rattle.rules.specs.Mesh.{typeAt}
-use Rattle.rules.proofs.ListLaws.{both-ways, same-true, same-refl}
-use borrow.Author.Tests.{le-ltb, eqb-true, eqb-false}
-use borrow.Author.Count.{below-more}
+use Rattle.rules.proofs.ListLaws.{both-ways, same-true, same-refl, length-each, length-table, getD-table}
+use borrow.Author.Tests.{le-ltb}
 use Rattle.face.specs.declared.Face.{Face}
 use Rattle.face.specs.declared.FoundFace.the-variants as Found
 use Rattle.face.specs.Face.{number, faceOfCode}
@@ -23,11 +24,11 @@ use Rattle.util.specs.Grid.{sizeOf}
 use Rattle.rules.proofs.Neighbours.{inside-of}
 use Rattle.floats.specs.Triples.{tripleOf}
 use Rattle.voxel_mesh.proofs.Shapes.{row-within}
-use Rattle.rules.proofs.Rows.{length-lent}
+use Rattle.rules.proofs.Rows.{length-lent, getD-each}
 use Rattle.admit.specs.declared.Scene.{Scene}
 use Rattle.books.proofs.Books.{within}
 use Rattle.quads.specs.Quads.{Drawable}
-use Rattle.checking.specs.Quads.{Comparable, quadAt}
+use Rattle.checking.specs.Quads.{Comparable, cubeAt, quadAt}
 
 -- ---- faces, corners and coordinates
 
@@ -46,6 +47,22 @@ code-none k h e =
     let z : _≡_ {A = ℕ} 0 1 = cc in
     omega arith
 
+-- ---- the words of a quad
+
+module _ (cube : List ℕ) (n : ℕ) (d : Triple) (f : ℕ) (a : Triple) where
+  abbrev vertex : ℕ → List ℕ
+  vertex i = table n (quadWord cube n d f a i)
+
+  pub length-words : length (quadWords cube n d f a) ≡ 4 * n
+  unfolding quadWords
+  length-words = length-each n 4 0 vertex (λ i. length-table (quadWord cube n d f a i) n)
+
+  pub word-at : (i k : ℕ) → i < 4 → k < n → getD (quadWords cube n d f a) (n * i + k) 0 ≡ quadWord cube n d f a i k
+  unfolding quadWords
+  word-at i k I K =
+      getD-each n vertex (λ i. length-table (quadWord cube n d f a i) n) 4 0 i k I K
+      ∙ ap (λ (j : ℕ). getD (vertex j) k 0) (zero-add i) ∙ getD-table (quadWord cube n d f a i) n k 0 K
+
 -- ---- two lists that agree up to a place
 
 abbrev pub Agreed : List ℕ → List ℕ → ℕ → Type 0
@@ -57,23 +74,12 @@ agreed-same xs ys s a b e = rw (ext-getD 0 xs ys (a ∙ sym b) (λ k h. e k (ome
 pub agreed-not : (xs ys : List ℕ) (k : ℕ) → (getD xs k 0 ≡ getD ys k 0 → ⊥) → same xs ys ≡ false
 agreed-not xs ys k d = both-ways (same xs ys) (λ e. d (ap (λ (l : List ℕ). getD l k 0) (same-true xs ys e)))
 
--- the comparison up to a place
-abbrev pub SoFar : List ℕ → List ℕ → ℕ → Bool → Type 0
-SoFar xs ys m true = Agreed xs ys m
-SoFar xs ys m false = same xs ys ≡ false
-
-pub one-more : (xs ys : List ℕ) (m : ℕ) (t : Bool) → SoFar xs ys m t → (u : Bool) → eqb (getD xs m 0) (getD ys m 0) ≡ u → SoFar xs ys (m + 1) (t && u)
-one-more xs ys m true s true e = below-more (λ (k : ℕ). getD xs k 0 ≡ getD ys k 0) m s (eqb-true (getD xs m 0) (getD ys m 0) e)
-one-more xs ys m true s false e = agreed-not xs ys m (eqb-false (getD xs m 0) (getD ys m 0) e)
-one-more xs ys m false s u e = s
-
-pub compared : (xs ys : List ℕ) (m : ℕ) (t : Bool) → SoFar xs ys m t → length xs ≡ m → length ys ≡ m → t ≡ same xs ys
-compared xs ys m true s a b = sym (agreed-same xs ys m a b s)
-compared xs ys m false s a b = sym s
-
 -- a part that is lent
 pub lent-is : (a n : ℕ) (xs : List ℕ) → take (a + n - a) (drop a xs) ≡ part a n xs
 lent-is a n xs = let e : a + n - a ≡ n = omega arith in rw e
+
+pub row-next : (n v : ℕ) → n * (v + 1) ≡ n * v + n
+row-next n v = rw add-one (mul-suc n v)
 
 -- ---- the quad that a link names
 
@@ -84,9 +90,12 @@ module _ (scene : Scene) (n : ℕ) (g cubes : List ℕ) (link : ℕ) where
     pub face : f ≡ code (codeIn link)
     pub at : a ≡ coordinates (sizeOf (scene .dims)) (cellIn link)
 
-  pub named-quad : (t f : ℕ) (a : Triple) → Named t f a
-      → quadWords (take (24 * n * t + 24 * n - 24 * n * t) (drop (24 * n * t) cubes)) n (tripleOf (scene .d)) f a ≡ quadAt scene n g cubes link
-  named-quad t f a r = rw (lent-is (24 * n * t) (24 * n) cubes, r .type, r .face, r .at)
+  pub named-word : (t f : ℕ) (a : Triple) → Named t f a → (i k : ℕ) → i < 4 → k < n
+      → quadWord (take (24 * n * t + 24 * n - 24 * n * t) (drop (24 * n * t) cubes)) n (tripleOf (scene .d)) f a i k
+      ≡ getD (quadAt scene n g cubes link) (n * i + k) 0
+  named-word t f a r i k I K =
+      rw (lent-is (24 * n * t) (24 * n) cubes, r .type, r .face, r .at)
+      (sym (word-at (cubeAt n g cubes (cellIn link)) n (tripleOf (scene .d)) (code (codeIn link)) (coordinates (sizeOf (scene .dims)) (cellIn link)) i k I K))
 
 module _ (scene : Scene) (n : ℕ) (few : (8 ≤ n) × (n ≤ 12)) (g cubes vertices links : List ℕ) (count : ℕ)
     (ok : Comparable (sizeOf (scene .dims)) n g cubes vertices links count) (q : ℕ) (h : q < count) where
@@ -113,3 +122,6 @@ module _ (scene : Scene) (n : ℕ) (few : (8 ≤ n) × (n ≤ 12)) (g cubes vert
   -- row q of the vertices
   pub quad-within : 4 * n * q + 4 * n ≤ length vertices
   quad-within = omega (arith, row-within (4 * n) q count h, ok .room)
+
+  pub length-quad : length (row (4 * n) vertices q) ≡ 4 * n
+  length-quad = (rw (lent-is (4 * n * q) (4 * n) vertices) at (length-lent (4 * n * q) (4 * n) vertices quad-within))

@@ -1,69 +1,344 @@
 -- `checking::words::first_wrong_quad` meets its contract. Assumes nothing.
 use mathlib.Core.Path.{_≡_, sym, ap, _∙_}
+use mathlib.Core.Bool.{not}
 use mathlib.Core.List.{List}
-use Prim.Native.Nat.{ℕ, _*_, _≤_}
+use Prim.Native.Nat.{ℕ, _+_, _-_, _*_, _≤_, _<_}
 use denote.Ref.{now}
-use lib.ListN.{length, take, replicate}
-use lib.Seq.{length-take-le}
-use Rattle.rules.specs.Lists.{lowest}
-use Rattle.voxel_mesh.proofs.Shapes.{few}
-use Rattle.checking.specs.Quads.{otherQuad}
+use lib.Dec.{eqb}
+use lib.ListN.{length, getD}
+use borrow.Author.Count.{below-more}
+use borrow.Author.Tests.{eqb-true, eqb-false, not-true, not-false}
+use Rattle.rules.specs.Lists.{row, lowest}
+use Rattle.rules.specs.Cells.{cellIn, codeIn, code, coordinates}
+use Rattle.rules.specs.Cube.{floatsOf}
+use Rattle.face.specs.Face.{number}
+use Rattle.util.specs.Grid.{sizeOf, tripleOf}
+use Rattle.floats.specs.Triples as floats
+use Rattle.voxel_mesh.proofs.Shapes.{few, row-within}
+use Rattle.rules.proofs.Rows.{length-lent}
+use Rattle.books.proofs.Books.{within}
+use Rattle.checking.specs.Quads.{quadAt, otherQuad, cubeAt, Comparable}
+use Rattle.rules.proofs.Searches.{Searched, searched, found, passed, ended}
+use Rattle.checking.proofs.Compared.{Agreed, agreed-same, agreed-not, lent-is, row-next, length-words, Named, named-word, stretch-within, drawable, quad-within, length-quad}
 use borrow.Author.Needs.{needs}
 use native.Mathlib.Omega.{arith}
 use Rattle.checking.proofs.words.first_wrong_quad.Statement.{statement}
 use Rattle.checking.proofs.words.first_wrong_quad.Tie as tie
 
-abbrev start : tie.After-floats-of → tie.Start
-start c = c .before .before .before .before .before
+abbrev Inv-loop2 : tie.InvT-loop2
+Inv-loop2 scene grid cubes vertices links count dims floats words span quad link face at place start end from to vertex float₀ float =
+    (float ≤ floats) × Agreed (row (4 * floats) vertices quad) (quadAt scene floats grid cubes (getD links quad 0)) (floats * vertex + float)
 
-few-words : (c : tie.After-floats-of) → (8 ≤ c .floats-of .result) × (c .floats-of .result ≤ 12)
-few-words c = rw (c .floats-of .ensures) (few (start c .args .scene .coloured))
+abbrev μ-loop2 : tie.MeasureT-loop2
+μ-loop2 scene grid cubes vertices links count dims floats words span quad link face at place start end from to vertex float₀ float = floats - float
 
-fits : (c : tie.After-floats-of) → 4 * c .floats-of .result ≤ 48
-fits c = omega (arith, few-words c)
+abbrev Inv-loop : tie.InvT-loop
+Inv-loop scene grid cubes vertices links count dims floats words span quad link face at place start end from to vertex₀ vertex =
+    (vertex ≤ 4) × Agreed (row (4 * floats) vertices quad) (quadAt scene floats grid cubes (getD links quad 0)) (floats * vertex)
 
-abbrev zeros : List ℕ
-zeros = replicate 48 0
+abbrev μ-loop : tie.MeasureT-loop
+μ-loop scene grid cubes vertices links count dims floats words span quad link face at place start end from to vertex₀ vertex = 4 - vertex
 
-lent : (k : ℕ) → k ≤ 48 → k ≡ length (take k zeros)
-lent k h = sym (length-take-le k zeros h)
+abbrev Inv-quads : tie.InvT-quads
+Inv-quads scene grid cubes vertices links count dims floats words span quad₀ quad =
+    Searched count (otherQuad scene floats grid cubes vertices links) quad
 
-floats-of-requires : tie.Need-floats-of-requires
+abbrev μ-quads : tie.MeasureT-quads
+μ-quads scene grid cubes vertices links count dims floats words span quad₀ quad = count - quad
+
+-- ---- before the quads: the words of a vertex
+
+few-words : (c : tie.After-floats-of Inv-loop2 μ-loop2 Inv-loop μ-loop Inv-quads μ-quads) → (8 ≤ c .floats-of .result) × (c .floats-of .result ≤ 12)
+few-words c = rw (c .floats-of .ensures) (few (c .before .before .before .before .before .before .args .scene .coloured))
+
+ok : (c : tie.After-floats-of Inv-loop2 μ-loop2 Inv-loop μ-loop Inv-quads μ-quads) → let args = c .before .before .before .before .before .before .args in
+    Comparable (sizeOf (args .scene .dims)) (c .floats-of .result) (now (args .grid)) (now (args .cubes)) (now (args .vertices)) (now (args .links))
+    (args .count)
+ok c = rw (c .floats-of .ensures) (c .before .before .before .before .before .before .pre .0)
+
+-- what is searched, for n words a vertex
+abbrev first : tie.After-floats-of Inv-loop2 μ-loop2 Inv-loop μ-loop Inv-quads μ-quads → ℕ → ℕ
+first c n =
+    let args = c .before .before .before .before .before .before .args in
+    lowest (args .count) (otherQuad (args .scene) n (now (args .grid)) (now (args .cubes)) (now (args .vertices)) (now (args .links)))
+
+by-rule : (c : tie.After-floats-of Inv-loop2 μ-loop2 Inv-loop μ-loop Inv-quads μ-quads) → first c (c .floats-of .result) ≡ first c (floatsOf (c .before .before .before .before .before .before .args .scene .coloured))
+by-rule c = ap (first c) (c .floats-of .ensures)
+
+-- ---- the quad at hand
+
+abbrev start : tie.After-wide Inv-loop2 μ-loop2 Inv-loop μ-loop Inv-quads μ-quads → tie.Start Inv-loop2 μ-loop2 Inv-loop μ-loop Inv-quads μ-quads
+start c = c .before .before .before .before .before .before .before .before .before .before .before .before .before .before .before
+
+abbrev worded : tie.After-wide Inv-loop2 μ-loop2 Inv-loop μ-loop Inv-quads μ-quads → tie.After-floats-of Inv-loop2 μ-loop2 Inv-loop μ-loop Inv-quads μ-quads
+worded c = c .before .before .before .before .before .before .before .before .before
+
+abbrev n : tie.After-wide Inv-loop2 μ-loop2 Inv-loop μ-loop Inv-quads μ-quads → ℕ
+n c = worded c .floats-of .result
+
+abbrev turn : tie.After-wide Inv-loop2 μ-loop2 Inv-loop μ-loop Inv-quads μ-quads → tie.At-quads Inv-loop2 μ-loop2 Inv-loop μ-loop Inv-quads μ-quads
+turn c = c .before .before .before .before .before .before .before .before
+
+abbrev quad : tie.After-wide Inv-loop2 μ-loop2 Inv-loop μ-loop Inv-quads μ-quads → ℕ
+quad c = turn c .quads .quad
+
+counted : (c : tie.After-wide Inv-loop2 μ-loop2 Inv-loop μ-loop Inv-quads μ-quads) → quad c < start c .args .count
+counted c = c .before .before .before .before .before .before .before .quads-test .taken
+
+abbrev link : tie.After-wide Inv-loop2 μ-loop2 Inv-loop μ-loop Inv-quads μ-quads → ℕ
+link c = getD (now (start c .args .links)) (quad c) 0
+
+-- its words as they are, and as they should be
+abbrev given : tie.After-wide Inv-loop2 μ-loop2 Inv-loop μ-loop Inv-quads μ-quads → List ℕ
+given c = row (4 * n c) (now (start c .args .vertices)) (quad c)
+
+abbrev wanted : tie.After-wide Inv-loop2 μ-loop2 Inv-loop μ-loop Inv-quads μ-quads → List ℕ
+wanted c = let args = start c .args in quadAt (args .scene) (n c) (now (args .grid)) (now (args .cubes)) (link c)
+
+named : (c : tie.After-wide Inv-loop2 μ-loop2 Inv-loop μ-loop Inv-quads μ-quads) → let args = start c .args in
+    Named (args .scene) (n c) (now (args .grid)) (now (args .cubes)) (link c) (c .wide .result) (number (c .before .before .before .before .linked-face .result))
+    (tripleOf (c .before .before .before .three-d-cords .result))
+named c =
+    let args = start c .args in
+    let g = now (args .grid) in
+    let cell = c .before .before .before .before .before .cell-of .ensures in
+    let inside = start c .pre .0 .inside (quad c) (counted c) in
+    record {
+      type = c .wide .ensures ∙ ap (λ (k : ℕ). getD g k 0) cell ∙ within g (cellIn (link c)) 0 255 (omega (arith, start c .pre .0 .whole));
+      face = c .before .before .before .before .linked-face .ensures;
+      at = c .before .before .before .three-d-cords .ensures ∙ ap (coordinates (sizeOf (args .scene .dims))) cell;
+    }
+
+stretch : (c : tie.After-wide Inv-loop2 μ-loop2 Inv-loop μ-loop Inv-quads μ-quads) → 24 * n c * c .wide .result + 24 * n c ≤ length (now (start c .args .cubes))
+stretch c =
+    stretch-within (start c .args .scene) _ (few-words (worded c)) _ _ _ _ _ (ok (worded c)) _ (counted c) _ (named c .type)
+
+words : (c : tie.After-wide Inv-loop2 μ-loop2 Inv-loop μ-loop Inv-quads μ-quads) → 4 * n c * quad c + 4 * n c ≤ length (now (start c .args .vertices))
+words c = quad-within (start c .args .scene) _ (few-words (worded c)) _ _ _ _ _ (ok (worded c)) _ (counted c)
+
+-- ---- the word at hand
+
+abbrev place : tie.After-is-other-word Inv-loop2 μ-loop2 Inv-loop μ-loop Inv-quads μ-quads → ℕ
+place c = n (c .before .before .before .before .before .before .before) * c .before .before .before .before .before .before .loop .vertex + c .before .before .before .before .loop2 .float
+
+told : (c : tie.After-is-other-word Inv-loop2 μ-loop2 Inv-loop μ-loop Inv-quads μ-quads) →
+    c .is-other-word .result ≡ not (eqb (getD (given (c .before .before .before .before .before .before .before)) (place c) 0) (getD (wanted (c .before .before .before .before .before .before .before)) (place c) 0))
+told c =
+    let w = c .before .before .before .before .before .before .before in
+    let args = start w .args in
+    rw (
+      lent-is (4 * n w * quad w) (4 * n w) (now (args .vertices)),
+      named-word (args .scene) (n w) (now (args .grid)) (now (args .cubes)) (link w) (w .wide .result) (number (w .before .before .before .before .linked-face .result))
+          (tripleOf (w .before .before .before .three-d-cords .result)) (named w) (c .before .before .before .before .before .before .loop .vertex) (c .before .before .before .before .loop2 .float) (c .before .before .before .before .before .loop-test .taken)
+          (c .before .before .before .loop2-test .taken),
+    ) at (c .is-other-word .ensures)
+
+floats-of-requires :
+    tie.Need-floats-of-requires Inv-loop2 μ-loop2 Inv-loop μ-loop Inv-quads μ-quads
 floats-of-requires c κs = search needs
 
-mul-words : tie.Need-mul-words
+mul-words : tie.Need-mul-words Inv-loop2 μ-loop2 Inv-loop μ-loop Inv-quads μ-quads
 mul-words c = omega (arith, few-words c)
 
-array-borrow-prefix-room : tie.Need-array-borrow-prefix-room
-array-borrow-prefix-room c = fits c
+mul-span : tie.Need-mul-span Inv-loop2 μ-loop2 Inv-loop μ-loop Inv-quads μ-quads
+mul-span c = omega (arith, few-words c)
 
-slice-aggregate-first-by-quads : tie.Need-slice-aggregate-first-by-quads
-slice-aggregate-first-by-quads c = lent (4 * c .before .floats-of .result) (fits (c .before))
+quads-holds : tie.Need-quads-holds Inv-loop2 μ-loop2 Inv-loop μ-loop Inv-quads μ-quads
+quads-holds c = searched _ _
 
-first-by-quads-requires : tie.Need-first-by-quads-requires
-first-by-quads-requires c κs =
-    let f = c .before in (
-      rw (f .floats-of .ensures) (start f .pre .0),
-      start f .pre .1,
-      few-words f .0,
-      few-words f .1,
-      sym (lent (4 * f .floats-of .result) (fits f)),
+mul-link : tie.Need-mul-link Inv-loop2 μ-loop2 Inv-loop μ-loop Inv-quads μ-quads
+mul-link c = search needs
+
+shared-slice-read-link :
+    tie.Need-shared-slice-read-link Inv-loop2 μ-loop2 Inv-loop μ-loop Inv-quads μ-quads
+shared-slice-read-link c = search needs
+
+cell-of-requires : tie.Need-cell-of-requires Inv-loop2 μ-loop2 Inv-loop μ-loop Inv-quads μ-quads
+cell-of-requires c κs = search needs
+
+linked-face-requires :
+    tie.Need-linked-face-requires Inv-loop2 μ-loop2 Inv-loop μ-loop Inv-quads μ-quads
+linked-face-requires c κs = c .before .before .before .before .before .before .before .before .before .before .pre .0 .code _ (c .before .before .quads-test .taken)
+
+three-d-cords-requires :
+    tie.Need-three-d-cords-requires Inv-loop2 μ-loop2 Inv-loop μ-loop Inv-quads μ-quads
+three-d-cords-requires c κs = c .before .before .before .before .before .before .before .before .before .before .before .pre .0 .within
+
+cast-place : tie.Need-cast-place Inv-loop2 μ-loop2 Inv-loop μ-loop Inv-quads μ-quads
+cast-place c = search needs
+
+shared-slice-read-wide :
+    tie.Need-shared-slice-read-wide Inv-loop2 μ-loop2 Inv-loop μ-loop Inv-quads μ-quads
+shared-slice-read-wide c =
+    let ok = c .before .before .before .before .before .before .before .before .before .before .before .before .before .before .pre .0 in
+    omega (arith, c .before .before .before .before .cell-of .ensures, ok .whole, ok .inside (c .before .before .before .before .before .before .before .quads .quad) (c .before .before .before .before .before .before .quads-test .taken))
+
+wide-requires : tie.Need-wide-requires Inv-loop2 μ-loop2 Inv-loop μ-loop Inv-quads μ-quads
+wide-requires c κs = search needs
+
+mul-start : tie.Need-mul-start Inv-loop2 μ-loop2 Inv-loop μ-loop Inv-quads μ-quads
+mul-start c = omega (arith, stretch c)
+
+add-end : tie.Need-add-end Inv-loop2 μ-loop2 Inv-loop μ-loop Inv-quads μ-quads
+add-end c = omega (arith, stretch c)
+
+mul-from : tie.Need-mul-from Inv-loop2 μ-loop2 Inv-loop μ-loop Inv-quads μ-quads
+mul-from c = omega (arith, words c)
+
+add-to : tie.Need-add-to Inv-loop2 μ-loop2 Inv-loop μ-loop Inv-quads μ-quads
+add-to c = omega (arith, words c)
+
+loop-holds : tie.Need-loop-holds Inv-loop2 μ-loop2 Inv-loop μ-loop Inv-quads μ-quads
+loop-holds c = (omega arith, λ k h. absurd (omega arith))
+
+loop2-holds : tie.Need-loop2-holds Inv-loop2 μ-loop2 Inv-loop μ-loop Inv-quads μ-quads
+loop2-holds c = (omega arith, λ k h. c .before .loop .inv .1 k (omega arith))
+
+mul-is-other-word : tie.Need-mul-is-other-word Inv-loop2 μ-loop2 Inv-loop μ-loop Inv-quads μ-quads
+mul-is-other-word c = omega (arith, words (c .before .before .before .before))
+
+sub-is-other-word : tie.Need-sub-is-other-word Inv-loop2 μ-loop2 Inv-loop μ-loop Inv-quads μ-quads
+sub-is-other-word c = search needs
+
+part-is-other-word-start :
+    tie.Need-part-is-other-word-start Inv-loop2 μ-loop2 Inv-loop μ-loop Inv-quads μ-quads
+part-is-other-word-start c = search needs
+
+part-is-other-word-end :
+    tie.Need-part-is-other-word-end Inv-loop2 μ-loop2 Inv-loop μ-loop Inv-quads μ-quads
+part-is-other-word-end c = omega (arith, words (c .before .before .before .before))
+
+mul-is-other-word-2 :
+    tie.Need-mul-is-other-word-2 Inv-loop2 μ-loop2 Inv-loop μ-loop Inv-quads μ-quads
+mul-is-other-word-2 c = omega (arith, stretch (c .before .before .before .before .before))
+
+sub-is-other-word-2 :
+    tie.Need-sub-is-other-word-2 Inv-loop2 μ-loop2 Inv-loop μ-loop Inv-quads μ-quads
+sub-is-other-word-2 c = search needs
+
+part-is-other-word-start-2 :
+    tie.Need-part-is-other-word-start-2 Inv-loop2 μ-loop2 Inv-loop μ-loop Inv-quads μ-quads
+part-is-other-word-start-2 c = search needs
+
+part-is-other-word-end-2 :
+    tie.Need-part-is-other-word-end-2 Inv-loop2 μ-loop2 Inv-loop μ-loop Inv-quads μ-quads
+part-is-other-word-end-2 c = omega (arith, stretch (c .before .before .before .before .before))
+
+is-other-word-requires :
+    tie.Need-is-other-word-requires Inv-loop2 μ-loop2 Inv-loop μ-loop Inv-quads μ-quads
+is-other-word-requires c κs =
+    let w = c .before .before .before .before .before .before in
+    let args = start w .args in
+    let all = length-lent (4 * n w * quad w) (4 * n w) (now (args .vertices)) (words w) in
+    let row = row-within (n w) (c .before .before .before .before .before .loop .vertex) 4 (c .before .before .before .before .loop-test .taken) in (
+      drawable (args .scene) (n w) (few-words (worded w)) _ _ _ _ _ (ok (worded w)) _ (counted w) (start w .pre .1) _ _ _ (named w),
+      c .before .before .before .before .loop-test .taken,
+      c .before .before .loop2-test .taken,
+      omega arith,
     )
 
-returns : tie.Need-returns
-returns c =
-    let f = c .before .before .before in
-    let args = start f .args in
-    c .before .first-by-quads .ensures
-    ∙ ap (λ (n : ℕ). lowest (args .count) (otherQuad (args .scene) n (now (args .grid)) (now (args .cubes)) (now (args .vertices)) (now (args .links)))) (f .floats-of .ensures)
+add-float : tie.Need-add-float Inv-loop2 μ-loop2 Inv-loop μ-loop Inv-quads μ-quads
+add-float c = search needs
+
+loop2-less : tie.Need-loop2-less Inv-loop2 μ-loop2 Inv-loop μ-loop Inv-quads μ-quads
+loop2-less c = search needs
+
+loop2-again : tie.Need-loop2-again Inv-loop2 μ-loop2 Inv-loop μ-loop Inv-quads μ-quads
+loop2-again c =
+    let w = c .before .before .before .before .before .before .before .before in
+    let at = place (c .before) in
+    let same = eqb-true (getD (given w) at 0) (getD (wanted w) at 0) (not-false _ (sym (told (c .before)) ∙ c .if1 .left)) in (
+      omega arith,
+      λ k h. below-more (λ (k : ℕ). getD (given w) k 0 ≡ getD (wanted w) k 0) at (c .before .before .before .before .before .loop2 .inv .1) same k (omega arith),
+    )
+
+add-vertex : tie.Need-add-vertex Inv-loop2 μ-loop2 Inv-loop μ-loop Inv-quads μ-quads
+add-vertex c = search needs
+
+loop-less : tie.Need-loop-less Inv-loop2 μ-loop2 Inv-loop μ-loop Inv-quads μ-quads
+loop-less c = search needs
+
+loop-again : tie.Need-loop-again Inv-loop2 μ-loop2 Inv-loop μ-loop Inv-quads μ-quads
+loop-again c =
+    let next = row-next (n (c .before .before .before .before)) (c .before .before .before .loop .vertex) in
+    (omega arith, λ k h. c .before .loop2 .inv .1 k (omega arith))
+
+add-quad : tie.Need-add-quad Inv-loop2 μ-loop2 Inv-loop μ-loop Inv-quads μ-quads
+add-quad c = search needs
+
+quads-less : tie.Need-quads-less Inv-loop2 μ-loop2 Inv-loop μ-loop Inv-quads μ-quads
+quads-less c = search needs
+
+quads-again : tie.Need-quads-again Inv-loop2 μ-loop2 Inv-loop μ-loop Inv-quads μ-quads
+quads-again c =
+    let w = c .before .before in
+    let args = start w .args in
+    let scene = args .scene in
+    let cell = cellIn (link w) in
+    let cube = cubeAt (n w) (now (args .grid)) (now (args .cubes)) cell in
+    let whole : n w * c .before .loop .vertex ≡ n w * 4 = ap (λ (v : ℕ). n w * v) (omega arith) in
+    passed _ _ _ (counted w) (turn w .quads .inv)
+    (ap not
+    (agreed-same (given w) (wanted w) (4 * n w)
+    (length-quad scene (n w) (few-words (worded w)) _ _ _ _ _ (ok (worded w)) _ (counted w))
+    (length-words cube (n w) (floats.tripleOf (scene .d)) (code (codeIn (link w))) (coordinates (sizeOf (scene .dims)) cell))
+    (λ k h. c .before .loop .inv .1 k (omega arith))))
+
+returns : tie.Need-returns Inv-loop2 μ-loop2 Inv-loop μ-loop Inv-quads μ-quads
+returns c = ended _ _ _ (c .quads-test .left) (c .before .quads .inv) ∙ by-rule (c .before .before)
+
+returns-2 : tie.Need-returns-2 Inv-loop2 μ-loop2 Inv-loop μ-loop Inv-quads μ-quads
+returns-2 c =
+    let w = c .before .before .before .before .before .before .before .before in
+    let at = place (c .before) in
+    let other = eqb-false (getD (given w) at 0) (getD (wanted w) at 0) (not-true _ (sym (told (c .before)) ∙ c .if1 .taken)) in
+    found _ _ _ (counted w) (turn w .quads .inv) (ap not (agreed-not (given w) (wanted w) at other)) ∙ by-rule (worded w)
 
 pub first-wrong-quad-spec : {M : Type 1} → statement M
 first-wrong-quad-spec =
     tie.close
     (tie.spec
+    Inv-loop2
+    μ-loop2
+    Inv-loop
+    μ-loop
+    Inv-quads
+    μ-quads
     floats-of-requires
     mul-words
-    array-borrow-prefix-room
-    slice-aggregate-first-by-quads
-    first-by-quads-requires
-    returns)
+    mul-span
+    quads-holds
+    mul-link
+    shared-slice-read-link
+    cell-of-requires
+    linked-face-requires
+    three-d-cords-requires
+    cast-place
+    shared-slice-read-wide
+    wide-requires
+    mul-start
+    add-end
+    mul-from
+    add-to
+    loop-holds
+    loop2-holds
+    mul-is-other-word
+    sub-is-other-word
+    part-is-other-word-start
+    part-is-other-word-end
+    mul-is-other-word-2
+    sub-is-other-word-2
+    part-is-other-word-start-2
+    part-is-other-word-end-2
+    is-other-word-requires
+    add-float
+    loop2-less
+    loop2-again
+    add-vertex
+    loop-less
+    loop-again
+    add-quad
+    quads-less
+    quads-again
+    returns
+    returns-2)
