@@ -10,6 +10,7 @@ use culling::clear_types;
 use culling::drawn_row;
 use culling::full_from;
 use culling::outer_set;
+use culling::sides_along;
 use face::Cell;
 use face::NONE;
 use util::Dimensions;
@@ -29,6 +30,7 @@ ghost use Rattle.util.specs.Grid.{sizeOf};
 ghost use Rattle.admit.specs.Scenes.{sceneOf};
 ghost use Rattle.rules.specs.Mesh.{listsOf};
 ghost use Rattle.culling.specs.Culling.{worldOf, outerSet};
+ghost use Rattle.culling.specs.Rows.{Along};
 ghost use Rattle.checking.specs.Faces.{filledSet, unlike, wrongSlot, wrongInRow, Gridded};
 
 pub mod words; // words.rt: the words of the quads, compared
@@ -89,6 +91,7 @@ fn lowest_in_row(sets: &[u8], slots: &[u32], first: usize) -> usize
 fn lowest_by_rows(
     dims: Dimensions,
     outer: u8,
+    along: &[u8],
     grid: &[u8],
     kinds: &[u8],
     covers: &[u8],
@@ -96,7 +99,7 @@ fn lowest_by_rows(
     sets: &mut [u8],
 ) -> usize
     requires { ⌜ Gridded (sizeOf dims) (now grid) (now slots) (length (now covers)) × (length (now covers) ≡ length (now kinds)) × (length (now kinds) ≤ 255)
-        × (outer < 64) × (dims .width ≤ length (now sets)) ⌝ }
+        × (outer < 64) × (dims .width ≤ length (now sets)) × Along (dims .width) (now along) ⌝ }
     ensures { λ r. ⌜ ((faces : List ℕ) → outer ≡ outerSet faces → r ≡ lowest (6 * cells (sizeOf dims)) (wrongSlot (worldOf (sizeOf dims) (now (kinds .entry)) (now (covers .entry))) faces (now (grid .entry)) (now (slots .entry)))) ⌝ }
 {
     let clear = clear_types(kinds, covers);
@@ -107,7 +110,19 @@ fn lowest_by_rows(
     let mut z: u32 = 0;
     let mut c: u32 = 0;
     while c < end {
-        drawn_row(sets, dims, outer, grid, kinds, covers, clear, full, y, z);
+        drawn_row(
+            sets,
+            dims,
+            outer,
+            along,
+            grid,
+            kinds,
+            covers,
+            clear,
+            full,
+            y,
+            z,
+        );
         let start = c as usize;
         let face = lowest_in_row(&sets[..width], slots, start);
         if face < 6 * width {
@@ -135,8 +150,10 @@ fn lowest_wrong_face(
         × (outer < 64) ⌝ }
     ensures { λ r. ⌜ ((faces : List ℕ) → outer ≡ outerSet faces → r ≡ lowest (6 * cells (sizeOf dims)) (wrongSlot (worldOf (sizeOf dims) (now (kinds .entry)) (now (covers .entry))) faces (now (grid .entry)) (now (slots .entry)))) ⌝ }
 {
+    let mut along: [u8; 1024] = [0; 1024];
+    sides_along(&mut along, dims.width);
     let mut sets: [u8; 1024] = [0; 1024];
-    lowest_by_rows(dims, outer, grid, kinds, covers, slots, &mut sets)
+    lowest_by_rows(dims, outer, &along, grid, kinds, covers, slots, &mut sets)
 }
 
 // Tries the refusals in their order; a mesh that passes is right.

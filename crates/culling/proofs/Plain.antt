@@ -22,7 +22,7 @@ use Rattle.rules.proofs.Neighbours.{coordinates-cellAt, cellAt-in, beside}
 use Rattle.util.specs.Grid.{cordsOf, Within}
 use Rattle.books.proofs.Books.{within}
 use Rattle.culling.specs.Culling.{worldOf, outerSet, Laid}
-use Rattle.culling.specs.Rows.{Whole, ClearBelow, FullFrom, Plainly, Plain, PlainAround, six, edgeSet, plainSet, plainShown, plainAt, isBeside, rowSides, Rows, Placed}
+use Rattle.culling.specs.Rows.{Whole, ClearBelow, FullFrom, Plainly, Plain, PlainAround, six, edgeSet, plainSet, plainShown, plainAt, isBeside, rowSides, Rows, sidesAt, Along, Beside}
 use Rattle.culling.proofs.Sides.{weight-le, setOf-cong}
 
 -- ---- faces of a set that is made bit by bit
@@ -118,13 +118,13 @@ side full outer g f at n false keep edge k e to =
 
 -- LAW: the formula, with the neighbours' codes read at these places, is the rule by bytes
 module _ (s : Size) (full outer : ℕ) (g : List ℕ) {x y z at up down back forward sides keep edge right left : ℕ}
-    (r : Rows s y z at up down back forward sides) (p : Placed s outer x y z at keep edge right left) where
+    (r : Rows s y z at up down back forward sides) (p : Beside s x at right left) (keeps : keep ≡ setOf (isBeside s x y z)) (edges : edge ≡ edgeSet keep outer) where
   kept : (f : ℕ) → f < 6 → has keep f ≡ isBeside s x y z f
-  kept f h = ap (λ (n : ℕ). has n f) (p .kept) ∙ has-setOf (isBeside s x y z) f h
+  kept f h = ap (λ (n : ℕ). has n f) keeps ∙ has-setOf (isBeside s x y z) f h
 
   edged : (f : ℕ) → f < 6 → has edge f ≡ not (has keep f || has outer f)
   unfolding edgeSet
-  edged f h = ap (λ (n : ℕ). has n f) (p .edged) ∙ has-setOf (λ f. not (has keep f || has outer f)) f h
+  edged f h = ap (λ (n : ℕ). has n f) edges ∙ has-setOf (λ f. not (has keep f || has outer f)) f h
 
   here : at + x ≡ cellAt s x y z
   here = omega (arith, r .start)
@@ -157,14 +157,6 @@ module _ (s : Size) (full outer : ℕ) (g : List ℕ) {x y z at up down back for
       (λ f h. ap (λ (n : ℕ). (ltb n full && has keep f) || has edge f) (read f)
       ∙ side full outer g f _ _ _ _ _ (kept f h) (edged f h) (to f h)
       ∙ ap (plainShown full outer g f) (sym (beside-cell s x y z (p .wide) (r .long) f h))))
-
--- sets of six faces
-pub few-kept : (s : Size) {outer x y z at keep edge right left : ℕ} → Placed s outer x y z at keep edge right left → (keep < 64) × (edge < 64)
-unfolding edgeSet
-few-kept s {outer} {x} {y} {z} {at} {keep} p =
-    let k = setOf-lt (isBeside s x y z) in
-    let e = setOf-lt (λ f. not (has keep f || has outer f)) in
-    (omega (arith, p .kept), omega (arith, p .edged))
 
 -- ---- plain codes
 
@@ -329,28 +321,19 @@ few-sides s {y} {z} r =
 pub few-beside : (s : Size) (x y z : ℕ) {keep : ℕ} → keep ≡ setOf (isBeside s x y z) → keep < 64
 few-beside s x y z e = let l = setOf-lt (isBeside s x y z) in omega arith
 
-sides-of-cell : (s : Size) (x y z : ℕ) → rowSides s y z + cond (ltb (x + 1) (s .w)) 4 0 + cond (ltb 0 x) 8 0 ≡ setOf (isBeside s x y z)
+sides-of-cell : (s : Size) (x y z : ℕ) → rowSides s y z + sidesAt (s .w) x ≡ setOf (isBeside s x y z)
 sides-of-cell s x y z = omega arith
 
-sides-of-inner : (s : Size) (x y z : ℕ) → 0 < x → x + 1 < s .w → rowSides s y z + 12 ≡ setOf (isBeside s x y z)
-sides-of-inner s x y z a b =
-    omega (arith, weighed 8 (lt-ltb 0 x a), weighed 4 (lt-ltb (x + 1) (s .w) b))
-  where
-    weighed : {t : Bool} (n : ℕ) → t ≡ true → cond t n 0 ≡ n
-    weighed {t} n e = ap (λ (b : Bool). cond b n 0) e
+module _ (s : Size) {x y z at up down back forward sides : ℕ} (r : Rows s y z at up down back forward sides) where
+  pub kept-sides : (along : List ℕ) → Along (s .w) along → x < s .w → sides + getD along x 0 ≡ setOf (isBeside s x y z)
+  kept-sides along a h = ap₂ (λ (m n : ℕ). m + n) (r .sides-are) (a .sides x h) ∙ sides-of-cell s x y z
 
-module _ (s : Size) (x : ℕ) {y z at up down back forward sides : ℕ} (r : Rows s y z at up down back forward sides) where
-  pub lone-kept : {keep : ℕ} → keep ≡ sides + cond (ltb (x + 1) (s .w)) 4 0 + cond (ltb 0 x) 8 0 → keep ≡ setOf (isBeside s x y z)
-  lone-kept e = e ∙ ap (λ (n : ℕ). n + cond (ltb (x + 1) (s .w)) 4 0 + cond (ltb 0 x) 8 0) (r .sides-are) ∙ sides-of-cell s x y z
-
-  -- any cell; a neighbour that is not there is read as the cell itself
-  pub lone-placed : {outer keep edge right left : ℕ} → x < s .w → keep ≡ sides + cond (ltb (x + 1) (s .w)) 4 0 + cond (ltb 0 x) 8 0 → edge ≡ edgeSet keep outer
+  -- a neighbour that is not there is read as the cell itself
+  pub beside-lone : {right left : ℕ} → x < s .w
       → (x + 1 < s .w → right ≡ at + x + 1) × (s .w ≤ x + 1 → right ≡ at + x)
-      → (0 < x → left + 1 ≡ at + x) × (x ≤ 0 → left ≡ at + x) → Placed s outer x y z at keep edge right left
-  lone-placed {outer} {keep} {edge} {right} {left} wide k e on off = record {
+      → (0 < x → left + 1 ≡ at + x) × (x ≤ 0 → left ≡ at + x) → Beside s x at right left
+  beside-lone {right} {left} wide on off = record {
     wide = wide;
-    kept = lone-kept k;
-    edged = e;
     on = on .0;
     off = off .0;
     right-in = right-in (ltb (x + 1) (s .w)) refl;
@@ -365,17 +348,14 @@ module _ (s : Size) (x : ℕ) {y z at up down back forward sides : ℕ} (r : Row
       left-in true t = let p = off .0 (ltb-true _ _ t) in omega (arith, r .at-in)
       left-in false t = let p = off .1 (ltb-false _ _ t) in omega (arith, r .at-in)
 
-  -- a cell that is no end of its row
-  pub inner-placed : {outer edge : ℕ} → 0 < x → x + 1 < s .w → edge ≡ edgeSet (sides + 12) outer
-      → Placed s outer x y z at (sides + 12) edge (at + x + 1) (at + x - 1)
-  inner-placed a b e = record {
-    wide = omega arith;
-    kept = ap (λ (n : ℕ). n + 12) (r .sides-are) ∙ sides-of-inner s x y z a b;
-    edged = e;
+  -- or as the cell before or after it in the grid
+  pub beside-in-grid : x < s .w → 0 < at → at + s .w < cells s → Beside s x at (at + x + 1) (at + x - 1)
+  beside-in-grid wide first last = record {
+    wide = wide;
     on = λ h. refl;
     off = λ h. omega arith;
-    right-in = omega (arith, r .at-in);
-    left-in = omega (arith, r .at-in);
+    right-in = omega arith;
+    left-in = omega arith;
   }
 
 -- ---- no odd types, no odd codes
@@ -451,47 +431,19 @@ store {old} {x} {block} {sets} {n} v p h e = record {
       (λ i l. getD-set-other sets (x + n) (x + i) v 0 (λ q. omega arith) ∙ p .here i l) (getD-set-same sets (x + n) v 0 h ∙ e);
 }
 
--- the first n are what they ought to be, but for the very first
-pub record Inner (rule : ℕ → ℕ) (old sets : List ℕ) (n : ℕ) : Type 0 where
-  pub long : length sets ≡ length old
-  pub right : (k : ℕ) → 0 < k → k < n → getD sets k 0 ≡ rule k
-
-pub inner : (rule : ℕ → ℕ) (old : List ℕ) → Inner rule old old 1
-inner rule old = record { long = refl; right = λ k h l. absurd (omega arith) }
-
 -- a block stored at a place that was reached
-pub fill : (rule : ℕ → ℕ) (block : List ℕ) {old sets new : List ℕ} {x start : ℕ} → Inner rule old sets x → start ≤ x
+pub fill : (rule : ℕ → ℕ) (block : List ℕ) {old sets new : List ℕ} {x start : ℕ} → Passed rule old sets x → start ≤ x
     → (length new ≡ length sets) × ((k : ℕ) → k < start → getD new k 0 ≡ getD sets k 0) × ((i : ℕ) → i < 16 → getD new (start + i) 0 ≡ getD block i 0)
-    → ((i : ℕ) → i < 16 → getD block i 0 ≡ rule (start + i)) → Inner rule old new (start + 16)
-fill rule block {old} {sets} {new} {x} {start} p h s b = record { long = s .0 ∙ p .long; right = λ k a l. go k a l (ltb k start) refl }
+    → ((i : ℕ) → i < 16 → getD block i 0 ≡ rule (start + i)) → Passed rule old new (start + 16)
+fill rule block {old} {sets} {new} {x} {start} p h s b = record { long = s .0 ∙ p .long; right = λ k l. go k l (ltb k start) refl }
   where
-    go : (k : ℕ) → 0 < k → k < start + 16 → (t : Bool) → ltb k start ≡ t → getD new k 0 ≡ rule k
-    go k a l true t = let m : k < start = ltb-true k start t in s .1 k m ∙ p .right k a (omega arith)
-    go k a l false t =
+    go : (k : ℕ) → k < start + 16 → (t : Bool) → ltb k start ≡ t → getD new k 0 ≡ rule k
+    go k l true t = let m : k < start = ltb-true k start t in s .1 k m ∙ p .right k (omega arith)
+    go k l false t =
         let m : start ≤ k = ltb-false k start t in
         let i : k - start < 16 = omega arith in
         let e : start + (k - start) ≡ k = omega arith in
         ap (λ (n : ℕ). getD new n 0) (sym e) ∙ s .2 (k - start) i ∙ b (k - start) i ∙ ap rule e
-
--- the two ends, after all between
-pub ended : (rule : ℕ → ℕ) (sets : List ℕ) {a b : ℕ} (w : ℕ) → 2 ≤ w → w ≤ length sets → ((x : ℕ) → 0 < x → x + 1 < w → getD sets x 0 ≡ rule x)
-    → a ≡ rule 0 → b ≡ rule (w - 1) → (x : ℕ) → x < w → getD (set (set sets 0 a) (w - 1) b) x 0 ≡ rule x
-ended rule sets {a} {b} w two long between p q x h = go (eqb x (w - 1)) refl (eqb x 0) refl
-  where
-    go : (t : Bool) → eqb x (w - 1) ≡ t → (u : Bool) → eqb x 0 ≡ u → getD (set (set sets 0 a) (w - 1) b) x 0 ≡ rule x
-    go true t u v =
-        let e : x ≡ w - 1 = eqb-true x (w - 1) t in
-        let l : w - 1 < length (set sets 0 a) = simp length-set (omega arith) in
-        ap (λ (n : ℕ). getD (set (set sets 0 a) (w - 1) b) n 0) e ∙ getD-set-same (set sets 0 a) (w - 1) b 0 l ∙ q ∙ ap rule (sym e)
-    go false t true v =
-        let e : x ≡ 0 = eqb-true x 0 v in
-        let l : 0 < length sets = omega arith in
-        getD-set-other (set sets 0 a) (w - 1) x b 0 (eqb-false x (w - 1) t)
-        ∙ ap (λ (n : ℕ). getD (set sets 0 a) n 0) e ∙ getD-set-same sets 0 a 0 l ∙ p ∙ ap rule (sym e)
-    go false t false v =
-        let m = eqb-false x (w - 1) t in
-        let n = eqb-false x 0 v in
-        getD-set-other (set sets 0 a) (w - 1) x b 0 m ∙ getD-set-other sets 0 x a 0 n ∙ between x (omega arith) (omega arith)
 
 -- LAW: in a whole grid, where the cell's code and its neighbours' are plain
 pub row-is-drawn : (s : Size) (g kinds covers : List ℕ) {clear full outer x y z : ℕ} → Whole s g (length covers) → length covers ≡ length kinds

@@ -113,11 +113,18 @@ pub record Rows (size : Size) (y z at up down back forward sides : ℕ) : Type 0
 abbrev pub RowsOf : Size → ℕ → ℕ → Around → Type 0
 RowsOf size y z rows = Rows size y z (rows .at) (rows .up) (rows .down) (rows .back) (rows .forward) (rows .sides)
 
--- a cell of the row: the sides with cells beside them, the sides of the edge, and where its neighbours in the row are
-pub record Placed (size : Size) (outer x y z at keep edge right left : ℕ) : Type 0 where
+-- the sides along a row of this width on which its cell at x has cells beside it
+abbrev pub sidesAt : ℕ → ℕ → ℕ
+sidesAt width x = cond (ltb (x + 1) width) 4 0 + cond (ltb 0 x) 8 0
+
+-- a list of them
+pub record Along (width : ℕ) (along : List ℕ) : Type 0 where
+  pub long : width ≤ length along
+  pub sides : (x : ℕ) → x < width → getD along x 0 ≡ sidesAt width x
+
+-- where the neighbours in the row of its cell at x are; some cell where there is none
+pub record Beside (size : Size) (x at right left : ℕ) : Type 0 where
   pub wide : x < size .w
-  pub kept : keep ≡ setOf (isBeside size x y z)
-  pub edged : edge ≡ edgeSet keep outer
   pub on : x + 1 < size .w → right ≡ at + x + 1
   pub off : 0 < x → left + 1 ≡ at + x
   pub right-in : right < cells size

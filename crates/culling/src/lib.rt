@@ -17,7 +17,7 @@ ghost use Rattle.rules.specs.Mesh.{drawn};
 ghost use Rattle.face.specs.Face.{number};
 ghost use Rattle.util.specs.Grid.{sizeOf, cordsOf, Within};
 ghost use Rattle.culling.specs.Culling.{worldOf, outerSet, shownAt, Laid};
-ghost use Rattle.culling.specs.Rows.{Whole, RowShown, ClearBelow, FullFrom, Plainly, Plain, PlainAround, six, edgeSet, plainSet, plainAt, PlainRow, rowSides, RowsOf, Placed};
+ghost use Rattle.culling.specs.Rows.{Whole, RowShown, ClearBelow, FullFrom, Plainly, Plain, PlainAround, six, edgeSet, plainSet, plainAt, PlainRow, rowSides, RowsOf, sidesAt, Along, Beside};
 
 // The faces of the outer list.
 pub fn outer_set(outer: &[u8]) -> u8
@@ -237,12 +237,25 @@ fn row_sides(dims: Dimensions, y: u32, z: u32) -> u8
         + bit_if(0 < z, 32)
 }
 
-// And the sides on which a cell of it has cells beside it.
-fn cell_sides(sides: u8, x: usize, width: usize) -> u8
-    requires { ⌜ (sides ≤ 51) × (x < 1024) ⌝ }
-    ensures { λ r. ⌜ r ≡ sides + cond (ltb (x + 1) width) 4 0 + cond (ltb 0 x) 8 0 ⌝ }
+// The sides along a row on which its cell at x has cells beside it.
+fn sides_at(x: usize, width: usize) -> u8
+    requires { ⌜ x < 1024 ⌝ }
+    ensures { λ r. ⌜ (r ≡ sidesAt width x) × (r ≤ 12) ⌝ }
 {
-    sides + bit_if(x + 1 < width, 4) + bit_if(0 < x, 8)
+    bit_if(x + 1 < width, 4) + bit_if(0 < x, 8)
+}
+
+// The same for each cell of a row, in a list: so that a block reads them at once.
+pub fn sides_along(along: &mut [u8], width: u32)
+    requires { ⌜ (width ≤ 1024) × (width ≤ length (now along)) ⌝ }
+    ensures { λ _. ⌜ Along width (now (along .exit)) ⌝ }
+{
+    let end = width as usize;
+    let mut x: usize = 0;
+    while x < end {
+        along[x] = sides_at(x, end);
+        x += 1;
+    }
 }
 
 // Where a row starts and the rows beside it start, and the sides that those are on.
@@ -281,20 +294,21 @@ fn rows_around(dims: Dimensions, y: u32, z: u32) -> Around
 fn cell_set(
     dims: Dimensions,
     outer: u8,
+    along: &[u8],
     grid: &[u8],
     full: u8,
     y: u32,
     z: u32,
     rows: Around,
     x: usize,
-    keep: u8,
-    edge: u8,
     right: usize,
     left: usize,
 ) -> u8
-    requires { ⌜ RowsOf (sizeOf dims) y z rows × Placed (sizeOf dims) outer x y z (rows .at) keep edge right left × (length (now grid) ≡ cells (sizeOf dims)) ⌝ }
+    requires { ⌜ RowsOf (sizeOf dims) y z rows × Along (dims .width) (now along) × Beside (sizeOf dims) x (rows .at) right left × (length (now grid) ≡ cells (sizeOf dims)) × (outer < 64) ⌝ }
     ensures { λ r. ⌜ r ≡ plainAt (sizeOf dims) full outer (now (grid .entry)) (cellAt (sizeOf dims) x y z) ⌝ }
 {
+    let keep = rows.sides + along[x];
+    let edge = edge_set(keep, outer);
     plain_set(
         grid[rows.at + x],
         grid[rows.up + x],
@@ -313,6 +327,7 @@ fn cell_set(
 fn lone_set(
     dims: Dimensions,
     outer: u8,
+    along: &[u8],
     grid: &[u8],
     full: u8,
     y: u32,
@@ -320,34 +335,20 @@ fn lone_set(
     rows: Around,
     x: usize,
 ) -> u8
-    requires { ⌜ RowsOf (sizeOf dims) y z rows × (length (now grid) ≡ cells (sizeOf dims)) × (outer < 64) × (x < dims .width) ⌝ }
+    requires { ⌜ RowsOf (sizeOf dims) y z rows × Along (dims .width) (now along) × (length (now grid) ≡ cells (sizeOf dims)) × (outer < 64) × (x < dims .width) ⌝ }
     ensures { λ r. ⌜ r ≡ plainAt (sizeOf dims) full outer (now (grid .entry)) (cellAt (sizeOf dims) x y z) ⌝ }
 {
-    let width = dims.width as usize;
-    let keep = cell_sides(rows.sides, x, width);
-    let edge = edge_set(keep, outer);
-    let right = step_ahead(rows.at + x, 1, x, width);
+    let right = step_ahead(rows.at + x, 1, x, dims.width as usize);
     let left = step_behind(rows.at + x, 1, x);
-    cell_set(
-        dims,
-        outer,
-        grid,
-        full,
-        y,
-        z,
-        rows,
-        x,
-        keep,
-        edge,
-        right,
-        left,
-    )
+    cell_set(dims, outer, along, grid, full, y, z, rows, x, right, left)
 }
 
-// The side sets of sixteen cells of a row that are not its ends, apart from the list they go to: so they are done at once.
+// The side sets of sixteen cells of a row, apart from the list they go to: so they are done at once. The cells before and after them are
+// read even where they are of another row, and then not kept.
 fn block_of(
     dims: Dimensions,
     outer: u8,
+    along: &[u8],
     grid: &[u8],
     full: u8,
     y: u32,
@@ -355,31 +356,17 @@ fn block_of(
     rows: Around,
     x: usize,
 ) -> [u8; 16]
-    requires { ⌜ RowsOf (sizeOf dims) y z rows × (length (now grid) ≡ cells (sizeOf dims)) × (outer < 64) × (0 < x) × (x + 16 < dims .width) ⌝ }
+    requires { ⌜ RowsOf (sizeOf dims) y z rows × Along (dims .width) (now along) × (length (now grid) ≡ cells (sizeOf dims)) × (outer < 64)
+        × (0 < rows .at) × (x + 16 ≤ dims .width) × (rows .at + dims .width < cells (sizeOf dims)) ⌝ }
     ensures { λ r. ⌜ ((i : ℕ) → i < 16 → getD r i 0 ≡ plainAt (sizeOf dims) full outer (now (grid .entry)) (cellAt (sizeOf dims) (x + i) y z)) ⌝ }
 {
-    let keep = rows.sides + 12;
-    let edge = edge_set(keep, outer);
     let mut block: [u8; 16] = [0; 16];
     let mut i: usize = 0;
     while i < 16 {
         let on = x + i;
         let right = rows.at + on + 1;
         let left = rows.at + on - 1;
-        block[i] = cell_set(
-            dims,
-            outer,
-            grid,
-            full,
-            y,
-            z,
-            rows,
-            on,
-            keep,
-            edge,
-            right,
-            left,
-        );
+        block[i] = cell_set(dims, outer, along, grid, full, y, z, rows, on, right, left);
         i += 1;
     }
     block
@@ -400,32 +387,41 @@ fn store_block(sets: &mut [u8], x: usize, block: [u8; 16])
 
 // Where the next block starts: at x, or so that it ends with the row.
 fn block_start(x: usize, end: usize) -> usize
-    requires { ⌜ (0 < x) × (x < end) × (17 ≤ end) × (end ≤ 1024) ⌝ }
-    ensures { λ r. ⌜ (0 < r) × (r ≤ x) × (x < r + 16) × (r + 16 ≤ end) ⌝ }
+    requires { ⌜ (x < end) × (16 ≤ end) × (end ≤ 1024) ⌝ }
+    ensures { λ r. ⌜ (r ≤ x) × (x < r + 16) × (r + 16 ≤ end) ⌝ }
 {
     if x + 16 <= end { x } else { end - 16 }
 }
 
-// The side sets of a row's cells, but for its ends.
-fn inner_row(
+// Whether a row has room for a block, and the grid has cells before and after the row.
+fn has_blocks(at: usize, width: usize, cells: usize) -> bool
+    requires { ⌜ (at ≤ 1048576) × (width ≤ 1024) ⌝ }
+    ensures { λ r. ⌜ (r ≡ true → (16 ≤ width) × (0 < at) × (at + width < cells)) ⌝ }
+{
+    (16 <= width) & (0 < at) & (at + width < cells)
+}
+
+// The side sets of a row, sixteen cells at a time.
+fn block_row(
     sets: &mut [u8],
     dims: Dimensions,
     outer: u8,
+    along: &[u8],
     grid: &[u8],
     full: u8,
     y: u32,
     z: u32,
     rows: Around,
 )
-    requires { ⌜ RowsOf (sizeOf dims) y z rows × (length (now grid) ≡ cells (sizeOf dims)) × (outer < 64) × (18 ≤ dims .width) × (dims .width ≤ length (now sets)) ⌝ }
-    ensures { λ _. ⌜ (length (now (sets .exit)) ≡ length (now (sets .entry)))
-        × ((x : ℕ) → 0 < x → x + 1 < dims .width → getD (now (sets .exit)) x 0 ≡ plainAt (sizeOf dims) full outer (now (grid .entry)) (cellAt (sizeOf dims) x y z)) ⌝ }
+    requires { ⌜ RowsOf (sizeOf dims) y z rows × Along (dims .width) (now along) × (length (now grid) ≡ cells (sizeOf dims)) × (outer < 64) × (dims .width ≤ length (now sets))
+        × (16 ≤ dims .width) × (0 < rows .at) × (rows .at + dims .width < cells (sizeOf dims)) ⌝ }
+    ensures { λ _. ⌜ PlainRow (sizeOf dims) full outer (now (grid .entry)) y z (now (sets .exit)) ⌝ }
 {
-    let end = dims.width as usize - 1;
-    let mut x: usize = 1;
-    while x < end {
-        let start = block_start(x, end);
-        let block = block_of(dims, outer, grid, full, y, z, rows, start);
+    let width = dims.width as usize;
+    let mut x: usize = 0;
+    while x < width {
+        let start = block_start(x, width);
+        let block = block_of(dims, outer, along, grid, full, y, z, rows, start);
         store_block(sets, start, block);
         x = start + 16;
     }
@@ -436,19 +432,20 @@ fn short_row(
     sets: &mut [u8],
     dims: Dimensions,
     outer: u8,
+    along: &[u8],
     grid: &[u8],
     full: u8,
     y: u32,
     z: u32,
     rows: Around,
 )
-    requires { ⌜ RowsOf (sizeOf dims) y z rows × (length (now grid) ≡ cells (sizeOf dims)) × (outer < 64) × (dims .width ≤ length (now sets)) ⌝ }
+    requires { ⌜ RowsOf (sizeOf dims) y z rows × Along (dims .width) (now along) × (length (now grid) ≡ cells (sizeOf dims)) × (outer < 64) × (dims .width ≤ length (now sets)) ⌝ }
     ensures { λ _. ⌜ PlainRow (sizeOf dims) full outer (now (grid .entry)) y z (now (sets .exit)) ⌝ }
 {
     let width = dims.width as usize;
     let mut x: usize = 0;
     while x < width {
-        sets[x] = lone_set(dims, outer, grid, full, y, z, rows, x);
+        sets[x] = lone_set(dims, outer, along, grid, full, y, z, rows, x);
         x += 1;
     }
 }
@@ -458,24 +455,21 @@ fn plain_row(
     sets: &mut [u8],
     dims: Dimensions,
     outer: u8,
+    along: &[u8],
     grid: &[u8],
     full: u8,
     y: u32,
     z: u32,
     rows: Around,
 )
-    requires { ⌜ RowsOf (sizeOf dims) y z rows × (length (now grid) ≡ cells (sizeOf dims)) × (outer < 64) × (dims .width ≤ length (now sets)) ⌝ }
+    requires { ⌜ RowsOf (sizeOf dims) y z rows × Along (dims .width) (now along) × (length (now grid) ≡ cells (sizeOf dims)) × (outer < 64) × (dims .width ≤ length (now sets)) ⌝ }
     ensures { λ _. ⌜ PlainRow (sizeOf dims) full outer (now (grid .entry)) y z (now (sets .exit)) ⌝ }
 {
-    let width = dims.width as usize;
-    if width < 18 {
-        short_row(sets, dims, outer, grid, full, y, z, rows);
+    if has_blocks(rows.at, dims.width as usize, grid.len()) {
+        block_row(sets, dims, outer, along, grid, full, y, z, rows);
         return;
     }
-    inner_row(sets, dims, outer, grid, full, y, z, rows);
-    let end = width - 1;
-    sets[0] = lone_set(dims, outer, grid, full, y, z, rows, 0);
-    sets[end] = lone_set(dims, outer, grid, full, y, z, rows, end);
+    short_row(sets, dims, outer, along, grid, full, y, z, rows);
 }
 
 // The side sets of a row, cell by cell.
@@ -545,6 +539,7 @@ pub fn drawn_row(
     sets: &mut [u8],
     dims: Dimensions,
     outer: u8,
+    along: &[u8],
     grid: &[u8],
     kinds: &[u8],
     covers: &[u8],
@@ -553,12 +548,12 @@ pub fn drawn_row(
     y: u32,
     z: u32,
 )
-    requires { ⌜ Whole (sizeOf dims) (now grid) (length (now covers)) × (length (now covers) ≡ length (now kinds)) × Plainly (now kinds) (now covers) clear full × (y < dims .height) × (z < dims .length) × (dims .width ≤ length (now sets)) × (outer < 64) ⌝ }
+    requires { ⌜ Whole (sizeOf dims) (now grid) (length (now covers)) × (length (now covers) ≡ length (now kinds)) × Plainly (now kinds) (now covers) clear full × (y < dims .height) × (z < dims .length) × (dims .width ≤ length (now sets)) × (outer < 64) × Along (dims .width) (now along) ⌝ }
     ensures { λ _. ⌜ ((faces : List ℕ) → outer ≡ outerSet faces → RowShown (sizeOf dims) (now (kinds .entry)) (now (covers .entry)) faces (now (grid .entry)) y z (now (sets .exit))) ⌝ }
 {
     let rows = rows_around(dims, y, z);
     if is_plain_row(dims, grid, clear, full, y, z, rows) {
-        plain_row(sets, dims, outer, grid, full, y, z, rows);
+        plain_row(sets, dims, outer, along, grid, full, y, z, rows);
         return;
     }
     row_by_cells(sets, dims, outer, grid, kinds, covers, y, z);

@@ -8,6 +8,7 @@ use culling::clear_types;
 use culling::drawn_row;
 use culling::full_from;
 use culling::outer_set;
+use culling::sides_along;
 use drawing::draw_cell;
 use face::Cell;
 use face::quads_of;
@@ -27,7 +28,7 @@ ghost use Rattle.rules.specs.Calls.{world, span, meshGrid};
 ghost use Rattle.util.specs.Grid.{sizeOf, cordsOf, Starts};
 ghost use Rattle.admit.specs.Scenes.{sceneOf};
 ghost use Rattle.culling.specs.Culling.{worldOf};
-ghost use Rattle.culling.specs.Rows.{Whole};
+ghost use Rattle.culling.specs.Rows.{Whole, Along};
 ghost use Rattle.drawing.specs.Rooms.{Bare};
 ghost use Rattle.drawing.specs.Drawn.{facesDrawn, cellsDrawn, asked};
 ghost use Rattle.meshem.specs.Fresh.{setAt, facesOf, Rows, RowOf, setsFrom, Roomy, CellReady, RowReady};
@@ -82,6 +83,7 @@ fn side_row(
     dims: Dimensions,
     culling: bool,
     outer: u8,
+    along: &[u8],
     grid: &[u8],
     kinds: &[u8],
     covers: &[u8],
@@ -92,14 +94,48 @@ fn side_row(
     z: u32,
 )
     requires { ⌜ Rows (sizeOf dims) (now grid) (now kinds) (now covers) clear full × (outer < 64)
-        × Starts (sizeOf dims) first y z × (dims .width ≤ length (now sets)) ⌝ }
+        × Starts (sizeOf dims) first y z × (dims .width ≤ length (now sets)) × Along (dims .width) (now along) ⌝ }
     ensures { λ _. ⌜ RowOf (setAt culling (worldOf (sizeOf dims) (now (kinds .entry)) (now (covers .entry))) (facesOf outer) (now (grid .entry))) first (dims .width) (now (sets .exit)) ⌝ }
 {
     if culling {
-        drawn_row(sets, dims, outer, grid, kinds, covers, clear, full, y, z);
+        drawn_row(
+            sets,
+            dims,
+            outer,
+            along,
+            grid,
+            kinds,
+            covers,
+            clear,
+            full,
+            y,
+            z,
+        );
         return;
     }
     cube_row(sets, dims, grid, kinds, first);
+}
+
+// How many quads few sets ask for: a byte holds it, so that they are added up many at once.
+fn quads_in_few(sets: &[u8]) -> u8
+    requires { ⌜ (length (now sets) ≤ 32) × ((x : ℕ) → x < length (now sets) → getD (now sets) x 0 < 64) ⌝ }
+    ensures { λ r. ⌜ r ≡ asked (setsFrom 0 (now (sets .entry))) 0 (length (now (sets .entry))) ⌝ }
+{
+    let mut n: u8 = 0;
+    let mut x: usize = 0;
+    while x < sets.len() {
+        n += quads_of(sets[x]) as u8;
+        x += 1;
+    }
+    n
+}
+
+// Where the few sets from x on end.
+fn few_to(x: usize, end: usize) -> usize
+    requires { ⌜ (x < end) × (end ≤ 1024) ⌝ }
+    ensures { λ r. ⌜ (x < r) × (r ≤ x + 32) × (r ≤ end) ⌝ }
+{
+    if x + 32 <= end { x + 32 } else { end }
 }
 
 // How many quads the sets of a row ask for.
@@ -110,8 +146,9 @@ fn quads_in(sets: &[u8]) -> u32
     let mut n: u32 = 0;
     let mut x: usize = 0;
     while x < sets.len() {
-        n += quads_of(sets[x]);
-        x += 1;
+        let to = few_to(x, sets.len());
+        n += quads_in_few(&sets[x..to]) as u32;
+        x = to;
     }
     n
 }
@@ -121,13 +158,14 @@ fn count_quads(
     dims: Dimensions,
     culling: bool,
     outer: u8,
+    along: &[u8],
     grid: &[u8],
     kinds: &[u8],
     covers: &[u8],
     sets: &mut [u8],
 ) -> usize
     requires { ⌜ Whole (sizeOf dims) (now grid) (length (now covers)) × (length (now covers) ≡ length (now kinds)) × (outer < 64)
-        × (dims .width ≤ length (now sets)) × (length (now kinds) ≤ 255) ⌝ }
+        × (dims .width ≤ length (now sets)) × (length (now kinds) ≤ 255) × Along (dims .width) (now along) ⌝ }
     ensures { λ r. ⌜ r ≡ asked (setAt culling (worldOf (sizeOf dims) (now (kinds .entry)) (now (covers .entry))) (facesOf outer) (now (grid .entry))) 0 (cells (sizeOf dims)) ⌝ }
 {
     let clear = clear_types(kinds, covers);
@@ -144,6 +182,7 @@ fn count_quads(
             dims,
             culling,
             outer,
+            along,
             grid,
             kinds,
             covers,
@@ -272,6 +311,7 @@ fn draw_rows(
     scene: Scene,
     culling: bool,
     outer: u8,
+    along: &[u8],
     grid: &[u8],
     kinds: &[u8],
     covers: &[u8],
@@ -280,7 +320,8 @@ fn draw_rows(
 )
     requires { ⌜ Roomy (sceneOf scene (now kinds) (now covers) (now cubes)) culling outer (now grid)
         (listsOf (now vertices) (now triangles) (now links) (now slots)) × (scene .dims .width ≤ length (now sets))
-        × ((c : ℕ) → c < cells (sizeOf (scene .dims)) → Bare c (listsOf (now vertices) (now triangles) (now links) (now slots))) ⌝ }
+        × ((c : ℕ) → c < cells (sizeOf (scene .dims)) → Bare c (listsOf (now vertices) (now triangles) (now links) (now slots)))
+        × Along (scene .dims .width) (now along) ⌝ }
     ensures { λ _. ⌜ listsOf (now (vertices .exit)) (now (triangles .exit)) (now (links .exit)) (now (slots .exit))
         ≡ cellsDrawn (span (sceneOf scene (now (kinds .entry)) (now (covers .entry)) (now (cubes .entry))))
         (setAt culling (world (sceneOf scene (now (kinds .entry)) (now (covers .entry)) (now (cubes .entry)))) (facesOf outer) (now (grid .entry)))
@@ -301,6 +342,7 @@ fn draw_rows(
             dims,
             culling,
             outer,
+            along,
             grid,
             kinds,
             covers,
@@ -341,6 +383,7 @@ fn draw_cells(
     scene: Scene,
     culling: bool,
     outer: u8,
+    along: &[u8],
     grid: &[u8],
     kinds: &[u8],
     covers: &[u8],
@@ -348,7 +391,8 @@ fn draw_cells(
     sets: &mut [u8],
 )
     requires { ⌜ Roomy (sceneOf scene (now kinds) (now covers) (now cubes)) culling outer (now grid)
-        (listsOf (now vertices) (now triangles) (now links) (now slots)) × (scene .dims .width ≤ length (now sets)) ⌝ }
+        (listsOf (now vertices) (now triangles) (now links) (now slots)) × (scene .dims .width ≤ length (now sets))
+        × Along (scene .dims .width) (now along) ⌝ }
     ensures { λ _. ⌜ listsOf (now (vertices .exit)) (now (triangles .exit)) (now (links .exit)) (now (slots .exit))
         ≡ cellsDrawn (span (sceneOf scene (now (kinds .entry)) (now (covers .entry)) (now (cubes .entry))))
         (setAt culling (world (sceneOf scene (now (kinds .entry)) (now (covers .entry)) (now (cubes .entry)))) (facesOf outer) (now (grid .entry)))
@@ -366,6 +410,7 @@ fn draw_cells(
         scene,
         culling,
         outer,
+        along,
         grid,
         kinds,
         covers,
@@ -398,8 +443,19 @@ pub fn mesh_grid(
     }
     let culling = algorithm.is_culling();
     let sides = outer_set(outer);
+    let mut along: [u8; 1024] = [0; 1024];
+    sides_along(&mut along, scene.dims.width);
     let mut sets: [u8; 1024] = [0; 1024];
-    let quads = count_quads(scene.dims, culling, sides, grid, kinds, covers, &mut sets);
+    let quads = count_quads(
+        scene.dims,
+        culling,
+        sides,
+        &along,
+        grid,
+        kinds,
+        covers,
+        &mut sets,
+    );
     let room = room_of(scene.coloured, vertices.len(), triangles.len(), links.len());
     if room < quads {
         return Meshed::Refused(Refusal::NoRoom, 0);
@@ -412,6 +468,7 @@ pub fn mesh_grid(
         scene,
         culling,
         sides,
+        &along,
         grid,
         kinds,
         covers,

@@ -22,16 +22,16 @@ use Rattle.checking.proofs.lowest_by_rows.Statement.{statement}
 use Rattle.checking.proofs.lowest_by_rows.Tie as tie
 
 abbrev Inv-loop : tie.InvT-loop
-Inv-loop dims outer grid kinds covers slots sets₀ clear full width end y₀ z₀ c₀ sets y z c =
+Inv-loop dims outer along grid kinds covers slots sets₀ clear full width end y₀ z₀ c₀ sets y z c =
     (end ≡ cells (sizeOf dims)) × (c ≤ end) × (length sets ≡ length sets₀)
     × ((faces : List ℕ) → outer ≡ outerSet faces → Searched (6 * cells (sizeOf dims)) (wrongSlot (worldOf (sizeOf dims) kinds covers) faces grid slots) (6 * c))
     × (cordsOf 0 y z ≡ coordinates (sizeOf dims) c)
 
 abbrev μ-loop : tie.MeasureT-loop
-μ-loop dims outer grid kinds covers slots sets₀ clear full width end y₀ z₀ c₀ sets y z c = end - c
+μ-loop dims outer along grid kinds covers slots sets₀ clear full width end y₀ z₀ c₀ sets y z c = end - c
 
 abbrev start : tie.After-slice-known Inv-loop μ-loop → tie.Start Inv-loop μ-loop
-start c = c .before .before .before .before .before
+start c = c .before .before .before .before .before .before
 
 abbrev size : tie.Start Inv-loop μ-loop → Size
 size s = sizeOf (s .args .dims)
@@ -73,6 +73,7 @@ drawn-row-requires c κs =
       long (size s) (ok .within) (row i),
       omega (arith, i .before .loop .inv .2, s .pre .4),
       s .pre .3,
+      s .pre .5,
     )
 
 cast-start : tie.Need-cast-start Inv-loop μ-loop

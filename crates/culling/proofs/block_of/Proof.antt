@@ -3,24 +3,18 @@ use Prim.Native.Nat.{_+_, _-_, _≤_}
 use Rattle.rules.specs.Cells.{cellAt}
 use Rattle.util.specs.Grid.{sizeOf}
 use Rattle.culling.specs.Rows.{plainAt}
-use Rattle.culling.proofs.Plain.{few-sides, inner-placed, Passed, passed, pass}
+use Rattle.culling.proofs.Plain.{beside-in-grid, Passed, passed, pass}
 use borrow.Author.Needs.{needs}
 use native.Mathlib.Omega.{arith}
 use Rattle.culling.proofs.block_of.Statement.{statement}
 use Rattle.culling.proofs.block_of.Tie as tie
 
 abbrev Inv-loop : tie.InvT-loop
-Inv-loop dims outer grid full y z rows x keep edge block₀ i₀ block i =
+Inv-loop dims outer along grid full y z rows x block₀ i₀ block i =
     (i ≤ 16) × Passed (λ k. plainAt (sizeOf dims) full outer grid (cellAt (sizeOf dims) (x + k) y z)) block₀ block i
 
 abbrev μ-loop : tie.MeasureT-loop
-μ-loop dims outer grid full y z rows x keep edge block₀ i₀ block i = 16 - i
-
-add-keep : tie.Need-add-keep Inv-loop μ-loop
-add-keep c = omega (arith, few-sides (sizeOf (c .before .before .args .dims)) (c .before .before .pre .0))
-
-edge-set-requires : tie.Need-edge-set-requires Inv-loop μ-loop
-edge-set-requires c κs = (omega (arith, few-sides (sizeOf (c .before .before .args .dims)) (c .before .before .pre .0)), c .before .before .pre .2)
+μ-loop dims outer along grid full y z rows x block₀ i₀ block i = 16 - i
 
 loop-holds : tie.Need-loop-holds Inv-loop μ-loop
 loop-holds c = (omega arith, passed _ _)
@@ -42,8 +36,8 @@ sub-left c = omega arith
 
 cell-set-requires : tie.Need-cell-set-requires Inv-loop μ-loop
 cell-set-requires c κs =
-    let s = c .before .before .before .before .before .before .before in
-    (s .pre .0, inner-placed (sizeOf (s .args .dims)) (s .args .x + c .before .before .before .loop .i) (s .pre .0) (omega arith) (omega arith) (c .before .before .before .before .edge-set .ensures .1), s .pre .1)
+    let s = c .before .before .before .before .before .before in
+    (s .pre .0, s .pre .1, beside-in-grid (sizeOf (s .args .dims)) (s .pre .0) (omega arith) (s .pre .4) (s .pre .6), s .pre .2, s .pre .3)
 
 array-write-block : tie.Need-array-write-block Inv-loop μ-loop
 array-write-block c = search needs
@@ -68,8 +62,6 @@ block-of-spec =
     (tie.spec
     Inv-loop
     μ-loop
-    add-keep
-    edge-set-requires
     loop-holds
     add-on
     add-right

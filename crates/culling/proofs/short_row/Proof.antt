@@ -10,11 +10,11 @@ use Rattle.culling.proofs.short_row.Statement.{statement}
 use Rattle.culling.proofs.short_row.Tie as tie
 
 abbrev Inv-loop : tie.InvT-loop
-Inv-loop sets₀ dims outer grid full y z rows width x₀ sets x =
+Inv-loop sets₀ dims outer along grid full y z rows width x₀ sets x =
     (x ≤ width) × Passed (λ k. plainAt (sizeOf dims) full outer grid (cellAt (sizeOf dims) k y z)) sets₀ sets x
 
 abbrev μ-loop : tie.MeasureT-loop
-μ-loop sets₀ dims outer grid full y z rows width x₀ sets x = width - x
+μ-loop sets₀ dims outer along grid full y z rows width x₀ sets x = width - x
 
 cast-width : tie.Need-cast-width Inv-loop μ-loop
 cast-width c = search needs

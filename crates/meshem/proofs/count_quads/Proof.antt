@@ -21,16 +21,16 @@ use Rattle.meshem.proofs.count_quads.Statement.{statement}
 use Rattle.meshem.proofs.count_quads.Tie as tie
 
 abbrev Inv-loop : tie.InvT-loop
-Inv-loop dims culling outer grid kinds covers sets₀ clear full width end n₀ y₀ z₀ c₀ sets n y z c =
+Inv-loop dims culling outer along grid kinds covers sets₀ clear full width end n₀ y₀ z₀ c₀ sets n y z c =
     (end ≡ cells (sizeOf dims)) × (c ≤ end) × (length sets ≡ length sets₀)
     × (n ≡ asked (setAt culling (worldOf (sizeOf dims) kinds covers) (facesOf outer) grid) 0 c)
     × (cordsOf 0 y z ≡ coordinates (sizeOf dims) c)
 
 abbrev μ-loop : tie.MeasureT-loop
-μ-loop dims culling outer grid kinds covers sets₀ clear full width end n₀ y₀ z₀ c₀ sets n y z c = end - c
+μ-loop dims culling outer along grid kinds covers sets₀ clear full width end n₀ y₀ z₀ c₀ sets n y z c = end - c
 
 abbrev start : tie.After-slice-known Inv-loop μ-loop → tie.Start Inv-loop μ-loop
-start c = c .before .before .before .before
+start c = c .before .before .before .before .before
 
 abbrev size : tie.Start Inv-loop μ-loop → Size
 size s = sizeOf (s .args .dims)
@@ -69,6 +69,7 @@ side-row-requires c κs =
       s .pre .2,
       row i,
       omega (arith, i .before .loop .inv .2, s .pre .3),
+      s .pre .5,
     )
 
 -- the row is there, with its sets

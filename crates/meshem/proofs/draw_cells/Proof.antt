@@ -22,7 +22,7 @@ use Rattle.meshem.proofs.draw_cells.Statement.{statement}
 use Rattle.meshem.proofs.draw_cells.Tie as tie
 
 abbrev start : tie.After-dims → tie.Start
-start c = c .before .before .before .before .before .before .before .before .before .before
+start c = c .before .before .before .before .before .before .before .before .before .before .before
 
 abbrev scene : tie.Start → Scene
 scene s = sceneOf (s .args .scene) (now (s .args .kinds)) (now (s .args .covers)) (now (s .args .cubes))
@@ -84,6 +84,7 @@ draw-rows-requires c κs =
           (roomy-bare (a .scene) (now (a .kinds)) (now (a .covers)) (now (a .cubes)) (a .culling) (a .outer) (now (a .grid)) (s .pre .0)),
       s .pre .1,
       λ k h. subst (Bare k) (bare-lists n) (bared 0 (all s) (lists s) (omega (arith, s .pre .0 .slots)) k (omega arith) (omega arith)),
+      s .pre .2,
     )
 
 same-length : tie.Need-same-length

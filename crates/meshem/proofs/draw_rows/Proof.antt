@@ -23,7 +23,7 @@ use Rattle.meshem.proofs.draw_rows.Statement.{statement}
 use Rattle.meshem.proofs.draw_rows.Tie as tie
 
 abbrev Inv-loop : tie.InvT-loop
-Inv-loop vertices₀ triangles₀ links₀ slots₀ scene culling outer grid kinds covers cubes sets₀ dims end clear full base₀ y₀ z₀ c₀ vertices triangles links slots sets base y z c =
+Inv-loop vertices₀ triangles₀ links₀ slots₀ scene culling outer along grid kinds covers cubes sets₀ dims end clear full base₀ y₀ z₀ c₀ vertices triangles links slots sets base y z c =
     (end ≡ cells (sizeOf (scene .dims))) × (c ≤ end) × (length sets ≡ length sets₀)
     × (base ≡ asked (setAt culling (world (sceneOf scene kinds covers cubes)) (facesOf outer) grid) 0 c)
     × (listsOf vertices triangles links slots
@@ -32,10 +32,10 @@ Inv-loop vertices₀ triangles₀ links₀ slots₀ scene culling outer grid kin
     × (cordsOf 0 y z ≡ coordinates (sizeOf (scene .dims)) c) × (dims ≡ scene .dims)
 
 abbrev μ-loop : tie.MeasureT-loop
-μ-loop vertices₀ triangles₀ links₀ slots₀ scene culling outer grid kinds covers cubes sets₀ dims end clear full base₀ y₀ z₀ c₀ vertices triangles links slots sets base y z c = end - c
+μ-loop vertices₀ triangles₀ links₀ slots₀ scene culling outer along grid kinds covers cubes sets₀ dims end clear full base₀ y₀ z₀ c₀ vertices triangles links slots sets base y z c = end - c
 
 abbrev start : tie.After-dims Inv-loop μ-loop → tie.Start Inv-loop μ-loop
-start c = c .before .before .before .before .before .before .before .before .before .before
+start c = c .before .before .before .before .before .before .before .before .before .before .before
 
 abbrev size : tie.Start Inv-loop μ-loop → Size
 size s = sizeOf (s .args .scene .dims)
@@ -81,6 +81,7 @@ side-row-requires c κs =
       r .few,
       row i,
       omega (arith, i .before .loop .inv .2, s .pre .1),
+      s .pre .3,
     )
 
 -- the row holds the sets of its cells

@@ -43,10 +43,10 @@ known c = let s = start (c .before .before) in admitted (scene s) (now (s .args 
 
 -- as many quads as the fresh mesh has
 quads-are : (c : tie.After-count-quads) →
-    let s = start (c .before .before .before .before .before .before) in
+    let s = start (c .before .before .before .before .before .before .before .before .before .before) in
     c .count-quads .result ≡ length (freshMesh (scene s) (now (s .args .outer)) (now (s .args .grid)) (isCulling (s .args .algorithm)))
 quads-are c =
-    let o = c .before .before in
+    let o = c .before .before .before .before .before .before in
     let k = o .before in
     let e = k .before in
     let s = start (e .before .before) in
@@ -57,8 +57,8 @@ quads-are c =
     (λ i. set-world S (k .is-culling .result) (facesOf (o .outer-set .result)) g i)
     ∙ rw (k .is-culling .ensures, o .outer-set .ensures) (counted S (now (s .args .outer)) g (isCulling (s .args .algorithm)) (lists s) (known e))
 
-room-is : (c : tie.After-room-of) → let s = start (c .before .before .before .before .before .before .before .before) in c .room-of .result ≡ room (scene s) (lists s)
-room-is c = let s = start (c .before .before .before .before .before .before .before .before) in c .room-of .ensures (lists s) (record { vertices = refl; triangles = refl; links = refl })
+room-is : (c : tie.After-room-of) → let s = start (c .before .before .before .before .before .before .before .before .before .before .before .before) in c .room-of .result ≡ room (scene s) (lists s)
+room-is c = let s = start (c .before .before .before .before .before .before .before .before .before .before .before .before) in c .room-of .ensures (lists s) (record { vertices = refl; triangles = refl; links = refl })
 
 input-verdict-requires : tie.Need-input-verdict-requires
 input-verdict-requires c κs = search needs
@@ -85,17 +85,27 @@ outer-set-requires c κs = known (c .before) .face
 few : (c : tie.After-outer-set) → c .outer-set .result < 64
 few c = rw (c .outer-set .ensures) (setOf-lt (λ f. member f (now (start (c .before .before .before .before) .args .outer))))
 
+slice-aggregate-sides-along : tie.Need-slice-aggregate-sides-along
+slice-aggregate-sides-along c = search needs
+
+sides-along-requires : tie.Need-sides-along-requires
+sides-along-requires c κs = let w = known (c .before .before .before) .within .sides .widest in (w, w)
+
 slice-aggregate-count-quads : tie.Need-slice-aggregate-count-quads
 slice-aggregate-count-quads c = search needs
 
+slice-aggregate-count-quads-2 : tie.Need-slice-aggregate-count-quads-2
+slice-aggregate-count-quads-2 c = search needs
+
 count-quads-requires : tie.Need-count-quads-requires
 count-quads-requires c κs =
-    let k = known (c .before .before .before) in (
+    let k = known (c .before .before .before .before .before .before .before) in (
       record { within = k .within; whole = k .whole; typed = λ i l. rw (k .typed .covered) (k .type i l) },
       k .typed .covered,
-      few (c .before),
+      few (c .before .before .before .before .before),
       k .within .sides .widest,
       k .typed .counted .few,
+      c .before .before .before .sides-along .ensures,
     )
 
 room-of-requires : tie.Need-room-of-requires
@@ -105,7 +115,7 @@ returns-2 : tie.Need-returns-2
 returns-2 c =
     let r = c .before in
     let q = r .before .before in
-    let e = q .before .before .before .before in
+    let e = q .before .before .before .before .before .before .before .before in
     let s = start (e .before .before) in
     sym (no-room (scene s) (now (s .args .outer)) (now (s .args .grid)) (isCulling (s .args .algorithm)) (lists s) (passed e)
     (omega (arith, c .if1 .taken, room-is r, quads-are q)))
@@ -113,11 +123,14 @@ returns-2 c =
 slice-aggregate-draw-cells : tie.Need-slice-aggregate-draw-cells
 slice-aggregate-draw-cells c = search needs
 
+slice-aggregate-draw-cells-2 : tie.Need-slice-aggregate-draw-cells-2
+slice-aggregate-draw-cells-2 c = search needs
+
 draw-cells-requires : tie.Need-draw-cells-requires
 draw-cells-requires c κs =
-    let l = c .before .before .before .before .before in
+    let l = c .before .before .before .before .before .before in
     let q = l .before .before .before in
-    let o = q .before .before in
+    let o = q .before .before .before .before .before .before in
     let n = o .before in
     let e = n .before in
     let k = known e in
@@ -133,7 +146,7 @@ draw-cells-requires c κs =
       slots = k .slotted;
       quads = omega (arith, l .if1 .left, room-is (l .before), q .count-quads .ensures, a);
     } in
-    (ready, omega (arith, k .within .sides .widest, q .count-quads .kept))
+    (ready, omega (arith, k .within .sides .widest, q .count-quads .kept), q .before .before .before .before .sides-along .ensures)
 
 same-length : tie.Need-same-length
 same-length c = search needs
@@ -150,9 +163,9 @@ same-length-4 c = search needs
 returns-3 : tie.Need-returns-3
 returns-3 c =
     let d = c .before .before .before .before .before .before .before .before .before in
-    let l = d .before .before .before .before .before .before in
+    let l = d .before .before .before .before .before .before .before in
     let q = l .before .before .before in
-    let o = q .before .before in
+    let o = q .before .before .before .before .before .before in
     let n = o .before in
     let e = n .before in
     let s = start (e .before .before) in
@@ -175,11 +188,15 @@ mesh-grid-spec =
     enum-told
     is-culling-requires
     outer-set-requires
+    slice-aggregate-sides-along
+    sides-along-requires
     slice-aggregate-count-quads
+    slice-aggregate-count-quads-2
     count-quads-requires
     room-of-requires
     returns-2
     slice-aggregate-draw-cells
+    slice-aggregate-draw-cells-2
     draw-cells-requires
     same-length
     same-length-2

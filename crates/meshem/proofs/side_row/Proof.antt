@@ -16,10 +16,10 @@ use Rattle.meshem.proofs.side_row.Tie as tie
 
 drawn-row-requires : tie.Need-drawn-row-requires
 drawn-row-requires c κs =
-    let s = c .before .before .before .before .before .before in
+    let s = c .before .before .before .before .before .before .before in
     let size = sizeOf (s .args .dims) in
     let r = s .pre .0 in
-    (r .grid, r .both, r .plain, high size (r .grid .within) (s .pre .2), long size (r .grid .within) (s .pre .2), s .pre .3, s .pre .1)
+    (r .grid, r .both, r .plain, high size (r .grid .within) (s .pre .2), long size (r .grid .within) (s .pre .2), s .pre .3, s .pre .1, s .pre .4)
 
 same-length : tie.Need-same-length
 same-length c = search needs
@@ -27,7 +27,7 @@ same-length c = search needs
 returns : tie.Need-returns
 unfolding setAt
 returns c x h =
-    let s = c .before .before .before .before .before .before .before .before .before in
+    let s = c .before .before .before .before .before .before .before .before .before .before in
     let d = c .before .before in
     let size = sizeOf (s .args .dims) in
     let faces = facesOf (s .args .outer) in
@@ -36,7 +36,7 @@ returns c x h =
 
 cube-row-requires : tie.Need-cube-row-requires
 cube-row-requires c κs =
-    let s = c .before .before .before .before .before .before in
+    let s = c .before .before .before .before .before .before .before in
     let r = s .pre .0 in (
       record { within = r .grid .within; whole = r .grid .whole; typed = λ k l. omega (arith, r .grid .typed k l, r .both) },
       row-end (sizeOf (s .args .dims)) (r .grid .within) (s .pre .2),
@@ -48,7 +48,7 @@ same-length-2 c = search needs
 
 returns-2 : tie.Need-returns-2
 returns-2 c x h =
-    let s = c .before .before .before .before .before .before .before .before .before in
+    let s = c .before .before .before .before .before .before .before .before .before .before in
     rw (c .before .before .before .before .if1 .left) (c .before .before .cube-row .ensures (now (s .args .covers)) (facesOf (s .args .outer)) x h)
 
 pub side-row-spec : {M : Type 1} → statement M
