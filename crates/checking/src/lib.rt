@@ -11,11 +11,9 @@ use culling::drawn_row;
 use culling::full_from;
 use culling::outer_set;
 use culling::sides_along;
-use face::Cell;
 use face::NONE;
 use util::Dimensions;
-use util::next_y;
-use util::next_z;
+use util::Row;
 use words::first_wrong_quad;
 ghost use mathlib.Core.Path.{_≡_};
 ghost use mathlib.Core.Bool.{Bool, cond};
@@ -106,10 +104,12 @@ fn lowest_by_rows(
     let full = full_from(kinds, covers);
     let width = dims.width as usize;
     let end = dims.cell_count();
-    let mut y: u32 = 0;
-    let mut z: u32 = 0;
-    let mut c: u32 = 0;
-    while c < end {
+    let mut row = Row {
+        first: 0,
+        y: 0,
+        z: 0,
+    };
+    while row.first < end {
         drawn_row(
             sets,
             dims,
@@ -120,19 +120,15 @@ fn lowest_by_rows(
             covers,
             clear,
             full,
-            y,
-            z,
+            row.y,
+            row.z,
         );
-        let start = c as usize;
+        let start = row.first as usize;
         let face = lowest_in_row(&sets[..width], slots, start);
         if face < 6 * width {
             return 6 * start + face;
         }
-        let last = c + (dims.width - 1);
-        let to_y = next_y(Cell(last), dims.width - 1, y, z, dims);
-        z = next_z(Cell(last), dims.width - 1, y, z, dims);
-        y = to_y;
-        c = last + 1;
+        row = row.next(dims);
     }
     6 * end as usize
 }

@@ -18,7 +18,7 @@ use Rattle.rules.specs.Cells.{Size, Triple, cells, cellAt, xOf, yOf, zOf, coord
 use Rattle.rules.specs.Mesh.{typeAt, shown, drawn}
 use Rattle.rules.proofs.Searches.{every-at}
 use Rattle.rules.proofs.Sets.{setOf-lt, set-is, has-setOf}
-use Rattle.rules.proofs.Neighbours.{coordinates-cellAt, cellAt-in, beside}
+use Rattle.rules.proofs.Neighbours.{layer-on, row-on, coordinates-cellAt, cellAt-in, beside}
 use Rattle.util.specs.Grid.{cordsOf, Within}
 use Rattle.books.proofs.Books.{within}
 use Rattle.culling.specs.Culling.{worldOf, outerSet, Laid}
@@ -226,12 +226,6 @@ module _ (s : Size) (kinds covers : List ℕ) (clear full : ℕ) (p : Plainly ki
           (λ f l. sym (ap (λ (b : Bool). b && shown (worldOf s kinds covers) faces g f (neighbour s c f)) (cube ∙ e)))
 
 -- ---- rows
-
-layer-on : (y l w : ℕ) → (y + 1) * l * w ≡ y * l * w + l * w
-layer-on y l w = ap (λ (n : ℕ). n * w) (add-mul y 1 l ∙ ap (λ (n : ℕ). y * l + n) (one-mul l)) ∙ add-mul (y * l) l w
-
-row-on : (z w : ℕ) → (z + 1) * w ≡ z * w + w
-row-on z w = add-mul z 1 w ∙ ap (λ (n : ℕ). z * w + n) (one-mul w)
 
 module _ (s : Size) (within : Within s) {y z : ℕ} (high : y < s .h) (long : z < s .l) where
   pub row-start : (y * s .l + z) * s .w ≡ cellAt s 0 y z

@@ -14,8 +14,7 @@ use face::Cell;
 use face::quads_of;
 use mesh_metadata::new;
 use util::Dimensions;
-use util::next_y;
-use util::next_z;
+use util::Row;
 use voxel_mesh::floats_of;
 ghost use mathlib.Core.Path.{_≡_};
 ghost use mathlib.Core.Bool.{false};
@@ -173,10 +172,12 @@ fn count_quads(
     let width = dims.width as usize;
     let end = dims.cell_count();
     let mut n: usize = 0;
-    let mut y: u32 = 0;
-    let mut z: u32 = 0;
-    let mut c: u32 = 0;
-    while c < end {
+    let mut row = Row {
+        first: 0,
+        y: 0,
+        z: 0,
+    };
+    while row.first < end {
         side_row(
             sets,
             dims,
@@ -188,16 +189,12 @@ fn count_quads(
             covers,
             clear,
             full,
-            c,
-            y,
-            z,
+            row.first,
+            row.y,
+            row.z,
         );
         n += quads_in(&sets[..width]) as usize;
-        let last = c + (dims.width - 1);
-        let to_y = next_y(Cell(last), dims.width - 1, y, z, dims);
-        z = next_z(Cell(last), dims.width - 1, y, z, dims);
-        y = to_y;
-        c = last + 1;
+        row = row.next(dims);
     }
     n
 }
@@ -333,10 +330,12 @@ fn draw_rows(
     let clear = clear_types(kinds, covers);
     let full = full_from(kinds, covers);
     let mut base: usize = 0;
-    let mut y: u32 = 0;
-    let mut z: u32 = 0;
-    let mut c: u32 = 0;
-    while c < end {
+    let mut row = Row {
+        first: 0,
+        y: 0,
+        z: 0,
+    };
+    while row.first < end {
         side_row(
             sets,
             dims,
@@ -348,9 +347,9 @@ fn draw_rows(
             covers,
             clear,
             full,
-            c,
-            y,
-            z,
+            row.first,
+            row.y,
+            row.z,
         );
         base = draw_row(
             vertices,
@@ -361,16 +360,12 @@ fn draw_rows(
             grid,
             cubes,
             sets,
-            c,
-            y,
-            z,
+            row.first,
+            row.y,
+            row.z,
             base,
         );
-        let last = c + (dims.width - 1);
-        let to_y = next_y(Cell(last), dims.width - 1, y, z, dims);
-        z = next_z(Cell(last), dims.width - 1, y, z, dims);
-        y = to_y;
-        c = last + 1;
+        row = row.next(dims);
     }
 }
 

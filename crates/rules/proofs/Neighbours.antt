@@ -80,10 +80,10 @@ taken true m n e = refl
 taken false m n e = absurd (let z : _≡_ {A = ℕ} 0 1 = cc in omega arith)
 
 -- one layer, and one row, further on
-layer-on : (y l w : ℕ) → (y + 1) * l * w ≡ y * l * w + l * w
+pub layer-on : (y l w : ℕ) → (y + 1) * l * w ≡ y * l * w + l * w
 layer-on y l w = ap (λ (n : ℕ). n * w) (add-mul y 1 l ∙ ap (λ (n : ℕ). y * l + n) (one-mul l)) ∙ add-mul (y * l) l w
 
-row-on : (z w : ℕ) → (z + 1) * w ≡ z * w + w
+pub row-on : (z w : ℕ) → (z + 1) * w ≡ z * w + w
 row-on z w = add-mul z 1 w ∙ ap (λ (n : ℕ). z * w + n) (one-mul w)
 
 module _ (s : Size) where

@@ -1,5 +1,4 @@
 pub mod Limits
 pub mod Cells
 pub mod Neighbors
-pub mod Nexts
 pub mod Rows

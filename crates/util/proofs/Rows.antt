@@ -1,11 +1,11 @@
 -- The cells of a row of the grid, and the row after it. Assumes nothing.
-use mathlib.Core.Path.{_≡_, sym, ap, _∙_}
-use Prim.Native.Nat.{ℕ, _+_, _-_, _≤_, _<_}
+use mathlib.Core.Path.{_≡_, refl, sym, ap, _∙_}
+use Prim.Native.Nat.{ℕ, _+_, _-_, _*_, _≤_, _<_}
+use native.Mathlib.Nat.{zero-mul, zero-div, zero-mod}
 use native.Mathlib.Omega.{arith}
 use Rattle.rules.specs.Cells.{Size, Triple, cells, cellAt, yOf, zOf, coordinates}
-use Rattle.rules.proofs.Neighbours.{Inside, inside-of, cellAt-in, cellAt-coordinates, coordinates-cellAt}
+use Rattle.rules.proofs.Neighbours.{Inside, inside-of, cellAt-in, cellAt-coordinates, coordinates-cellAt, row-on, layer-on}
 use Rattle.util.specs.Grid.{Within, cordsOf, Starts}
-use Rattle.util.proofs.Nexts.{next, together}
 
 module _ (s : Size) {c y z : ℕ} (within : Within s) (starts : Starts s c y z) where
   there : Inside s c
@@ -38,15 +38,16 @@ module _ (s : Size) {c y z : ℕ} (within : Within s) (starts : Starts s c y z) 
   pub row-cords : (x : ℕ) → x < s .w → cordsOf x y z ≡ coordinates s (c + x)
   row-cords x h = sym (coordinates-cellAt s h long) ∙ ap (coordinates s) (cell-is x)
 
-  -- its last cell, and the row after it
-  pub last-in : c + (s .w - 1) < cells s
-  last-in = let w = within .sides .wide in omega (arith, row-end)
+  -- the row after it, in its layer or the next
+  pub next-row : z + 1 < s .l → cordsOf 0 y (z + 1) ≡ coordinates s (c + s .w)
+  next-row h = sym (coordinates-cellAt s (within .sides .wide) h) ∙ ap (coordinates s) (omega (arith, start-is, row-on z (s .w)))
 
-  pub last-cords : cordsOf (s .w - 1) y z ≡ coordinates s (c + (s .w - 1))
-  last-cords = let w = within .sides .wide in row-cords (s .w - 1) (omega arith)
+  pub next-layer : s .l ≤ z + 1 → cordsOf 0 (y + 1) 0 ≡ coordinates s (c + s .w)
+  next-layer h =
+      let l : z + 1 ≡ s .l = omega (arith, long) in
+      let rows = row-on z (s .w) in
+      sym (coordinates-cellAt s (within .sides .wide) (within .sides .long))
+      ∙ ap (coordinates s) (omega (arith, start-is, layer-on y (s .l) (s .w), rows, ap (λ (n : ℕ). n * s .w) l, zero-mul (s .w)))
 
-  pub next-cords : {y′ z′ : ℕ} → y′ ≡ yOf s (c + (s .w - 1) + 1) → z′ ≡ zOf s (c + (s .w - 1) + 1) → cordsOf 0 y′ z′ ≡ coordinates s (c + (s .w - 1) + 1)
-  next-cords p q =
-      let w = within .sides .wide in
-      let n = next s (c + (s .w - 1)) within last-in last-cords in
-      together s (c + (s .w - 1) + 1) (n .wraps (omega arith)) p q
+pub first : (s : Size) → cordsOf 0 0 0 ≡ coordinates s 0
+first s = rw (zero-div (s .w), zero-div (s .l), zero-mod (s .w), zero-mod (s .l)) refl

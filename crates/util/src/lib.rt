@@ -5,10 +5,10 @@ ghost use mathlib.Core.Path.{_≡_};
 ghost use mathlib.Core.Bool.{not, _&&_};
 ghost use Prim.Native.Nat.{_+_, _-_, _*_, _^_, _≤_, _<_};
 ghost use lib.Dec.{leb, ltb};
-ghost use Rattle.rules.specs.Cells.{cells, cellAt, xOf, yOf, zOf, coordinates, neighbour, onlyIf};
+ghost use Rattle.rules.specs.Cells.{cells, cellAt, coordinates, neighbour, onlyIf};
 ghost use Rattle.rules.specs.Answers.{badLimits, outOf};
 ghost use Rattle.face.specs.Face.{number};
-ghost use Rattle.util.specs.Grid.{sizeOf, tripleOf, cordsOf, cellIn, Sides, Within};
+ghost use Rattle.util.specs.Grid.{sizeOf, tripleOf, cordsOf, cellIn, Sides, Within, Starts};
 
 // Width goes along x, height along y and length along z.
 pub struct Dimensions {
@@ -19,6 +19,13 @@ pub struct Dimensions {
 
 pub struct Coordinates {
     pub x: u32,
+    pub y: u32,
+    pub z: u32,
+}
+
+// A row of cells: its first, and its y and z.
+pub struct Row {
+    pub first: u32,
     pub y: u32,
     pub z: u32,
 }
@@ -110,25 +117,26 @@ fn behind(cell: u32, step: u32, at: u32) -> Neighbor
     }
 }
 
-// The coordinates of the cell after a cell, each from the cell's own.
-pub fn next_y(cell: Cell, x: u32, y: u32, z: u32, dims: Dimensions) -> u32
-    requires { ⌜ Within (sizeOf dims) × (cell .0 < cells (sizeOf dims)) × (cordsOf x y z ≡ coordinates (sizeOf dims) (cell .0)) ⌝ }
-    ensures { λ r. ⌜ r ≡ yOf (sizeOf dims) (cell .0 + 1) ⌝ }
-{
-    if x + 1 < dims.width {
-        return y;
+impl Row {
+    // The row after it, in its layer or the next.
+    pub fn next(self, dims: Dimensions) -> Row
+        requires { ⌜ Within (sizeOf dims) × Starts (sizeOf dims) (self .first) (self .y) (self .z) ⌝ }
+        ensures { λ r. ⌜ (r .first ≡ self .first + dims .width) × (cordsOf 0 (r .y) (r .z) ≡ coordinates (sizeOf dims) (r .first)) ⌝ }
+    {
+        let first = self.first + dims.width;
+        if self.z + 1 < dims.length {
+            return Row {
+                first,
+                y: self.y,
+                z: self.z + 1,
+            };
+        }
+        Row {
+            first,
+            y: self.y + 1,
+            z: 0,
+        }
     }
-    if z + 1 < dims.length { y } else { y + 1 }
-}
-
-pub fn next_z(cell: Cell, x: u32, y: u32, z: u32, dims: Dimensions) -> u32
-    requires { ⌜ Within (sizeOf dims) × (cell .0 < cells (sizeOf dims)) × (cordsOf x y z ≡ coordinates (sizeOf dims) (cell .0)) ⌝ }
-    ensures { λ r. ⌜ r ≡ zOf (sizeOf dims) (cell .0 + 1) ⌝ }
-{
-    if x + 1 < dims.width {
-        return z;
-    }
-    if z + 1 < dims.length { z + 1 } else { 0 }
 }
 
 // The neighbour of a cell whose coordinates are known.

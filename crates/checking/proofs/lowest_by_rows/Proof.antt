@@ -13,22 +13,21 @@ use Rattle.rules.specs.Cells.{Size, cells, coordinates, setOf}
 use Rattle.rules.specs.Mesh.{World, drawn}
 use Rattle.rules.proofs.Searches.{Searched, searched, ended}
 use Rattle.util.specs.Grid.{Starts, sizeOf, Within, cordsOf}
-use Rattle.util.proofs.Nexts.{first}
 use Rattle.culling.specs.Culling.{worldOf, outerSet}
 use Rattle.checking.specs.Faces.{wrongSlot, wrongInRow}
-use Rattle.util.proofs.Rows.{high, long, cell-is, row-end, last-in, last-cords, next-cords}
+use Rattle.util.proofs.Rows.{first, high, long, cell-is, row-end}
 use Rattle.checking.proofs.Rows.{row-right, row-wrong}
 use Rattle.checking.proofs.lowest_by_rows.Statement.{statement}
 use Rattle.checking.proofs.lowest_by_rows.Tie as tie
 
 abbrev Inv-loop : tie.InvT-loop
-Inv-loop dims outer along grid kinds covers slots sets₀ clear full width end y₀ z₀ c₀ sets y z c =
-    (end ≡ cells (sizeOf dims)) × (c ≤ end) × (length sets ≡ length sets₀)
-    × ((faces : List ℕ) → outer ≡ outerSet faces → Searched (6 * cells (sizeOf dims)) (wrongSlot (worldOf (sizeOf dims) kinds covers) faces grid slots) (6 * c))
-    × (cordsOf 0 y z ≡ coordinates (sizeOf dims) c)
+Inv-loop dims outer along grid kinds covers slots sets₀ clear full width end row₀ sets row =
+    (end ≡ cells (sizeOf dims)) × (row .first ≤ end) × (length sets ≡ length sets₀)
+    × ((faces : List ℕ) → outer ≡ outerSet faces → Searched (6 * cells (sizeOf dims)) (wrongSlot (worldOf (sizeOf dims) kinds covers) faces grid slots) (6 * row .first))
+    × (cordsOf 0 (row .y) (row .z) ≡ coordinates (sizeOf dims) (row .first))
 
 abbrev μ-loop : tie.MeasureT-loop
-μ-loop dims outer along grid kinds covers slots sets₀ clear full width end y₀ z₀ c₀ sets y z c = end - c
+μ-loop dims outer along grid kinds covers slots sets₀ clear full width end row₀ sets row = end - row .first
 
 abbrev start : tie.After-slice-known Inv-loop μ-loop → tie.Start Inv-loop μ-loop
 start c = c .before .before .before .before .before .before
@@ -55,11 +54,11 @@ loop-holds : tie.Need-loop-holds Inv-loop μ-loop
 loop-holds c = (c .cell-count .ensures, omega arith, refl, λ faces e. searched _ _, first (size (start (c .before .before .before .before))))
 
 -- from the loop on: what was given, and the row that starts
-abbrev given : tie.In-loop Inv-loop μ-loop → tie.Start Inv-loop μ-loop
-given i = start (i .before .before .before .before .before .before)
+abbrev given : tie.Then1 Inv-loop μ-loop → tie.Start Inv-loop μ-loop
+given i = start (i .before .before .before .before .before .before .before)
 
-row : (i : tie.In-loop Inv-loop μ-loop) → let l = i .before .loop in Starts (size (given i)) (l .c) (l .y) (l .z)
-row i = let l = i .before .loop in record { inside = omega (arith, l .inv .0, i .loop-test .taken); cords = l .inv .4 }
+row : (i : tie.Then1 Inv-loop μ-loop) → let l = i .before .before .loop in Starts (size (given i)) (l .row .first) (l .row .y) (l .row .z)
+row i = let l = i .before .before .loop in record { inside = omega (arith, l .inv .0, i .if1 .taken); cords = l .inv .4 }
 
 drawn-row-requires : tie.Need-drawn-row-requires Inv-loop μ-loop
 drawn-row-requires c κs =
@@ -68,10 +67,10 @@ drawn-row-requires c κs =
     let ok = s .pre .0 in (
       record { within = ok .within; whole = ok .whole; typed = ok .typed },
       s .pre .1,
-      record { below = i .before .before .before .before .before .clear-types .ensures; from = i .before .before .before .before .full-from .ensures },
+      record { below = i .before .before .before .before .before .before .clear-types .ensures; from = i .before .before .before .before .before .full-from .ensures },
       high (size s) (ok .within) (row i),
       long (size s) (ok .within) (row i),
-      omega (arith, i .before .loop .inv .2, s .pre .4),
+      omega (arith, i .before .before .loop .inv .2, s .pre .4),
       s .pre .3,
       s .pre .5,
     )
@@ -83,41 +82,41 @@ cast-start c = search needs
 long-enough : (c : tie.After-drawn-row Inv-loop μ-loop) → given (c .before .before) .args .dims .width ≤ length (c .drawn-row .last .0)
 long-enough c =
     let i = c .before .before in
-    omega (arith, c .drawn-row .kept .0, i .before .loop .inv .2, given i .pre .4)
+    omega (arith, c .drawn-row .kept .0, i .before .before .loop .inv .2, given i .pre .4)
 
 slice-reshare-prefix-lowest-in-row : tie.Need-slice-reshare-prefix-lowest-in-row Inv-loop μ-loop
-slice-reshare-prefix-lowest-in-row c = long-enough (c .before .before)
+slice-reshare-prefix-lowest-in-row c = long-enough (c .before .before .before)
 
 slice-aggregate-lowest-in-row : tie.Need-slice-aggregate-lowest-in-row Inv-loop μ-loop
-slice-aggregate-lowest-in-row c = sym (length-take-le _ (c .before .before .before .drawn-row .last .0) (long-enough (c .before .before .before)))
+slice-aggregate-lowest-in-row c = sym (length-take-le _ (c .before .before .before .before .drawn-row .last .0) (long-enough (c .before .before .before .before)))
 
 -- the row's end is in the grid
-ends : (i : tie.In-loop Inv-loop μ-loop) → i .before .loop .c + given i .args .dims .width ≤ cells (size (given i))
+ends : (i : tie.Then1 Inv-loop μ-loop) → i .before .before .loop .row .first + given i .args .dims .width ≤ cells (size (given i))
 ends i = row-end (size (given i)) (given i .pre .0 .within) (row i)
 
-few : (i : tie.In-loop Inv-loop μ-loop) → i .before .loop .c + given i .args .dims .width ≤ 1048576
+few : (i : tie.Then1 Inv-loop μ-loop) → i .before .before .loop .row .first + given i .args .dims .width ≤ 1048576
 few i = omega (arith, ends i, given i .pre .0 .within .most)
 
 lowest-in-row-requires : tie.Need-lowest-in-row-requires Inv-loop μ-loop
 lowest-in-row-requires c κs =
-    let r = c .before .before .before in
+    let r = c .before .before .before .before in
     let i = r .before .before in
     let l = length-take-le (given i .args .dims .width) (r .drawn-row .last .0) (long-enough r) in
     (omega (arith, ends i, given i .pre .0 .slotted), omega (arith, few i))
 
 -- the lowest wrong face of the row
-abbrev looped : tie.After-lowest-in-row Inv-loop μ-loop → tie.In-loop Inv-loop μ-loop
-looped c = c .before .before .before .before .before .before
+abbrev looped : tie.After-lowest-in-row Inv-loop μ-loop → tie.Then1 Inv-loop μ-loop
+looped c = c .before .before .before .before .before .before .before
 
 face-is : (c : tie.After-lowest-in-row Inv-loop μ-loop) (faces : List ℕ) → given (looped c) .args .outer ≡ outerSet faces →
     let s = given (looped c) in
-    let k = looped c .before .loop .c in
+    let k = looped c .before .before .loop .row .first in
     c .lowest-in-row .result ≡ lowest (6 * s .args .dims .width) (wrongInRow (λ x. drawn (world s) faces (now (s .args .grid)) (k + x)) (now (s .args .slots)) k)
 face-is c faces e =
-    let r = c .before .before .before .before in
+    let r = c .before .before .before .before .before in
     let i = looped c in
     let s = given i in
-    let k = i .before .loop .c in
+    let k = i .before .before .loop .row .first in
     let w = s .args .dims .width in
     let list = r .drawn-row .last .0 in
     let l = length-take-le w list (long-enough r) in
@@ -128,100 +127,71 @@ face-is c faces e =
     ∙ ap (λ (n : ℕ). setOf (drawn (world s) faces (now (s .args .grid)) n)) (cell-is (size s) (s .pre .0 .within) (row i) x))
     ∙ ap (λ (n : ℕ). lowest (6 * n) (wrongInRow sides (now (s .args .slots)) k)) l
 
-wide : (i : tie.In-loop Inv-loop μ-loop) → given i .args .dims .width ≤ 1024
+wide : (i : tie.Then1 Inv-loop μ-loop) → given i .args .dims .width ≤ 1024
 wide i = given i .pre .0 .within .sides .widest
 
-mul-if1 : tie.Need-mul-if1 Inv-loop μ-loop
-mul-if1 c = omega (arith, wide (looped c))
+mul-if2 : tie.Need-mul-if2 Inv-loop μ-loop
+mul-if2 c = omega (arith, wide (looped c))
 
 mul-result : tie.Need-mul-result Inv-loop μ-loop
 mul-result c = omega (arith, few (looped (c .before)))
 
 add-result : tie.Need-add-result Inv-loop μ-loop
-add-result c = omega (arith, few (looped (c .before)), wide (looped (c .before)), c .if1 .taken)
+add-result c = omega (arith, few (looped (c .before)), wide (looped (c .before)), c .if2 .taken)
 
 same-length : tie.Need-same-length Inv-loop μ-loop
-same-length c = c .before .before .before .before .before .drawn-row .kept .0 ∙ looped (c .before) .before .loop .inv .2
+same-length c = c .before .before .before .before .before .before .drawn-row .kept .0 ∙ looped (c .before) .before .before .loop .inv .2
 
 -- the row's last face is in the grid
-fits : (i : tie.In-loop Inv-loop μ-loop) → 6 * (i .before .loop .c + given i .args .dims .width) ≤ 6 * cells (size (given i))
+fits : (i : tie.Then1 Inv-loop μ-loop) → 6 * (i .before .before .loop .row .first + given i .args .dims .width) ≤ 6 * cells (size (given i))
 fits i = omega (arith, ends i)
 
 returns : tie.Need-returns Inv-loop μ-loop
 returns c =
     λ faces e. let i = looped (c .before) in
     let s = given i in
-    row-wrong (world s) faces (now (s .args .grid)) (now (s .args .slots)) (6 * cells (size s)) (i .before .loop .c) (s .args .dims .width) (fits i) (i .before .loop .inv .3 faces e)
-    (c .before .lowest-in-row .result) (face-is (c .before) faces e) (c .if1 .taken)
+    row-wrong (world s) faces (now (s .args .grid)) (now (s .args .slots)) (6 * cells (size s)) (i .before .before .loop .row .first) (s .args .dims .width) (fits i) (i .before .before .loop .inv .3 faces e)
+    (c .before .lowest-in-row .result) (face-is (c .before) faces e) (c .if2 .taken)
 
-abbrev passed : tie.After-next-z Inv-loop μ-loop → tie.Else1 Inv-loop μ-loop
-passed c = c .before .before .before .before .before
+next-requires : tie.Need-next-requires Inv-loop μ-loop
+next-requires c κs = let i = looped (c .before) in (given i .pre .0 .within, row i)
 
-sub-last : tie.Need-sub-last Inv-loop μ-loop
-sub-last c = given (looped (c .before .before)) .pre .0 .within .sides .wide
-
-add-last : tie.Need-add-last Inv-loop μ-loop
-add-last c = omega (arith, few (looped (c .before .before)))
-
-sub-next-y : tie.Need-sub-next-y Inv-loop μ-loop
-sub-next-y c = given (looped (c .before .before .before)) .pre .0 .within .sides .wide
-
--- the row's last cell
-last : (i : tie.In-loop Inv-loop μ-loop) →
-    let l = i .before .loop in
-    let s = size (given i) in
-    Within s × (l .c + (s .w - 1) < cells s) × (cordsOf (s .w - 1) (l .y) (l .z) ≡ coordinates s (l .c + (s .w - 1)))
-last i =
-    let w = given i .pre .0 .within in
-    (w, last-in (size (given i)) w (row i), last-cords (size (given i)) w (row i))
-
-next-y-requires : tie.Need-next-y-requires Inv-loop μ-loop
-next-y-requires c κs = last (looped (c .before .before .before))
-
-sub-next-z : tie.Need-sub-next-z Inv-loop μ-loop
-sub-next-z c = given (looped (c .before .before .before .before .before)) .pre .0 .within .sides .wide
-
-next-z-requires : tie.Need-next-z-requires Inv-loop μ-loop
-next-z-requires c κs = last (looped (c .before .before .before .before .before))
-
-add-c : tie.Need-add-c Inv-loop μ-loop
-add-c c = let i = looped (passed c .before) in omega (arith, few i, given i .pre .0 .within .sides .wide)
+abbrev passed : tie.After-next Inv-loop μ-loop → tie.Else2 Inv-loop μ-loop
+passed c = c .before
 
 loop-less : tie.Need-loop-less Inv-loop μ-loop
-loop-less c = let i = looped (passed c .before) in omega (arith, i .loop-test .taken, given i .pre .0 .within .sides .wide)
+loop-less c = let i = looped (passed c .before) in omega (arith, c .next .ensures .0, i .if1 .taken, given i .pre .0 .within .sides .wide)
 
 loop-again : tie.Need-loop-again Inv-loop μ-loop
 loop-again c =
     let found = passed c .before in
     let i = looped found in
     let s = given i in
-    let l = i .before .loop in
-    let w = s .args .dims .width in
-    let one = s .pre .0 .within .sides .wide in
-    let e : l .c + (w - 1) + 1 ≡ l .c + w = omega arith in (
+    let l = i .before .before .loop in
+    let w = s .args .dims .width in (
       l .inv .0,
-      omega (arith, ends i, l .inv .0),
-      found .before .before .before .before .drawn-row .kept .0 ∙ l .inv .2,
-      λ faces o. rw e
-          (row-right (world s) faces (now (s .args .grid)) (now (s .args .slots)) (6 * cells (size s)) (l .c) w (fits i) (l .inv .3 faces o)
-          (found .lowest-in-row .result) (face-is found faces o) (passed c .if1 .left)),
-      next-cords (size s) (s .pre .0 .within) (row i) (c .before .before .next-y .ensures) (c .next-z .ensures),
+      omega (arith, c .next .ensures .0, ends i, l .inv .0),
+      found .before .before .before .before .before .drawn-row .kept .0 ∙ l .inv .2,
+      λ faces o. rw (c .next .ensures .0)
+          (row-right (world s) faces (now (s .args .grid)) (now (s .args .slots)) (6 * cells (size s)) (l .row .first) w (fits i) (l .inv .3 faces o)
+          (found .lowest-in-row .result) (face-is found faces o) (passed c .if2 .left)),
+      c .next .ensures .1,
     )
 
 cast-result : tie.Need-cast-result Inv-loop μ-loop
 cast-result c = search needs
 
 mul-result-2 : tie.Need-mul-result-2 Inv-loop μ-loop
-mul-result-2 c = omega (arith, c .before .loop .inv .0, start (c .before .before .before .before .before .before) .pre .0 .within .most)
+mul-result-2 c = omega (arith, c .before .before .loop .inv .0, start (c .before .before .before .before .before .before .before) .pre .0 .within .most)
 
 same-length-2 : tie.Need-same-length-2 Inv-loop μ-loop
-same-length-2 c = c .before .loop .inv .2
+same-length-2 c = c .before .before .loop .inv .2
 
 returns-2 : tie.Need-returns-2 Inv-loop μ-loop
 returns-2 c =
-    λ faces e. let l = c .before .loop in
-    let all : 6 * c .before .before .cell-count .result ≡ 6 * l .c = omega (arith, l .inv .1, c .loop-test .left) in
-    all ∙ ended _ _ (6 * l .c) (omega (arith, l .inv .0, l .inv .1, c .loop-test .left)) (l .inv .3 faces e)
+    λ faces e. let l = c .before .before .loop in
+    let all : 6 * c .before .before .before .cell-count .result ≡ 6 * l .row .first = omega (arith, l .inv .1, c .if1 .left) in
+    all ∙ ended _ _ (6 * l .row .first) (omega (arith, l .inv .0, l .inv .1, c .if1 .left)) (l .inv .3 faces e)
 
 pub lowest-by-rows-spec : {M : Type 1} → statement M
 lowest-by-rows-spec =
@@ -239,18 +209,12 @@ lowest-by-rows-spec =
     slice-reshare-prefix-lowest-in-row
     slice-aggregate-lowest-in-row
     lowest-in-row-requires
-    mul-if1
+    mul-if2
     mul-result
     add-result
     same-length
     returns
-    sub-last
-    add-last
-    sub-next-y
-    next-y-requires
-    sub-next-z
-    next-z-requires
-    add-c
+    next-requires
     loop-less
     loop-again
     cast-result

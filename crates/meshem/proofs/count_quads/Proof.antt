@@ -10,24 +10,23 @@ use lib.ListN.{length, getD, take}
 use lib.Seq.{getD-take, length-take-le}
 use Rattle.rules.specs.Cells.{Size, cells, coordinates}
 use Rattle.util.specs.Grid.{Starts, sizeOf, Within, cordsOf}
-use Rattle.util.proofs.Nexts.{first}
 use Rattle.culling.specs.Culling.{worldOf}
 use Rattle.drawing.specs.Drawn.{asked}
 use Rattle.meshem.specs.Fresh.{setAt, facesOf, RowOf}
 use Rattle.meshem.proofs.Sets.{set-below}
-use Rattle.util.proofs.Rows.{row-end, last-in, last-cords, next-cords}
+use Rattle.util.proofs.Rows.{first, row-end}
 use Rattle.meshem.proofs.Rows.{asked-few, asked-row, asked-on}
 use Rattle.meshem.proofs.count_quads.Statement.{statement}
 use Rattle.meshem.proofs.count_quads.Tie as tie
 
 abbrev Inv-loop : tie.InvT-loop
-Inv-loop dims culling outer along grid kinds covers sets₀ clear full width end n₀ y₀ z₀ c₀ sets n y z c =
-    (end ≡ cells (sizeOf dims)) × (c ≤ end) × (length sets ≡ length sets₀)
-    × (n ≡ asked (setAt culling (worldOf (sizeOf dims) kinds covers) (facesOf outer) grid) 0 c)
-    × (cordsOf 0 y z ≡ coordinates (sizeOf dims) c)
+Inv-loop dims culling outer along grid kinds covers sets₀ clear full width end n₀ row₀ sets n row =
+    (end ≡ cells (sizeOf dims)) × (row .first ≤ end) × (length sets ≡ length sets₀)
+    × (n ≡ asked (setAt culling (worldOf (sizeOf dims) kinds covers) (facesOf outer) grid) 0 (row .first))
+    × (cordsOf 0 (row .y) (row .z) ≡ coordinates (sizeOf dims) (row .first))
 
 abbrev μ-loop : tie.MeasureT-loop
-μ-loop dims culling outer along grid kinds covers sets₀ clear full width end n₀ y₀ z₀ c₀ sets n y z c = end - c
+μ-loop dims culling outer along grid kinds covers sets₀ clear full width end n₀ row₀ sets n row = end - row .first
 
 abbrev start : tie.After-slice-known Inv-loop μ-loop → tie.Start Inv-loop μ-loop
 start c = c .before .before .before .before .before
@@ -55,20 +54,20 @@ unfolding asked
 loop-holds c = (c .cell-count .ensures, omega arith, refl, refl, first (size (start (c .before .before .before .before))))
 
 -- from the loop on: what was given, and the row that starts
-abbrev given : tie.In-loop Inv-loop μ-loop → tie.Start Inv-loop μ-loop
-given i = start (i .before .before .before .before .before .before)
+abbrev given : tie.Then1 Inv-loop μ-loop → tie.Start Inv-loop μ-loop
+given i = start (i .before .before .before .before .before .before .before)
 
-row : (i : tie.In-loop Inv-loop μ-loop) → let l = i .before .loop in Starts (size (given i)) (l .c) (l .y) (l .z)
-row i = let l = i .before .loop in record { inside = omega (arith, l .inv .0, i .loop-test .taken); cords = l .inv .4 }
+row : (i : tie.Then1 Inv-loop μ-loop) → let l = i .before .before .loop in Starts (size (given i)) (l .row .first) (l .row .y) (l .row .z)
+row i = let l = i .before .before .loop in record { inside = omega (arith, l .inv .0, i .if1 .taken); cords = l .inv .4 }
 
 side-row-requires : tie.Need-side-row-requires Inv-loop μ-loop
 side-row-requires c κs =
     let i = c .before in
     let s = given i in (
-      record { grid = s .pre .0; both = s .pre .1; plain = record { below = i .before .before .before .before .before .clear-types .ensures; from = i .before .before .before .before .full-from .ensures } },
+      record { grid = s .pre .0; both = s .pre .1; plain = record { below = i .before .before .before .before .before .before .clear-types .ensures; from = i .before .before .before .before .before .full-from .ensures } },
       s .pre .2,
       row i,
-      omega (arith, i .before .loop .inv .2, s .pre .3),
+      omega (arith, i .before .before .loop .inv .2, s .pre .3),
       s .pre .5,
     )
 
@@ -76,7 +75,7 @@ side-row-requires c κs =
 long-enough : (c : tie.After-side-row Inv-loop μ-loop) → given (c .before .before) .args .dims .width ≤ length (c .side-row .last .0)
 long-enough c =
     let i = c .before .before in
-    omega (arith, c .side-row .kept .0, i .before .loop .inv .2, given i .pre .3)
+    omega (arith, c .side-row .kept .0, i .before .before .loop .inv .2, given i .pre .3)
 
 slice-reshare-prefix-quads-in : tie.Need-slice-reshare-prefix-quads-in Inv-loop μ-loop
 slice-reshare-prefix-quads-in c = long-enough (c .before .before)
@@ -95,17 +94,17 @@ quads-in-requires c κs =
       omega (arith, s .pre .0 .within .sides .widest),
       λ x h. let k : x < w = omega arith in
           rw (getD-take w list x 0 k, r .side-row .ensures x k)
-          (set-below (s .args .culling) (worldOf (size s) (now (s .args .kinds)) (now (s .args .covers))) (facesOf (s .args .outer)) (now (s .args .grid)) (i .before .loop .c + x)),
+          (set-below (s .args .culling) (worldOf (size s) (now (s .args .kinds)) (now (s .args .covers))) (facesOf (s .args .outer)) (now (s .args .grid)) (i .before .before .loop .row .first + x)),
     )
 
 -- as many as the row's cells ask for
 counted : (c : tie.After-quads-in Inv-loop μ-loop) →
-    let i = c .before .before .before .before .before .before in c .quads-in .result ≡ asked (sets (given i)) (i .before .loop .c) (given i .args .dims .width)
+    let i = c .before .before .before .before .before .before in c .quads-in .result ≡ asked (sets (given i)) (i .before .before .loop .row .first) (given i .args .dims .width)
 counted c =
     let r = c .before .before .before .before in
     let i = r .before .before in
     let s = given i in
-    c .quads-in .ensures ∙ asked-row (sets s) (i .before .loop .c) (s .args .dims .width) (r .side-row .last .0) (long-enough r) (r .side-row .ensures)
+    c .quads-in .ensures ∙ asked-row (sets s) (i .before .before .loop .row .first) (s .args .dims .width) (r .side-row .last .0) (long-enough r) (r .side-row .ensures)
 
 cast-n : tie.Need-cast-n Inv-loop μ-loop
 cast-n c = search needs
@@ -114,67 +113,36 @@ add-n : tie.Need-add-n Inv-loop μ-loop
 add-n c =
     let i = c .before .before .before .before .before .before in
     let s = given i in
-    let l = i .before .loop in
-    omega (arith, l .inv .3, counted c, asked-few (sets s) (l .c) 0, asked-few (sets s) (s .args .dims .width) (l .c), s .pre .0 .within .most, s .pre .0 .within .sides .widest, l .inv .0, l .inv .1)
+    let l = i .before .before .loop in
+    omega (arith, l .inv .3, counted c, asked-few (sets s) (l .row .first) 0, asked-few (sets s) (s .args .dims .width) (l .row .first), s .pre .0 .within .most, s .pre .0 .within .sides .widest, l .inv .0, l .inv .1)
 
-sub-last : tie.Need-sub-last Inv-loop μ-loop
-sub-last c = given (c .before .before .before .before .before .before .before) .pre .0 .within .sides .wide
-
--- the row's end is in the grid
-ends : (i : tie.In-loop Inv-loop μ-loop) → i .before .loop .c + given i .args .dims .width ≤ 1048576
-ends i = omega (arith, row-end (size (given i)) (given i .pre .0 .within) (row i), given i .pre .0 .within .most)
-
-add-last : tie.Need-add-last Inv-loop μ-loop
-add-last c = omega (arith, ends (c .before .before .before .before .before .before .before))
-
-sub-next-y : tie.Need-sub-next-y Inv-loop μ-loop
-sub-next-y c = given (c .before .before .before .before .before .before .before .before) .pre .0 .within .sides .wide
-
-next-y-requires : tie.Need-next-y-requires Inv-loop μ-loop
-next-y-requires c κs =
-    let i = c .before .before .before .before .before .before .before .before in
-    let w = given i .pre .0 .within in
-    (w, last-in (size (given i)) w (row i), last-cords (size (given i)) w (row i))
-
-sub-next-z : tie.Need-sub-next-z Inv-loop μ-loop
-sub-next-z c = given (c .before .before .before .before .before .before .before .before .before .before) .pre .0 .within .sides .wide
-
-next-z-requires : tie.Need-next-z-requires Inv-loop μ-loop
-next-z-requires c κs =
-    let i = c .before .before .before .before .before .before .before .before .before .before in
-    let w = given i .pre .0 .within in
-    (w, last-in (size (given i)) w (row i), last-cords (size (given i)) w (row i))
-
-add-c : tie.Need-add-c Inv-loop μ-loop
-add-c c = let i = c .before .before .before .before .before .before .before .before .before .before .before in omega (arith, ends i, given i .pre .0 .within .sides .wide)
+next-requires : tie.Need-next-requires Inv-loop μ-loop
+next-requires c κs = let i = c .before .before .before .before .before .before in (given i .pre .0 .within, row i)
 
 loop-less : tie.Need-loop-less Inv-loop μ-loop
-loop-less c = let i = c .before .before .before .before .before .before .before .before .before .before .before in omega (arith, i .loop-test .taken, given i .pre .0 .within .sides .wide)
+loop-less c = let i = c .before .before .before .before .before .before .before in omega (arith, c .next .ensures .0, i .if1 .taken, given i .pre .0 .within .sides .wide)
 
 loop-again : tie.Need-loop-again Inv-loop μ-loop
 loop-again c =
-    let i = c .before .before .before .before .before .before .before .before .before .before .before in
+    let i = c .before .before .before .before .before .before .before in
     let s = given i in
-    let l = i .before .loop in
-    let w = s .args .dims .width in
-    let one = s .pre .0 .within .sides .wide in
-    let e : l .c + (w - 1) + 1 ≡ l .c + w = omega arith in
-    let q = c .before .before .before .before .before in (
+    let l = i .before .before .loop in
+    let q = c .before in (
       l .inv .0,
-      omega (arith, row-end (size s) (s .pre .0 .within) (row i), l .inv .0),
-      c .before .before .before .before .before .before .before .before .before .side-row .kept .0 ∙ l .inv .2,
-      rw e (omega (arith, l .inv .3, counted q, asked-on (sets s) (l .c) w)),
-      next-cords (size s) (s .pre .0 .within) (row i) (c .before .before .next-y .ensures) (c .next-z .ensures),
+      omega (arith, c .next .ensures .0, row-end (size s) (s .pre .0 .within) (row i), l .inv .0),
+      q .before .before .before .before .side-row .kept .0 ∙ l .inv .2,
+      rw (c .next .ensures .0) (omega (arith, l .inv .3, counted q, asked-on (sets s) (l .row .first) (s .args .dims .width))),
+      c .next .ensures .1,
     )
 
 same-length : tie.Need-same-length Inv-loop μ-loop
-same-length c = c .before .loop .inv .2
+same-length c = c .before .before .loop .inv .2
 
 returns : tie.Need-returns Inv-loop μ-loop
 returns c =
-    let l = c .before .loop in
-    let s = start (c .before .before .before .before .before .before) in
-    let e : l .c ≡ cells (size s) = omega (arith, l .inv .0, l .inv .1, c .loop-test .left) in
+    let l = c .before .before .loop in
+    let s = start (c .before .before .before .before .before .before .before) in
+    let e : l .row .first ≡ cells (size s) = omega (arith, l .inv .0, l .inv .1, c .if1 .left) in
     l .inv .3 ∙ ap (asked (sets s) 0) e
 
 pub count-quads-spec : {M : Type 1} → statement M
@@ -194,13 +162,7 @@ count-quads-spec =
     quads-in-requires
     cast-n
     add-n
-    sub-last
-    add-last
-    sub-next-y
-    next-y-requires
-    sub-next-z
-    next-z-requires
-    add-c
+    next-requires
     loop-less
     loop-again
     same-length
