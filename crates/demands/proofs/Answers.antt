@@ -9,7 +9,6 @@ use mathlib.Core.Bool.{Bool, true, false}
 use mathlib.Core.List.{List, _++_}
 use mathlib.Core.Option.{Option, none, some}
 use native.Mathlib.Omega.{arith}
-use lib.Dec.{eqb}
 use lib.ListN.{length, take, drop}
 use borrow.Author.Tests.{eqb-false}
 use Rattle.rules.specs.Lists.{member}
@@ -17,7 +16,7 @@ use Rattle.rules.specs.Cube.{Shape, floatsOf, cubeWords}
 use Rattle.rules.specs.Mesh.{Lists, layout}
 use Rattle.rules.specs.Update.{source, work, entryAt, needed, Course}
 use Rattle.rules.specs.Answers as rules
-use Rattle.rules.specs.Answers.{fine, refuse, _then_, refuseIf, BAD-TYPES, BAD-NUMBER, BAD-LINKS, BAD-ENTRY}
+use Rattle.rules.specs.Answers.{fine, refuse}
 use Rattle.rules.specs.Calls.{Answer, CubeOutcome, cubeVerdict, cubeBy, Scene, world, span, faces, room, Outcome, freshMesh, meshVerdict, meshBy, updateVerdict, course, courseAnswer, updateBy, checkVerdict, checkBy}
 use Rattle.rules.proofs.Refusals.{Within, given, CUBE, MESH, UPDATE, CHECK, cube-numbers, mesh-numbers, update-numbers, check-numbers}
 use Rattle.answers.specs.declared.Refusal.{Refusal}
@@ -54,9 +53,10 @@ refuses {numbers = numbers} t (given h) n p e =
 not-zero : (why : Refusal) → numberOf why ≢ 0
 not-zero why = eqb-false (numberOf why) 0 (numbered why .1)
 
-zero-listed {ℓ} : {A : Type ℓ} {numbers : List ℕ} {n p : ℕ} → member 0 numbers ≡ false → Within numbers (refuse n p) → 0 ≡ n → A
-zero-listed {numbers = numbers} m (given h) e =
-    let z : _≡_ {A = Bool} true false = sym h ∙ ap (λ (i : ℕ). member i numbers) (sym e) ∙ m in
+-- a number that is not listed is not given
+unlisted {ℓ} : {A : Type ℓ} {numbers : List ℕ} {m n p : ℕ} → member m numbers ≡ false → Within numbers (refuse n p) → m ≡ n → A
+unlisted {numbers = numbers} u (given h) e =
+    let z : _≡_ {A = Bool} true false = sym h ∙ ap (λ (i : ℕ). member i numbers) (sym e) ∙ u in
     let y : _≡_ {A = ℕ} 0 1 = cc in absurd (omega arith)
 
 fine-not-refused {ℓ} : {A : Type ℓ} {n p : ℕ} → fine ≡ refuse n p → A
@@ -82,7 +82,7 @@ what-a-cube-call-says shape entry r exit = by r
     done : (v : rules.Verdict) → cubeVerdict shape entry ≡ v → Within CUBE v
         → record { answer = checkBy fine; out = exit } ≡ cubeBy v shape entry → CubeMade shape entry exit
     done fine t w e = record { accepted = t; laid = ap (λ (o : CubeOutcome). o .out) e }
-    done (refuse n p) t w e = zero-listed refl w (ap (λ (o : CubeOutcome). o .answer .number) e)
+    done (refuse n p) t w e = unlisted refl w (ap (λ (o : CubeOutcome). o .answer .number) e)
 
     refused : (number place : ℕ) → number ≢ 0 → (v : rules.Verdict) → cubeVerdict shape entry ≡ v → Within CUBE v
         → record { answer = checkBy (refuse number place); out = exit } ≡ cubeBy v shape entry
@@ -121,7 +121,7 @@ what-a-mesh-call-says S outer grid culling entry r exit e =
     go (meshed.Done quads) fine t w e =
         record { accepted = t; counted = ap (λ (o : Outcome). o .answer .quads) e; laid = ap (λ (o : Outcome). o .lists) e }
     go (meshed.Refused why place) fine t w e = absurd (not-zero why (ap (λ (o : Outcome). o .answer .number) e))
-    go (meshed.Done quads) (refuse n p) t w e = zero-listed refl w (ap (λ (o : Outcome). o .answer .number) e)
+    go (meshed.Done quads) (refuse n p) t w e = unlisted refl w (ap (λ (o : Outcome). o .answer .number) e)
     go (meshed.Refused why place) (refuse n p) t w e =
         refuses t w (ap (λ (o : Outcome). o .answer .number) e) (ap (λ (o : Outcome). o .answer .place) e) (ap (λ (o : Outcome). o .lists) e)
 
@@ -152,36 +152,10 @@ abbrev pub UpdateSays : Scene → List ℕ → Lists → ℕ → Updated → Lis
 UpdateSays S log entry Q (updated.Done count) exit = Ran S log entry Q none count exit
 UpdateSays S log entry Q (updated.Refused why place count) exit = Turned S log entry Q (numberOf why) place count exit
 
--- 14 is not given before the log is run
-data Early : rules.Verdict → Type 0 where
-  passes : Early fine
-  refused-by : {n p : ℕ} → eqb n 14 ≡ false → Early (refuse n p)
-
-infixr 20 _and-then_
-_and-then_ : {a b : rules.Verdict} → Early a → Early b → Early (a then b)
-unfolding _then_
-passes and-then w = w
-refused-by h and-then w = refused-by h
-
-early-if : (b : Bool) (n p : ℕ) → eqb n 14 ≡ false → Early (refuseIf b n p)
-unfolding refuseIf
-early-if true n p h = refused-by h
-early-if false n p h = passes
-
-early : (S : Scene) (log : List ℕ) (B : Lists) (Q : ℕ) → Early (updateVerdict S log B Q)
-unfolding BAD-TYPES BAD-NUMBER BAD-LINKS BAD-ENTRY
-early S log B Q =
-    early-if _ _ _ refl and-then ((early-if _ _ _ refl and-then early-if _ _ _ refl) and-then early-if _ _ _ refl and-then early-if _ _ _ refl)
-    and-then (early-if _ _ _ refl and-then early-if _ _ _ refl and-then (early-if _ _ _ refl and-then early-if _ _ _ refl) and-then early-if _ _ _ refl)
-    and-then (early-if _ _ _ refl and-then early-if _ _ _ refl)
-
-not-early {ℓ} : {A : Type ℓ} {n p : ℕ} → Early (refuse n p) → 14 ≡ n → A
-not-early {n = n} (refused-by h) e = absurd (eqb-false n 14 h (sym e))
-
 pub what-an-update-call-says : (S : Scene) (log : List ℕ) (entry : Lists) (Q : ℕ) (r : Updated) (exit : Lists)
     → Updates S log entry Q r exit → UpdateSays S log entry Q r exit
 what-an-update-call-says S log entry Q r exit e =
-    go r (updateVerdict S log entry Q) refl (update-numbers S log entry Q) (early S log entry Q) e
+    go r (updateVerdict S log entry Q) refl (update-numbers S log entry Q) e
   where
     c : Course
     c = course source S log entry Q
@@ -214,16 +188,16 @@ what-an-update-call-says S log entry Q r exit e =
           };
         }
 
-    go : (r : Updated) (v : rules.Verdict) → updateVerdict S log entry Q ≡ v → Within UPDATE v → Early v
+    go : (r : Updated) (v : rules.Verdict) → updateVerdict S log entry Q ≡ v → Within UPDATE v
         → outcomeOf r exit ≡ updateBy v S c entry → UpdateSays S log entry Q r exit
-    go r fine t w y e = through r t (c .full) refl e
-    go (updated.Done count) (refuse n p) t w y e = zero-listed refl w (ap (λ (o : Outcome). o .answer .number) e)
-    go (updated.Refused why place count) (refuse n p) t w y e =
+    go r fine t w e = through r t (c .full) refl e
+    go (updated.Done count) (refuse n p) t w e = unlisted refl w (ap (λ (o : Outcome). o .answer .number) e)
+    go (updated.Refused why place count) (refuse n p) t w e =
         let number = ap (λ (o : Outcome). o .answer .number) e in
         record {
           refused = λ d. refuses t w number (ap (λ (o : Outcome). o .answer .place) e) (ap (λ (o : Outcome). o .lists) e);
           uncounted = λ d. λ i. record { quads = e i .answer .quads; moved = e i .answer .moved };
-          stopped = λ z. not-early y (sym z ∙ number);
+          stopped = λ z. unlisted refl w (sym z ∙ number);
         }
 
 -- ---- the check
