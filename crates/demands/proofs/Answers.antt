@@ -9,7 +9,6 @@ use mathlib.Core.Bool.{Bool, true, false}
 use mathlib.Core.List.{List, _++_}
 use mathlib.Core.Option.{Option, none, some}
 use native.Mathlib.Omega.{arith}
-use lib.Dec.{eqb}
 use lib.ListN.{length, take, drop}
 use borrow.Author.Tests.{eqb-false}
 use Rattle.rules.specs.Lists.{member}
@@ -17,10 +16,11 @@ use Rattle.rules.specs.Cube.{Shape, floatsOf, cubeWords}
 use Rattle.rules.specs.Mesh.{Lists, layout}
 use Rattle.rules.specs.Update.{source, work, entryAt, needed, Course}
 use Rattle.rules.specs.Answers as rules
-use Rattle.rules.specs.Answers.{fine, refuse, _then_, refuseIf, BAD-TYPES, BAD-NUMBER, BAD-LINKS, BAD-ENTRY}
+use Rattle.rules.specs.Answers.{fine, refuse}
 use Rattle.rules.specs.Calls.{Answer, CubeOutcome, cubeVerdict, cubeBy, Scene, world, span, faces, room, Outcome, freshMesh, meshVerdict, meshBy, updateVerdict, course, courseAnswer, updateBy, checkVerdict, checkBy}
 use Rattle.rules.proofs.Refusals.{Within, given, CUBE, MESH, UPDATE, CHECK, cube-numbers, mesh-numbers, update-numbers, check-numbers}
 use Rattle.answers.specs.declared.Refusal.{Refusal}
+use Rattle.answers.specs.declared.Refusal.the-variants.{NoRoom}
 use Rattle.answers.specs.declared.Verdict.{Verdict}
 use Rattle.answers.specs.declared.Verdict.the-variants.{Fine, Refuse}
 use Rattle.answers.specs.Verdicts.{numberOf}
@@ -35,8 +35,8 @@ use Rattle.update.specs.declared.Updated.{Updated}
 use Rattle.update.specs.declared.Updated.the-variants as updated
 use Rattle.update.specs.Outcome.{outcomeOf}
 use Rattle.demands.specs.Contracts.{Cubes, Meshes, Updates, Checks}
-use Rattle.demands.proofs.Telling.{numbered, ByName}
-use Rattle.demands.proofs.Stopped.{none-is-not, in-log, no-room-there, done-before}
+use Rattle.demands.proofs.Telling.{numbered}
+use Rattle.demands.proofs.Stopped.{in-log, no-room-there, done-before}
 
 -- a refusal: one of the call's own numbers, which 01's tests in their order give, and what was lent is as it was
 pub record Refuses {ℓ} {A : Type ℓ} (numbers : List ℕ) (verdict : rules.Verdict) (number place : ℕ) (entry exit : A) : Type ℓ where
@@ -53,9 +53,10 @@ refuses {numbers = numbers} t (given h) n p e =
 not-zero : (why : Refusal) → numberOf why ≢ 0
 not-zero why = eqb-false (numberOf why) 0 (numbered why .1)
 
-zero-listed {ℓ} : {A : Type ℓ} {numbers : List ℕ} {n p : ℕ} → member 0 numbers ≡ false → Within numbers (refuse n p) → 0 ≡ n → A
-zero-listed {numbers = numbers} m (given h) e =
-    let z : _≡_ {A = Bool} true false = sym h ∙ ap (λ (i : ℕ). member i numbers) (sym e) ∙ m in
+-- a number that is not listed is not given
+unlisted {ℓ} : {A : Type ℓ} {numbers : List ℕ} {m n p : ℕ} → member m numbers ≡ false → Within numbers (refuse n p) → m ≡ n → A
+unlisted {numbers = numbers} u (given h) e =
+    let z : _≡_ {A = Bool} true false = sym h ∙ ap (λ (i : ℕ). member i numbers) (sym e) ∙ u in
     let y : _≡_ {A = ℕ} 0 1 = cc in absurd (omega arith)
 
 fine-not-refused {ℓ} : {A : Type ℓ} {n p : ℕ} → fine ≡ refuse n p → A
@@ -81,7 +82,7 @@ what-a-cube-call-says shape entry r exit = by r
     done : (v : rules.Verdict) → cubeVerdict shape entry ≡ v → Within CUBE v
         → record { answer = checkBy fine; out = exit } ≡ cubeBy v shape entry → CubeMade shape entry exit
     done fine t w e = record { accepted = t; laid = ap (λ (o : CubeOutcome). o .out) e }
-    done (refuse n p) t w e = zero-listed refl w (ap (λ (o : CubeOutcome). o .answer .number) e)
+    done (refuse n p) t w e = unlisted refl w (ap (λ (o : CubeOutcome). o .answer .number) e)
 
     refused : (number place : ℕ) → number ≢ 0 → (v : rules.Verdict) → cubeVerdict shape entry ≡ v → Within CUBE v
         → record { answer = checkBy (refuse number place); out = exit } ≡ cubeBy v shape entry
@@ -120,7 +121,7 @@ what-a-mesh-call-says S outer grid culling entry r exit e =
     go (meshed.Done quads) fine t w e =
         record { accepted = t; counted = ap (λ (o : Outcome). o .answer .quads) e; laid = ap (λ (o : Outcome). o .lists) e }
     go (meshed.Refused why place) fine t w e = absurd (not-zero why (ap (λ (o : Outcome). o .answer .number) e))
-    go (meshed.Done quads) (refuse n p) t w e = zero-listed refl w (ap (λ (o : Outcome). o .answer .number) e)
+    go (meshed.Done quads) (refuse n p) t w e = unlisted refl w (ap (λ (o : Outcome). o .answer .number) e)
     go (meshed.Refused why place) (refuse n p) t w e =
         refuses t w (ap (λ (o : Outcome). o .answer .number) e) (ap (λ (o : Outcome). o .answer .place) e) (ap (λ (o : Outcome). o .lists) e)
 
@@ -141,41 +142,20 @@ pub record Stopped (S : Scene) (log : List ℕ) (entry : Lists) (Q k : ℕ) (cou
   pub noRoom : room S entry < needed (work source (world S) (entryAt log k)) ((course source S log entry Q) .quads)
   pub before : Updates S (take (12 * k) log) entry Q (updated.Done count) exit
 
+-- a refusal counts nothing and changes nothing; NO_ROOM alone, 14, tells what the entries before it did, and keeps them
+pub record Turned (S : Scene) (log : List ℕ) (entry : Lists) (Q number place : ℕ) (count : Count) (exit : Lists) : Type 0 where
+  pub refused : number ≢ 14 → Refuses UPDATE (updateVerdict S log entry Q) number place entry exit
+  pub uncounted : number ≢ 14 → count ≡ record { quads = 0; moved = 0 }
+  pub stopped : number ≡ 14 → Stopped S log entry Q place count exit
+
 abbrev pub UpdateSays : Scene → List ℕ → Lists → ℕ → Updated → Lists → Type 0
 UpdateSays S log entry Q (updated.Done count) exit = Ran S log entry Q none count exit
-UpdateSays S log entry Q (updated.NoRoom k count) exit = Stopped S log entry Q k count exit
-UpdateSays S log entry Q (updated.Refused why place) exit = Refuses UPDATE (updateVerdict S log entry Q) (numberOf why) place entry exit
+UpdateSays S log entry Q (updated.Refused why place count) exit = Turned S log entry Q (numberOf why) place count exit
 
--- 14 is not given before the log is run
-data Early : rules.Verdict → Type 0 where
-  passes : Early fine
-  refused-by : {n p : ℕ} → eqb n 14 ≡ false → Early (refuse n p)
-
-infixr 20 _and-then_
-_and-then_ : {a b : rules.Verdict} → Early a → Early b → Early (a then b)
-unfolding _then_
-passes and-then w = w
-refused-by h and-then w = refused-by h
-
-early-if : (b : Bool) (n p : ℕ) → eqb n 14 ≡ false → Early (refuseIf b n p)
-unfolding refuseIf
-early-if true n p h = refused-by h
-early-if false n p h = passes
-
-early : (S : Scene) (log : List ℕ) (B : Lists) (Q : ℕ) → Early (updateVerdict S log B Q)
-unfolding BAD-TYPES BAD-NUMBER BAD-LINKS BAD-ENTRY
-early S log B Q =
-    early-if _ _ _ refl and-then ((early-if _ _ _ refl and-then early-if _ _ _ refl) and-then early-if _ _ _ refl and-then early-if _ _ _ refl)
-    and-then (early-if _ _ _ refl and-then early-if _ _ _ refl and-then (early-if _ _ _ refl and-then early-if _ _ _ refl) and-then early-if _ _ _ refl)
-    and-then (early-if _ _ _ refl and-then early-if _ _ _ refl)
-
-not-early {ℓ} : {A : Type ℓ} {n p : ℕ} → Early (refuse n p) → 14 ≡ n → A
-not-early {n = n} (refused-by h) e = absurd (eqb-false n 14 h (sym e))
-
-pub what-an-update-call-says : (S : Scene) (log : List ℕ) (entry : Lists) (Q : ℕ) (r : Updated) (exit : Lists) → ByName r
+pub what-an-update-call-says : (S : Scene) (log : List ℕ) (entry : Lists) (Q : ℕ) (r : Updated) (exit : Lists)
     → Updates S log entry Q r exit → UpdateSays S log entry Q r exit
-what-an-update-call-says S log entry Q r exit h e =
-    go r (updateVerdict S log entry Q) refl (update-numbers S log entry Q) (early S log entry Q) h e
+what-an-update-call-says S log entry Q r exit e =
+    go r (updateVerdict S log entry Q) refl (update-numbers S log entry Q) e
   where
     c : Course
     c = course source S log entry Q
@@ -185,33 +165,40 @@ what-an-update-call-says S log entry Q r exit h e =
         → exit ≡ layout (faces S) (span S) (c .highest) (c .quads) entry → Ran S log entry Q full count exit
     ran count full a f q m l = record { accepted = a; ended = f; quads = q; moved = m; laid = l }
 
-    through : (r : Updated) → updateVerdict S log entry Q ≡ fine → (full : Option ℕ) → c .full ≡ full → ByName r
+    through : (r : Updated) → updateVerdict S log entry Q ≡ fine → (full : Option ℕ) → c .full ≡ full
         → outcomeOf r exit ≡ record { answer = courseAnswer c full; lists = layout (faces S) (span S) (c .highest) (c .quads) entry }
         → UpdateSays S log entry Q r exit
-    through (updated.Done count) t none f h e =
+    through (updated.Done count) t none f e =
         ran count none t f (ap (λ (o : Outcome). o .answer .quads) e) (ap (λ (o : Outcome). o .answer .moved) e) (ap (λ (o : Outcome). o .lists) e)
-    through (updated.NoRoom k count) t none f h e = let z = ap (λ (o : Outcome). o .answer .number) e in absurd (omega arith)
-    through (updated.Refused why place) t none f h e = absurd (not-zero why (ap (λ (o : Outcome). o .answer .number) e))
-    through (updated.Done count) t (some k) f h e = let z = ap (λ (o : Outcome). o .answer .number) e in absurd (omega arith)
-    through (updated.NoRoom k count) t (some i) f h e =
+    through (updated.Refused why place count) t none f e = absurd (not-zero why (ap (λ (o : Outcome). o .answer .number) e))
+    through (updated.Done count) t (some k) f e = let z = ap (λ (o : Outcome). o .answer .number) e in absurd (omega arith)
+    through (updated.Refused why k count) t (some i) f e =
+        let n = ap (λ (o : Outcome). o .answer .number) e in
         let p = f ∙ ap some (sym (ap (λ (o : Outcome). o .answer .place) e)) in
         record {
-          ran = ran count (some k) t p (ap (λ (o : Outcome). o .answer .quads) e) (ap (λ (o : Outcome). o .answer .moved) e)
-              (ap (λ (o : Outcome). o .lists) e);
-          inLog = in-log source S log entry Q k t p;
-          noRoom = no-room-there source S log entry Q k t p;
-          before = (λ i. record { answer = record { number = 0; place = 0; quads = e i .answer .quads; moved = e i .answer .moved }; lists = e i .lists })
-              ∙ sym (done-before source S log entry Q k t p);
+          refused = λ d. absurd (d n);
+          uncounted = λ d. absurd (d n);
+          stopped = λ _. record {
+            ran = ran count (some k) t p (ap (λ (o : Outcome). o .answer .quads) e) (ap (λ (o : Outcome). o .answer .moved) e)
+                (ap (λ (o : Outcome). o .lists) e);
+            inLog = in-log source S log entry Q k t p;
+            noRoom = no-room-there source S log entry Q k t p;
+            before = (λ i. record { answer = record { number = 0; place = 0; quads = e i .answer .quads; moved = e i .answer .moved }; lists = e i .lists })
+                ∙ sym (done-before source S log entry Q k t p);
+          };
         }
-    through (updated.Refused why place) t (some k) f h e = absurd (h (ap (λ (o : Outcome). o .answer .number) e))
 
-    go : (r : Updated) (v : rules.Verdict) → updateVerdict S log entry Q ≡ v → Within UPDATE v → Early v → ByName r
+    go : (r : Updated) (v : rules.Verdict) → updateVerdict S log entry Q ≡ v → Within UPDATE v
         → outcomeOf r exit ≡ updateBy v S c entry → UpdateSays S log entry Q r exit
-    go r fine t w y h e = through r t (c .full) refl h e
-    go (updated.Done count) (refuse n p) t w y h e = zero-listed refl w (ap (λ (o : Outcome). o .answer .number) e)
-    go (updated.NoRoom k count) (refuse n p) t w y h e = not-early y (ap (λ (o : Outcome). o .answer .number) e)
-    go (updated.Refused why place) (refuse n p) t w y h e =
-        refuses t w (ap (λ (o : Outcome). o .answer .number) e) (ap (λ (o : Outcome). o .answer .place) e) (ap (λ (o : Outcome). o .lists) e)
+    go r fine t w e = through r t (c .full) refl e
+    go (updated.Done count) (refuse n p) t w e = unlisted refl w (ap (λ (o : Outcome). o .answer .number) e)
+    go (updated.Refused why place count) (refuse n p) t w e =
+        let number = ap (λ (o : Outcome). o .answer .number) e in
+        record {
+          refused = λ d. refuses t w number (ap (λ (o : Outcome). o .answer .place) e) (ap (λ (o : Outcome). o .lists) e);
+          uncounted = λ d. λ i. record { quads = e i .answer .quads; moved = e i .answer .moved };
+          stopped = λ z. unlisted refl w (sym z ∙ number);
+        }
 
 -- ---- the check
 
@@ -240,15 +227,16 @@ pub a-refused-mesh-changes-nothing : (S : Scene) (outer grid : List ℕ) (cullin
 a-refused-mesh-changes-nothing S outer grid culling entry why place exit e =
     what-a-mesh-call-says S outer grid culling entry (meshed.Refused why place) exit e .kept
 
-pub a-refused-update-changes-nothing : (S : Scene) (log : List ℕ) (entry : Lists) (Q : ℕ) (why : Refusal) (place : ℕ) (exit : Lists)
-    → numberOf why ≢ 14 → Updates S log entry Q (updated.Refused why place) exit → exit ≡ entry
-a-refused-update-changes-nothing S log entry Q why place exit d e =
-    what-an-update-call-says S log entry Q (updated.Refused why place) exit d e .kept
+pub a-refused-update-changes-nothing : (S : Scene) (log : List ℕ) (entry : Lists) (Q : ℕ) (why : Refusal) (place : ℕ) (count : Count)
+    (exit : Lists) → numberOf why ≢ 14 → Updates S log entry Q (updated.Refused why place count) exit → exit ≡ entry
+a-refused-update-changes-nothing S log entry Q why place count exit d e =
+    what-an-update-call-says S log entry Q (updated.Refused why place count) exit e .refused d .kept
 
 -- the one exception
 pub out-of-room-keeps-the-entries-before : (S : Scene) (log : List ℕ) (entry : Lists) (Q k : ℕ) (count : Count) (exit : Lists)
-    → Updates S log entry Q (updated.NoRoom k count) exit → Updates S (take (12 * k) log) entry Q (updated.Done count) exit
-out-of-room-keeps-the-entries-before S log entry Q k count exit e = what-an-update-call-says S log entry Q (updated.NoRoom k count) exit tt e .before
+    → Updates S log entry Q (updated.Refused NoRoom k count) exit → Updates S (take (12 * k) log) entry Q (updated.Done count) exit
+out-of-room-keeps-the-entries-before S log entry Q k count exit e =
+    what-an-update-call-says S log entry Q (updated.Refused NoRoom k count) exit e .stopped refl .before
 
 -- ---- and nothing is refused without cause
 
@@ -261,11 +249,9 @@ made-if-nothing-refuses S outer grid culling entry (meshed.Refused why place) ex
     fine-not-refused (sym v ∙ what-a-mesh-call-says S outer grid culling entry (meshed.Refused why place) exit e .told)
 
 -- an update of a log that is accepted is done, unless an entry finds no room
-pub done-if-nothing-refuses : (S : Scene) (log : List ℕ) (entry : Lists) (Q : ℕ) (r : Updated) (exit : Lists) → ByName r
+pub done-if-nothing-refuses : (S : Scene) (log : List ℕ) (entry : Lists) (Q : ℕ) (r : Updated) (exit : Lists)
     → updateVerdict S log entry Q ≡ fine → (course source S log entry Q) .full ≡ none → Updates S log entry Q r exit
     → (count : Count) × (r ≡ updated.Done count)
-done-if-nothing-refuses S log entry Q (updated.Done count) exit n v f e = (count, refl)
-done-if-nothing-refuses S log entry Q (updated.NoRoom k count) exit n v f e =
-    none-is-not (sym f ∙ what-an-update-call-says S log entry Q (updated.NoRoom k count) exit n e .ran .ended)
-done-if-nothing-refuses S log entry Q (updated.Refused why place) exit n v f e =
-    fine-not-refused (sym v ∙ what-an-update-call-says S log entry Q (updated.Refused why place) exit n e .told)
+done-if-nothing-refuses S log entry Q (updated.Done count) exit v f e = (count, refl)
+done-if-nothing-refuses S log entry Q (updated.Refused why place count) exit v f e =
+    absurd (not-zero why (ap (λ (o : Outcome). o .answer .number) e ∙ rw (v, f)))

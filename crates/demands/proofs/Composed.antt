@@ -16,7 +16,7 @@ use Rattle.meshem.specs.Outcome as mesh
 use Rattle.mending.specs.declared.Count.{Count}
 use Rattle.update.specs.declared.Updated.{Updated}
 use Rattle.update.specs.declared.Updated.the-variants as updated
-use Rattle.update.specs.Outcome.{outcomeOf}
+use Rattle.update.specs.Outcome.{answerOf, outcomeOf}
 use Rattle.demands.specs.Contracts.{Meshes, Updates}
 use Rattle.demands.specs.Chunks.{gridAfter, HonestLog}
 use Rattle.demands.specs.Composed.{verdictBy, mendPromise, mendVerdict}
@@ -53,17 +53,12 @@ module _ (S : Scene) (grid log left : List ℕ) (B : Lists) (Q : ℕ) where
   unfolding _then_
   mended exit count p e c = c ∙ (λ i. chain (sym p i) (e i))
 
-  pub stopped : (exit : Lists) (place : ℕ) (count : Count) → checkVerdict S [] grid B Q ≡ fine → Updates S log B Q (updated.NoRoom place count) exit
-      → refuse 14 place ≡ mendVerdict S grid log left B Q
+  pub refused : (exit : Lists) (why : Refusal) (place : ℕ) (count : Count) → checkVerdict S [] grid B Q ≡ fine
+      → Updates S log B Q (updated.Refused why place count) exit → refuse (numberOf why) place ≡ mendVerdict S grid log left B Q
   unfolding _then_
-  stopped exit place count p e = λ i. chain (sym p i) (e i)
-
-  pub refused : (exit : Lists) (why : Refusal) (place : ℕ) → checkVerdict S [] grid B Q ≡ fine → Updates S log B Q (updated.Refused why place) exit
-      → refuse (numberOf why) place ≡ mendVerdict S grid log left B Q
-  unfolding _then_
-  refused exit why place p e =
-      let n : refuse (numberOf why) place ≡ verdictBy (record { number = numberOf why; place = place; quads = 0; moved = 0 }) = rw (numbered why .1) in
-      ap (λ (v : Verdict). v then checkVerdict S [] left exit 0) n ∙ (λ i. chain (sym p i) (e i))
+  refused exit why place count p e =
+      let n : refuse (numberOf why) place ≡ verdictBy (answerOf (updated.Refused why place count)) = rw (numbered why .1) in
+      ap (λ (v : Verdict). v then checkVerdict S [] left exit (count .quads)) n ∙ (λ i. chain (sym p i) (e i))
 
   -- LAW: after an honest log the second check refuses nothing
   pub second-check-idle : HonestLog S grid log → left ≡ gridAfter S log grid → mendVerdict S grid log left B Q ≡ mendPromise S grid log B Q

@@ -19,7 +19,8 @@ use Rattle.answers.specs.declared.Refusal.{Refusal}
 use Rattle.answers.specs.Verdicts.{numberOf}
 use Rattle.meshem.specs.declared.Meshed.the-variants as meshed
 use Rattle.mending.specs.declared.Count.{Count}
-use Rattle.update.specs.declared.Updated.the-variants.{Done, NoRoom, Refused}
+use Rattle.update.specs.declared.Updated.the-variants.{Done, Refused}
+use Rattle.update.specs.Outcome.{outcomeOf}
 use Rattle.answers.specs.declared.Verdict.the-variants.{Fine}
 use Rattle.demands.specs.declared.one_by_one.Went.{Went}
 use Rattle.demands.specs.Contracts.{Meshes, Updates, Checks}
@@ -74,16 +75,10 @@ module _ (S : Scene) (log : List ℕ) (n : ℕ) (B₀ : Lists) (Q₀ : ℕ) wher
         left = (λ i. onward (e i) (rest k)) ∙ sym (one-call k B Q h) ∙ c .left;
       }
 
-  pub no-room : (k : ℕ) (B : Lists) (Q : ℕ) (exit : Lists) (place : ℕ) (count : Count) → k < n → Calling S log n B₀ Q₀ k B Q
-      → Updates S (entryLog log k) B Q (NoRoom place count) exit → halted 14 place exit ≡ calls S log 0 n B₀ Q₀
-  no-room k B Q exit place count h c e = (λ i. onward (e i) (rest k)) ∙ sym (one-call k B Q h) ∙ c .left
-
-  pub refuses : (k : ℕ) (B : Lists) (Q : ℕ) (exit : Lists) (why : Refusal) (place : ℕ) → k < n → Calling S log n B₀ Q₀ k B Q
-      → Updates S (entryLog log k) B Q (Refused why place) exit → halted (numberOf why) place exit ≡ calls S log 0 n B₀ Q₀
-  refuses k B Q exit why place h c e =
-      let stop : halted (numberOf why) place exit
-      ≡ onward (record { answer = record { number = numberOf why; place = place; quads = 0; moved = 0 }; lists = exit }) (rest k) =
-      rw (numbered why .1) in
+  pub refuses : (k : ℕ) (B : Lists) (Q : ℕ) (exit : Lists) (why : Refusal) (place : ℕ) (count : Count) → k < n → Calling S log n B₀ Q₀ k B Q
+      → Updates S (entryLog log k) B Q (Refused why place count) exit → halted (numberOf why) place exit ≡ calls S log 0 n B₀ Q₀
+  refuses k B Q exit why place count h c e =
+      let stop : halted (numberOf why) place exit ≡ onward (outcomeOf (Refused why place count) exit) (rest k) = rw (numbered why .1) in
       stop ∙ (λ i. onward (e i) (rest k)) ∙ sym (one-call k B Q h) ∙ c .left
 
   pub ends : (k : ℕ) (B : Lists) (Q : ℕ) → n ≤ k → Calling S log n B₀ Q₀ k B Q → through B Q ≡ calls S log 0 n B₀ Q₀

@@ -11,9 +11,8 @@ use Rattle.answers.specs.declared.Verdict.{Verdict}
 use Rattle.voxel_mesh.specs.declared.Cubed.{Cubed}
 use Rattle.meshem.specs.declared.Meshed.{Meshed}
 use Rattle.update.specs.declared.Updated.{Updated}
-use Rattle.update.specs.Outcome.{outcomeOf}
 use Rattle.demands.specs.Contracts.{Cubes, Meshes, Updates, Checks}
-use Rattle.demands.proofs.Telling.{readCube, cube-reads, readMesh, mesh-reads, readUpdate, ByName, update-reads, readVerdict, verdict-reads}
+use Rattle.demands.proofs.Telling.{readCube, cube-reads, readMesh, mesh-reads, readUpdate, update-reads, readVerdict, verdict-reads}
 
 pub one-cube : (shape : Shape) (room : List ℕ) (a b : Cubed) (x y : List ℕ) → Cubes shape room a x → Cubes shape room b y → (a ≡ b) × (x ≡ y)
 one-cube shape room a b x y p q =
@@ -24,11 +23,10 @@ pub one-mesh : (S : Scene) (outer grid : List ℕ) (culling : Bool) (B : Lists) 
 one-mesh S outer grid culling B a b x y p q =
     let e = p ∙ sym q in (sym (mesh-reads a x) ∙ ap readMesh e ∙ mesh-reads b y, ap (λ (o : Outcome). o .lists) e)
 
--- of an update 01's number and place, Q, `moved` and the lists are the same; and so is the answer, where 14 is told by its own name
 pub one-update : (S : Scene) (log : List ℕ) (B : Lists) (Q : ℕ) (a b : Updated) (x y : Lists)
-    → Updates S log B Q a x → Updates S log B Q b y → (outcomeOf a x ≡ outcomeOf b y) × (ByName a → ByName b → a ≡ b)
+    → Updates S log B Q a x → Updates S log B Q b y → (a ≡ b) × (x ≡ y)
 one-update S log B Q a b x y p q =
-    let e = p ∙ sym q in (e, λ h k. sym (update-reads a x h) ∙ ap readUpdate e ∙ update-reads b y k)
+    let e = p ∙ sym q in (sym (update-reads a x) ∙ ap readUpdate e ∙ update-reads b y, ap (λ (o : Outcome). o .lists) e)
 
 pub one-check : (S : Scene) (outer grid : List ℕ) (B : Lists) (Q : ℕ) (a b : Verdict)
     → Checks S outer grid B Q a → Checks S outer grid B Q b → a ≡ b

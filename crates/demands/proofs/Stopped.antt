@@ -20,7 +20,7 @@ use Rattle.rules.proofs.Checking.{then-fine, fine-then, fine-if, lowest-fine, f
 some-is : {a b : ℕ} → _≡_ {A = Option ℕ} (some a) (some b) → a ≡ b
 some-is e = cc
 
-pub none-is-not {ℓ} : {A : Type ℓ} {a : ℕ} → _≡_ {A = Option ℕ} none (some a) → A
+none-is-not {ℓ} : {A : Type ℓ} {a : ℕ} → _≡_ {A = Option ℕ} none (some a) → A
 none-is-not {a = a} e = let z : _≡_ {A = ℕ} 0 1 = cc in absurd (omega arith)
 
 -- ---- a course that stops

@@ -2,11 +2,9 @@
 use Prim.Native.Nat.{ℕ, _-_}
 use mathlib.Core.Path.{_≡_, refl, ap}
 use mathlib.Core.Bool.{false, cond}
-use mathlib.Core.Logic.{_≢_}
 use mathlib.Core.List.{List, [], _∷_}
 use lib.Dec.{eqb}
 use lib.ListN.{getD}
-use borrow.Author.Tests.{ne-eqb}
 use Rattle.rules.specs.Mesh.{Lists}
 use Rattle.rules.specs.Answers as rules
 use Rattle.rules.specs.Answers.{fine, refuse}
@@ -100,21 +98,12 @@ abbrev countOf : Answer → Count
 countOf a = record { quads = a .quads; moved = a .moved }
 
 abbrev updatedOf : Answer → Updated
-updatedOf a =
-    cond (eqb (a .number) 0) (updated.Done (countOf a))
-    (cond (eqb (a .number) 14) (updated.NoRoom (a .place) (countOf a)) (updated.Refused (nameOf (a .number)) (a .place)))
+updatedOf a = cond (eqb (a .number) 0) (updated.Done (countOf a)) (updated.Refused (nameOf (a .number)) (a .place) (countOf a))
 
 abbrev pub readUpdate : Outcome → Updated
 readUpdate o = updatedOf (o .answer)
 
--- 14 is told by NoRoom, which also says what was done, and not by Refused
-abbrev pub ByName : Updated → Type 0
-ByName (updated.Done count) = Unit {0}
-ByName (updated.NoRoom place count) = Unit {0}
-ByName (updated.Refused why place) = numberOf why ≢ 14
-
-pub update-reads : (r : Updated) (B : Lists) → ByName r → readUpdate (outcomeOf r B) ≡ r
-update-reads (updated.Done count) B h = refl
-update-reads (updated.NoRoom place count) B h = refl
-update-reads (updated.Refused why place) B h =
-    let n = numbered why in rw (n .1, ne-eqb (numberOf why) 14 h) (ap (λ (w : Refusal). updated.Refused w place) (n .0))
+pub update-reads : (r : Updated) (B : Lists) → readUpdate (outcomeOf r B) ≡ r
+update-reads (updated.Done count) B = refl
+update-reads (updated.Refused why place count) B =
+    let n = numbered why in rw (n .1) (ap (λ (w : Refusal). updated.Refused w place count) (n .0))

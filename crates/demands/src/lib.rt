@@ -1,6 +1,5 @@
 // The calls one after the other, as whoever releases a chunk makes them; each contract is a promise that holds of the calls' contracts.
 use admit::Scene;
-use answers::Refusal;
 use answers::Verdict;
 use answers::is_refusal;
 use checking::check_mesh;
@@ -136,7 +135,6 @@ pub fn mend_and_check(
             slots,
             count.quads,
         ),
-        Updated::NoRoom(place, count) => Verdict::Refuse(Refusal::NoRoom, place),
-        Updated::Refused(why, place) => Verdict::Refuse(why, place),
+        Updated::Refused(why, place, count) => Verdict::Refuse(why, place),
     }
 }

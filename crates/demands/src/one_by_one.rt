@@ -63,10 +63,7 @@ fn mend_by_entries(
             Updated::Done(count) => {
                 left = count.quads;
             }
-            Updated::NoRoom(place, count) => {
-                return Went::Halted(Refusal::NoRoom, place);
-            }
-            Updated::Refused(why, place) => {
+            Updated::Refused(why, place, count) => {
                 return Went::Halted(why, place);
             }
         }

@@ -22,7 +22,7 @@ ghost use Rattle.voxel_mesh.specs.Outcome as cube;
 ghost use Rattle.meshem.specs.Outcome.{answerOf, isCulling};
 ghost use Rattle.update.specs.Outcome as update;
 ghost use Rattle.admit.specs.Scenes.{sceneOf};
-ghost use Rattle.rules.specs.Mesh.{listsOf, Lists};
+ghost use Rattle.rules.specs.Mesh.{listsOf};
 ghost use Rattle.exports.specs.Answers.{isYes, answer, toldOf, mendedOf, shapeFrom, sceneFrom, cubeOut, outcome};
 
 // An answer's number, place and count.
@@ -119,7 +119,7 @@ fn told_by_mesh(meshed: Meshed) -> Told
 }
 
 fn told_by_update(updated: Updated) -> Mended
-    ensures { λ r. ⌜ ((lists : Lists) → outcome (mendedOf r) lists ≡ update.outcomeOf updated lists) ⌝ }
+    ensures { λ r. ⌜ mendedOf r ≡ update.answerOf updated ⌝ }
 {
     match updated {
         Updated::Done(count) => Mended {
@@ -128,17 +128,11 @@ fn told_by_update(updated: Updated) -> Mended
             quads: wide(count.quads),
             moved: count.moved,
         },
-        Updated::NoRoom(place, count) => Mended {
-            number: 14,
+        Updated::Refused(why, place, count) => Mended {
+            number: why.number(),
             place: wide(place),
             quads: wide(count.quads),
             moved: count.moved,
-        },
-        Updated::Refused(why, place) => Mended {
-            number: why.number(),
-            place: wide(place),
-            quads: 0,
-            moved: 0,
         },
     }
 }

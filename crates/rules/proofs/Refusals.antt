@@ -38,8 +38,9 @@ CUBE = 4 ∷ 5 ∷ 7 ∷ 9 ∷ []
 abbrev pub MESH : List ℕ
 MESH = 2 ∷ 3 ∷ 4 ∷ 6 ∷ 7 ∷ 8 ∷ 9 ∷ 14 ∷ []
 
+-- before the log is run; 14 is then an entry's
 abbrev pub UPDATE : List ℕ
-UPDATE = 2 ∷ 3 ∷ 4 ∷ 6 ∷ 9 ∷ 10 ∷ 11 ∷ 12 ∷ 13 ∷ 14 ∷ []
+UPDATE = 2 ∷ 3 ∷ 4 ∷ 6 ∷ 9 ∷ 10 ∷ 11 ∷ 12 ∷ 13 ∷ []
 
 abbrev pub CHECK : List ℕ
 CHECK = 2 ∷ 3 ∷ 4 ∷ 6 ∷ 7 ∷ 8 ∷ 9 ∷ 10 ∷ 11 ∷ 12 ∷ 15 ∷ 16 ∷ []

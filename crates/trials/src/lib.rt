@@ -14,7 +14,6 @@
 // the lengths can't.
 // A trial is wrong if it or its base does not keep this form.
 use admit::Scene;
-use answers::Refusal;
 use answers::Verdict;
 use checking::check_mesh;
 use floats::Triple;
@@ -200,13 +199,12 @@ fn told_by_update(answer: Updated) -> Told {
             quads: count.quads,
             moved: count.moved,
         },
-        Updated::NoRoom(entry, count) => Told {
-            number: Refusal::NoRoom.number(),
-            place: entry,
+        Updated::Refused(why, place, count) => Told {
+            number: why.number(),
+            place,
             quads: count.quads,
             moved: count.moved,
         },
-        Updated::Refused(why, place) => refused(why.number(), place),
     }
 }
 

@@ -1,12 +1,15 @@
 -- What the call answers, as the rule's outcome. Definitions only.
 use Rattle.rules.specs.Mesh.{Lists}
-use Rattle.rules.specs.Calls.{Outcome, answered, refused}
+use Rattle.rules.specs.Calls.{Answer, answered, Outcome}
 use Rattle.answers.specs.Verdicts.{numberOf}
 use Rattle.update.specs.declared.Updated.{Updated}
-use Rattle.update.specs.declared.Updated.the-variants.{Done, NoRoom, Refused}
+use Rattle.update.specs.declared.Updated.the-variants.{Done, Refused}
 
--- what the call answers, with the lists at exit
+-- 01's number, place, Q and `moved` for each answer
+abbrev pub answerOf : Updated → Answer
+answerOf (Done count) = answered (count .quads) (count .moved)
+answerOf (Refused why place count) = record { number = numberOf why; place = place; quads = count .quads; moved = count .moved }
+
+-- with the lists at exit
 abbrev pub outcomeOf : Updated → Lists → Outcome
-outcomeOf (Done count) B = record { answer = answered (count .quads) (count .moved); lists = B }
-outcomeOf (NoRoom i count) B = record { answer = record { number = 14; place = i; quads = count .quads; moved = count .moved }; lists = B }
-outcomeOf (Refused why place) B = record { answer = refused (numberOf why) place; lists = B }
+outcomeOf r B = record { answer = answerOf r; lists = B }

@@ -128,11 +128,10 @@ fn update_verdict(
     entry_verdict(log, dims.cell_count(), kinds.len() as u32)
 }
 
-// What an update answers; where an entry finds no room, the entries before it are done.
+// What an update answers: what was done; or why and where it refuses, and what was done before: nothing, unless an entry finds no room.
 pub enum Updated {
     Done(Count),
-    NoRoom(usize, Count),
-    Refused(Refusal, usize),
+    Refused(Refusal, usize, Count),
 }
 
 // Mends the mesh in place, entry by entry of the log.
@@ -163,7 +162,7 @@ pub fn update_mesh(
         quads,
     );
     if let Verdict::Refuse(why, place) = verdict {
-        return Updated::Refused(why, place);
+        return Updated::Refused(why, place, Count { quads: 0, moved: 0 });
     }
     let dims = scene.dims;
     let six = 6 * dims.cell_count() as usize;
@@ -189,7 +188,8 @@ pub fn update_mesh(
             quads: done,
             moved: moved,
         }),
-        Ran::Full(entry, done) => Updated::NoRoom(
+        Ran::Full(entry, done) => Updated::Refused(
+            Refusal::NoRoom,
             entry,
             Count {
                 quads: done,

@@ -6,7 +6,7 @@ use Rattle.rules.specs.Answers.{fine}
 use Rattle.rules.specs.Calls.{Scene, checkVerdict}
 use Rattle.admit.specs.Scenes.{sceneOf}
 use Rattle.answers.proofs.Chains.{stops, passes}
-use Rattle.demands.proofs.Composed.{updates, mended, stopped, refused, promised}
+use Rattle.demands.proofs.Composed.{updates, mended, refused, promised}
 use borrow.Author.Needs.{needs}
 use Rattle.demands.proofs.mend_and_check.Statement.{statement}
 use Rattle.demands.proofs.mend_and_check.Tie as tie
@@ -66,9 +66,6 @@ check-mesh-requires-2 c κs = search needs
 enum-known-mended-2 : tie.Need-enum-known-mended-2
 enum-known-mended-2 c = search needs
 
-enum-known-mended-3 : tie.Need-enum-known-mended-3
-enum-known-mended-3 c = search needs
-
 same-length-5 : tie.Need-same-length-5
 same-length-5 c = search needs
 
@@ -110,31 +107,9 @@ returns-3 c =
     let o = u .before .before .before .before .before in
     let t = start (o .before .before) in
     promised (scene t) (t .args .grid .now) (t .args .log .now) (t .args .left .now) (lists t) (t .args .quads)
-    (stopped (scene t) (t .args .grid .now) (t .args .log .now) (t .args .left .now) (lists t) (t .args .quads) (exit u)
-    (c .before .mended2 .given .0 .0) (c .before .mended2 .given .0 .1 .0) (first-fine o)
-    (updates (exit u) (c .before .mended2 .given .1) (u .update-mesh .ensures)))
-
-same-length-13 : tie.Need-same-length-13
-same-length-13 c = search needs
-
-same-length-14 : tie.Need-same-length-14
-same-length-14 c = search needs
-
-same-length-15 : tie.Need-same-length-15
-same-length-15 c = search needs
-
-same-length-16 : tie.Need-same-length-16
-same-length-16 c = search needs
-
-returns-4 : tie.Need-returns-4
-returns-4 c =
-    let u = c .before .before .before .before .before .before .before .before .before .before .before in
-    let o = u .before .before .before .before .before in
-    let t = start (o .before .before) in
-    promised (scene t) (t .args .grid .now) (t .args .log .now) (t .args .left .now) (lists t) (t .args .quads)
     (refused (scene t) (t .args .grid .now) (t .args .log .now) (t .args .left .now) (lists t) (t .args .quads) (exit u)
-    (c .before .mended3 .given .0 .0) (c .before .mended3 .given .0 .1 .0) (first-fine o)
-    (updates (exit u) (c .before .mended3 .given .1) (u .update-mesh .ensures)))
+    (c .before .mended2 .given .0 .0) (c .before .mended2 .given .0 .1 .0) (c .before .mended2 .given .0 .1 .1 .0) (first-fine o)
+    (updates (exit u) (c .before .mended2 .given .1) (u .update-mesh .ensures)))
 
 pub mend-and-check-spec : {M : Type 1} → statement M
 mend-and-check-spec =
@@ -152,7 +127,6 @@ mend-and-check-spec =
     enum-known-mended
     check-mesh-requires-2
     enum-known-mended-2
-    enum-known-mended-3
     same-length-5
     same-length-6
     same-length-7
@@ -162,9 +136,4 @@ mend-and-check-spec =
     same-length-10
     same-length-11
     same-length-12
-    returns-3
-    same-length-13
-    same-length-14
-    same-length-15
-    same-length-16
-    returns-4)
+    returns-3)

@@ -3,6 +3,7 @@ use mathlib.Core.Path.{_∙_}
 use denote.Ref.{now}
 use Rattle.rules.specs.Calls.{updateMesh}
 use Rattle.rules.specs.Mesh.{listsOf}
+use Rattle.exports.proofs.Telling.{mesh-told}
 use borrow.Author.Needs.{needs}
 use Rattle.exports.proofs.meshem_update_mesh.Statement.{statement}
 use Rattle.exports.proofs.meshem_update_mesh.Tie as tie
@@ -35,7 +36,7 @@ returns c =
     let a = s .before .before .before .before .before .before .before .before .before .args in
     let scene = s .scene-of .ensures (now (a .kinds)) (now (a .covers)) (now (a .cubes)) in
     let lists = listsOf (now (a .vertices)) (now (a .triangles)) (now (a .links)) (now (a .slots)) in
-    c .told-by-update .ensures _ ∙ (m .update-mesh .ensures ∙ (λ i. updateMesh (scene i) (now (a .log)) lists (a .count)))
+    mesh-told (c .told-by-update .ensures) (m .update-mesh .ensures ∙ (λ i. updateMesh (scene i) (now (a .log)) lists (a .count)))
 
 pub meshem-update-mesh-spec : {M : Type 1} → statement M
 meshem-update-mesh-spec =

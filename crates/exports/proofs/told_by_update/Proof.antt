@@ -12,29 +12,20 @@ wide-requires c κs = search needs
 enum-known-updated-2 : tie.Need-enum-known-updated-2
 enum-known-updated-2 c = search needs
 
+number-requires : tie.Need-number-requires
+number-requires c κs = search needs
+
 wide-requires-2 : tie.Need-wide-requires-2
 wide-requires-2 c κs = search needs
 
 wide-requires-3 : tie.Need-wide-requires-3
 wide-requires-3 c κs = search needs
 
-enum-known-updated-3 : tie.Need-enum-known-updated-3
-enum-known-updated-3 c = search needs
-
-number-requires : tie.Need-number-requires
-number-requires c κs = search needs
-
-wide-requires-4 : tie.Need-wide-requires-4
-wide-requires-4 c κs = search needs
-
 returns : tie.Need-returns
-returns c = λ lists. rw (c .before .before .updated .given .1, c .wide .ensures)
+returns c = rw (c .before .before .updated .given .1, c .wide .ensures)
 
 returns-2 : tie.Need-returns-2
-returns-2 c = λ lists. rw (c .before .before .before .updated2 .given .1, c .before .wide2 .ensures, c .wide3 .ensures)
-
-returns-3 : tie.Need-returns-3
-returns-3 c = λ lists. rw (c .before .before .before .updated3 .given .1, c .before .number .ensures, c .wide4 .ensures)
+returns-2 c = rw (c .before .before .before .before .updated2 .given .1, c .before .before .number .ensures, c .before .wide2 .ensures, c .wide3 .ensures)
 
 pub told-by-update-spec : {M : Type 1} → statement M
 told-by-update-spec =
@@ -43,11 +34,8 @@ told-by-update-spec =
     enum-known-updated
     wide-requires
     enum-known-updated-2
+    number-requires
     wide-requires-2
     wide-requires-3
-    enum-known-updated-3
-    number-requires
-    wide-requires-4
     returns
-    returns-2
-    returns-3)
+    returns-2)

@@ -11,7 +11,7 @@ use Rattle.admit.specs.Scenes.{sceneOf}
 use Rattle.update.specs.Outcome.{outcomeOf}
 use Rattle.demands.specs.OneByOne.{entryLog}
 use Rattle.demands.proofs.Composed.{updates}
-use Rattle.demands.proofs.OneByOne.{Calling, starts, goes-on, no-room, refuses, ends}
+use Rattle.demands.proofs.OneByOne.{Calling, starts, goes-on, refuses, ends}
 use borrow.Author.Needs.{needs}
 use Rattle.demands.proofs.one_by_one.mend_by_entries.Statement.{statement}
 use Rattle.demands.proofs.one_by_one.mend_by_entries.Tie as tie
@@ -100,34 +100,9 @@ returns c =
     let i = test u in
     let t = start i in
     let l = i .before .loop in
-    no-room (scene t) (t .args .log .now) (length (t .args .log .now) / 12) (lists t) (t .args .quads) (l .k) (here i) (l .left) (exit u)
-    (c .before .mended2 .given .0 .0) (c .before .mended2 .given .0 .1 .0)
-    (i .loop-test .taken) (l .inv) (updates (exit u) (c .before .mended2 .given .1) (called u))
-
-enum-known-mended-3 : tie.Need-enum-known-mended-3 Inv-loop μ-loop
-enum-known-mended-3 c = search needs
-
-same-length-5 : tie.Need-same-length-5 Inv-loop μ-loop
-same-length-5 c = search needs
-
-same-length-6 : tie.Need-same-length-6 Inv-loop μ-loop
-same-length-6 c = search needs
-
-same-length-7 : tie.Need-same-length-7 Inv-loop μ-loop
-same-length-7 c = search needs
-
-same-length-8 : tie.Need-same-length-8 Inv-loop μ-loop
-same-length-8 c = search needs
-
-returns-2 : tie.Need-returns-2 Inv-loop μ-loop
-returns-2 c =
-    let u = c .before .before .before .before .before .before .before .before .before .before .before in
-    let i = test u in
-    let t = start i in
-    let l = i .before .loop in
     refuses (scene t) (t .args .log .now) (length (t .args .log .now) / 12) (lists t) (t .args .quads) (l .k) (here i) (l .left) (exit u)
-    (c .before .mended3 .given .0 .0) (c .before .mended3 .given .0 .1 .0)
-    (i .loop-test .taken) (l .inv) (updates (exit u) (c .before .mended3 .given .1) (called u))
+    (c .before .mended2 .given .0 .0) (c .before .mended2 .given .0 .1 .0) (c .before .mended2 .given .0 .1 .1 .0)
+    (i .loop-test .taken) (l .inv) (updates (exit u) (c .before .mended2 .given .1) (called u))
 
 add-k : tie.Need-add-k Inv-loop μ-loop
 add-k c =
@@ -148,20 +123,20 @@ loop-again c =
     (let k = u .update-mesh .kept in record { vertices = k .0; triangles = k .1 .0; links = k .1 .1 .0; slots = k .1 .1 .1 .0 })
     (updates (exit u) (c .before .mended .given .1) (called u))
 
-same-length-9 : tie.Need-same-length-9 Inv-loop μ-loop
-same-length-9 c = search needs
+same-length-5 : tie.Need-same-length-5 Inv-loop μ-loop
+same-length-5 c = search needs
 
-same-length-10 : tie.Need-same-length-10 Inv-loop μ-loop
-same-length-10 c = search needs
+same-length-6 : tie.Need-same-length-6 Inv-loop μ-loop
+same-length-6 c = search needs
 
-same-length-11 : tie.Need-same-length-11 Inv-loop μ-loop
-same-length-11 c = search needs
+same-length-7 : tie.Need-same-length-7 Inv-loop μ-loop
+same-length-7 c = search needs
 
-same-length-12 : tie.Need-same-length-12 Inv-loop μ-loop
-same-length-12 c = search needs
+same-length-8 : tie.Need-same-length-8 Inv-loop μ-loop
+same-length-8 c = search needs
 
-returns-3 : tie.Need-returns-3 Inv-loop μ-loop
-returns-3 c =
+returns-2 : tie.Need-returns-2 Inv-loop μ-loop
+returns-2 c =
     let t = c .before .before .before .before .before .before .before .before .before .before in
     let l = c .before .loop in
     ends (scene t) (t .args .log .now) (length (t .args .log .now) / 12) (lists t) (t .args .quads) (l .k)
@@ -188,17 +163,11 @@ mend-by-entries-spec =
     same-length-3
     same-length-4
     returns
-    enum-known-mended-3
+    add-k
+    loop-less
+    loop-again
     same-length-5
     same-length-6
     same-length-7
     same-length-8
-    returns-2
-    add-k
-    loop-less
-    loop-again
-    same-length-9
-    same-length-10
-    same-length-11
-    same-length-12
-    returns-3)
+    returns-2)
