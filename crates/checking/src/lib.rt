@@ -6,6 +6,7 @@ use answers::Verdict;
 use answers::is_refusal;
 use answers::refuse_if;
 use books::book_verdict;
+use culling::bit_if;
 use culling::clear_types;
 use culling::drawn_row;
 use culling::full_from;
@@ -16,7 +17,7 @@ use util::Dimensions;
 use util::Row;
 use words::first_wrong_quad;
 ghost use mathlib.Core.Path.{_≡_};
-ghost use mathlib.Core.Bool.{Bool, cond};
+ghost use mathlib.Core.Bool.{Bool};
 ghost use mathlib.Core.List.{List};
 ghost use Prim.Native.Nat.{ℕ, _+_, _*_, _≤_, _<_};
 ghost use lib.ListN.{length, getD};
@@ -32,12 +33,6 @@ ghost use Rattle.culling.specs.Rows.{Along};
 ghost use Rattle.checking.specs.Faces.{filledSet, unlike, wrongSlot, wrongInRow, Gridded};
 
 pub mod words; // words.rt: the words of the quads, compared
-
-fn bit_if(kept: bool, bit: u8) -> u8
-    ensures { λ r. ⌜ (r ≡ cond kept bit 0) × (r ≤ bit) ⌝ }
-{
-    if kept { bit } else { 0 }
-}
 
 // The faces of a cell whose slots are filled.
 fn filled_set(slots: &[u32], cell: usize) -> u8

@@ -149,7 +149,7 @@ pub fn full_from(kinds: &[u8], covers: &[u8]) -> u8
 }
 
 // A side's bit, or none.
-fn bit_if(on: bool, bit: u8) -> u8
+pub fn bit_if(on: bool, bit: u8) -> u8
     ensures { λ r. ⌜ (r ≡ cond on bit 0) × (r ≤ bit) ⌝ }
 {
     bit * (on as u8)
