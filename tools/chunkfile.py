@@ -6,7 +6,7 @@
     tools/chunkfile.py picture FILE OUT      OUT.png and OUT.obj of the mesh that the program answers for FILE, either of the two
     tools/chunkfile.py test                  round trips, what is said of a bad description, and the answer to examples/dug.chunk
 
-Without a file, standard input is read. `picture` and `test` run target/bin/meshchunk, or what --program names; --turn 1, 2 or 3
+Without a file, standard input is read. `picture` and `test` run tools/meshchunk, or what --program names; --turn 1, 2 or 3
 looks from another corner.
 
 A description has a line for each thing; a line that starts with # is a comment.
@@ -562,7 +562,7 @@ def main():
     drawing.add_argument("out")
     drawing.add_argument("--turn", type=int, choices=range(4), default=0)
     for command in (drawing, commands.add_parser("test")):
-        command.add_argument("--program", default=os.path.join(ROOT, "target/bin/meshchunk"))
+        command.add_argument("--program", default=os.path.join(ROOT, "tools/meshchunk"))
     given = parser.parse_args()
     try:
         if given.command == "make":

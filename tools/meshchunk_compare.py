@@ -10,7 +10,7 @@ import struct
 import subprocess
 import sys
 
-PROGRAM = "target/bin/meshchunk"
+PROGRAM = "tools/meshchunk"
 TOP, BOTTOM, RIGHT, LEFT, BACK, FORWARD = range(6)
 STEPS = [(0, 1, 0), (0, -1, 0), (1, 0, 0), (-1, 0, 0), (0, 0, 1), (0, 0, -1)]
 CORNERS = ["-++ +++ ++- -+-", "--- +-- +-+ --+", "++- +++ +-+ +--", "--- --+ -++ -+-", "+++ -++ --+ +-+", "+-- --- -+- ++-"]
