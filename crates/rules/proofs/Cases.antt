@@ -2,7 +2,8 @@
 use mathlib.Core.Path.{_≡_, refl}
 use mathlib.Core.Bool.{Bool, true, false, cond}
 use mathlib.Core.List.{List, [], _∷_, _++_}
-use Prim.Native.Nat.{ℕ, zero, suc, _+_, _*_}
+use Prim.Native.Nat.{ℕ, zero, suc, _+_, _*_, _<_}
+use native.Mathlib.Omega.{arith}
 use lib.ListN.{length, replicate}
 use lib.Ieee as ieee
 use Rattle.rules.specs.Lists.{each, table, every, count, lowestFrom, same}
@@ -12,9 +13,11 @@ use Rattle.rules.specs.Types.{Types}
 use Rattle.rules.specs.Cube as cube
 use Rattle.rules.specs.Cube.{Shape, cubeWords}
 use Rattle.rules.specs.Mesh.{Quad, World, Lists, meshBy, laid, slotted}
-use Rattle.rules.specs.Update.{Entry, Broken, removeAt, remove, entryAt, source, work, ops, run, needed, courseFrom}
+use Rattle.rules.specs.Update.{Entry, Broken, removeAt, remove, entryAt, source, work, nothing, ops, run, needed, courseFrom}
 use Rattle.rules.specs.Answers as answers
-use Rattle.rules.specs.Calls.{Scene, Answer, Outcome, wordsIn, meshGrid, updateMesh}
+use Rattle.rules.specs.Answers.{fine}
+use Rattle.rules.specs.Calls.{Scene, Answer, Outcome, answered, world, wordsIn, meshGrid, updateVerdict, updateMesh}
+use Rattle.rules.proofs.Idle.{idle}
 use Rattle.rules.specs.Program.{printed, badFile, digits, buildFrom}
 
 -- 0.0, 1.0, and three of one
@@ -143,7 +146,7 @@ removalCases = keys (removeAt 4 ten) ∷ keys (removeAt 3 ten) ∷ []
 unfoldable pub mended : ℕ → List ℕ
 mended t = quadsIn (withAbove t) ∷ quadsIn (fresh 1 2 1 [] (1 ∷ t ∷ []) true) ∷ []
 
--- 9. Added Null: as many quads as before (that nothing changes is the law `idle`)
+-- 9. Added Null: as many quads as before (that nothing changes: `null-changes-nothing`)
 unfoldable pub addedNull : List ℕ
 addedNull = quadsIn (withAbove 0) ∷ []
 
@@ -170,6 +173,19 @@ mended-top = refl
 null-is : addedNull ≡ 6 ∷ []
 unfolding addedNull answers._then_ answers.refuseIf answers.badLimits answers.BAD-TYPES answers.badCounts lowestFrom answers.badType answers.BAD-NUMBER answers.notACube types.isCube every types.classed types.classOf types.classAt types.classOn ieee.eq ieee.ofBits ieee.lt answers.roomOf meshBy each neighbour count laid slotted answers.badLink answers.BAD-LINKS same answers.badEntry answers.BAD-ENTRY courseFrom entryAt needed ops remove removeAt types.quadWords
 null-is = refl
+
+null-unrefused : updateVerdict (scene 1 2 1) (above 0) (below .lists) (quadsIn below) ≡ fine
+unfolding answers._then_ answers.refuseIf answers.badLimits answers.BAD-TYPES answers.badCounts lowestFrom answers.badType answers.BAD-NUMBER answers.notACube types.isCube every types.classed types.classOf types.classAt types.classOn ieee.eq ieee.ofBits ieee.lt answers.roomOf meshBy each neighbour count laid slotted answers.badLink answers.BAD-LINKS same answers.badEntry answers.BAD-ENTRY courseFrom entryAt needed ops remove removeAt types.quadWords
+null-unrefused = refl
+
+null-idle : (k : ℕ) → k < 1 → work source (world (scene 1 2 1)) (entryAt (above 0) k) ≡ nothing
+unfolding entryAt
+null-idle zero h = refl
+null-idle (suc k) h = absurd (omega arith)
+
+-- the ninth: number, place, Q, `moved` and the four lists are as before
+pub null-changes-nothing : withAbove 0 ≡ record { answer = answered (quadsIn below) 0; lists = below .lists }
+null-changes-nothing = idle source (scene 1 2 1) (above 0) (below .lists) (quadsIn below) null-unrefused null-idle
 
 -- the ten cases of 01, one after the other; the sixth has two rows
 pub ten-cases : cases

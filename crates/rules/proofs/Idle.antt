@@ -107,17 +107,18 @@ module _ (n s : ℕ) (B : Lists) (Q : ℕ) (room : 6 * n ≤ length (B .slots)) 
       let f = full-le (table Q (linked B)) (6 * n) (B .slots) (names-of n B Q room (book .codes) (book .inside) (book .named)) in omega arith
 
 -- ---- a log of entries that do nothing
-idle-course : (room : ℕ) (work : ℕ → Work) → ((k : ℕ) → work k ≡ nothing) → (i k : ℕ) (m : List Quad) (v p : ℕ) → length m ≤ room
+idle-course : (room : ℕ) (work : ℕ → Work) (i k : ℕ) → ((j : ℕ) → i ≤ j → j < i + k → work j ≡ nothing) → (m : List Quad) (v p : ℕ) → length m ≤ room
     → courseFrom room work i k m v p ≡ record { full = none; quads = m; moved = v; highest = p }
 unfolding courseFrom ops needed
-idle-course room work h i zero m v p l = refl
-idle-course room work h i (suc k) m v p l =
+idle-course room work i zero h m v p l = refl
+idle-course room work i (suc k) h m v p l =
     let e : v + 0 ≡ v = omega arith in
-    rw (h i, le-leb (length m) room l) (idle-course room work h (suc i) k m (v + 0) p l ∙ (λ i. record { full = none; quads = m; moved = e i; highest = p }))
+    rw (h i (omega arith) (omega arith), le-leb (length m) room l)
+    (idle-course room work (suc i) k (λ j a b. h j (omega arith) (omega arith)) m (v + 0) p l ∙ (λ i. record { full = none; quads = m; moved = e i; highest = p }))
 
 -- LAW: where each entry does nothing, as Added of a kind that is no NormalCube does, nothing changes
 pub idle : (tested : Tested) (S : Scene) (log : List ℕ) (B : Lists) (Q : ℕ) → updateVerdict S log B Q ≡ fine
-    → ((k : ℕ) → work tested (world S) (entryAt log k) ≡ nothing)
+    → ((k : ℕ) → k < length log / 12 → work tested (world S) (entryAt log k) ≡ nothing)
     → updateMeshBy tested S log B Q ≡ record { answer = answered Q 0; lists = B }
 idle tested S log B Q v h =
     let a = then-fine (BAD-SIZE (S .size)) _ v .1 in
@@ -130,5 +131,5 @@ idle tested S log B Q v h =
     let book = book-of-fine (cells (S .size)) B Q (e .1) in
     let len = length-decode (cells (S .size)) B Q (span S) in
     let stands = layout-stands (cells (S .size)) (span S) B Q slots book (room-for S B Q counted .links) in
-    let run = idle-course (room S B) (λ k. work tested (world S) (entryAt log k)) h 0 (length log / 12) (decode (span S) Q B) 0 Q (omega arith) in
+    let run = idle-course (room S B) (λ k. work tested (world S) (entryAt log k)) 0 (length log / 12) (λ k a b. h k (omega arith)) (decode (span S) Q B) 0 Q (omega arith) in
     rw (v, run) (λ i. record { answer = answered (len i) 0; lists = stands i })
