@@ -1,7 +1,7 @@
 #!/usr/bin/env python3
 """tools/meshchunk_compare.py [CASES [SEED]]: runs meshchunk on work files made at random and holds each answer to a plain reading of
 document 01, written from its text and not from the rules. Prints how many agreed, and how often each answer came. Run it at the
-repository's root, once meshchunk is built.
+repository's root; meshchunk is proved and built first if it is not there.
 """
 import collections
 import math

@@ -30,7 +30,7 @@ use Rattle.books.proofs.Books.{within}
 use Rattle.quads.specs.Quads.{Drawable}
 use Rattle.checking.specs.Quads.{Comparable, cubeAt, quadAt}
 
--- ---- faces, corners and coordinates
+-- ---- the face of a code
 
 pub code-face : (k : ℕ) → k ≤ 5 → (f : Face) → faceOfCode k ≡ Found.Face f → number f ≡ code k
 code-face k h f e =

@@ -97,14 +97,6 @@ pub slot-bit : (slots : List ℕ) (i k bit : ℕ) → i ≡ k → k < length slo
     → cond (not (eqb (getD slots i 0) NONE)) bit 0 ≡ cond (isFilled slots k) bit 0
 slot-bit slots i k bit e h = rw (e, within slots k 0 NONE h)
 
--- a face of a cell, by its key
-pub key-slot : (W : World) (outer g slots : List ℕ) (c f : ℕ) → f < 6
-    → wrongSlot W outer g slots (6 * c + f) ≡ unlike (drawn W outer g c f) (isFilled slots (6 * c + f))
-key-slot W outer g slots c f h =
-    let cell : (6 * c + f) / 6 ≡ c = omega arith in
-    let face : (6 * c + f) % 6 ≡ f = omega arith in
-    rw (cell, face)
-
 -- ---- a face is there exactly if its slot is filled
 
 module _ (n s : ℕ) (B : Lists) (Q : ℕ) (room : 6 * n ≤ length (B .slots)) (book : Book n B Q) where

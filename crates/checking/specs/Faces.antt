@@ -5,7 +5,7 @@ use mathlib.Core.Bool.{Bool, cond, not}
 use mathlib.Core.List.{List}
 use lib.ListN.{length, getD}
 use lib.Dec.{eqb}
-use Rattle.rules.specs.Cells.{Size, cells, keyOf, has, setOf}
+use Rattle.rules.specs.Cells.{Size, cells, keyOf, setOf}
 use Rattle.rules.specs.Mesh.{World, NONE, drawn}
 use Rattle.util.specs.Grid.{Within}
 

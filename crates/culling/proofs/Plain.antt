@@ -5,14 +5,14 @@ use mathlib.Core.Bool.{Bool, true, false, cond, not, _&&_, _||_}
 use mathlib.Core.List.{List}
 use mathlib.Core.Option.{Option, none, some}
 use Prim.Native.Nat.{ℕ, zero, suc, _+_, _-_, _*_, _/_, _%_, _^_, _≤_, _<_}
-use native.Mathlib.Nat.{add-mul, one-mul}
+use native.Mathlib.Nat.{add-mul}
 use native.Mathlib.Omega.{arith}
 use lib.Bits.{bitAnd, bitOr, and-shr, or-shr, and-mod, or-mod, and-lt, or-lt}
 use lib.Dec.{eqb, ltb, leb, eqb→eq}
 use lib.ListN.{length, getD, set, length-set}
 use lib.Seq.{getD-set-same, getD-set-other}
 use borrow.Author.Count.{below-more}
-use borrow.Author.Tests.{ltb-true, ltb-false, leb-true, leb-false, lt-ltb, eq-eqb, ne-eqb, eqb-true, eqb-false}
+use borrow.Author.Tests.{ltb-true, ltb-false, leb-true, leb-false, eq-eqb, ne-eqb, eqb-true, eqb-false}
 use Rattle.rules.specs.Lists.{every, member}
 use Rattle.rules.specs.Cells.{Size, Triple, cells, cellAt, xOf, yOf, zOf, coordinates, opposite, onlyIf, neighbour, has, setOf}
 use Rattle.rules.specs.Mesh.{typeAt, shown, drawn}
@@ -23,7 +23,7 @@ use Rattle.util.specs.Grid.{cordsOf, Within}
 use Rattle.books.proofs.Books.{within}
 use Rattle.culling.specs.Culling.{worldOf, outerSet, Laid}
 use Rattle.culling.specs.Rows.{Whole, ClearBelow, FullFrom, Plainly, Plain, PlainAround, six, edgeSet, plainSet, plainShown, plainAt, isBeside, rowSides, Rows, sidesAt, Along, Beside}
-use Rattle.culling.proofs.Sides.{weight-le, setOf-cong}
+use Rattle.culling.proofs.Sides.{setOf-cong}
 
 -- ---- faces of a set that is made bit by bit
 
@@ -307,10 +307,6 @@ laid-row s g {types} {start} {x} {y} {z} w high long wide e =
     )
 
 -- ---- the sides of a cell, from its row's
-
-pub few-sides : (s : Size) {y z at up down back forward sides : ℕ} → Rows s y z at up down back forward sides → sides ≤ 51
-few-sides s {y} {z} r =
-    omega (arith, r .sides-are, weight-le (ltb (y + 1) (s .h)) 1, weight-le (ltb 0 y) 2, weight-le (ltb (z + 1) (s .l)) 16, weight-le (ltb 0 z) 32)
 
 pub few-beside : (s : Size) (x y z : ℕ) {keep : ℕ} → keep ≡ setOf (isBeside s x y z) → keep < 64
 few-beside s x y z e = let l = setOf-lt (isBeside s x y z) in omega arith

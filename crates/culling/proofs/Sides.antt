@@ -18,11 +18,6 @@ use Rattle.rules.proofs.Searches.{every-at}
 use Rattle.rules.proofs.Sets.{setOf-lt, has-setOf}
 use Rattle.culling.specs.Culling.{worldOf, outerSet}
 
--- a face counts as its bit, or not at all
-pub weight-le : (b : Bool) (n : ℕ) → cond b n 0 ≤ n
-weight-le true n = omega arith
-weight-le false n = omega arith
-
 pub setOf-cong : (p q : ℕ → Bool) → ((f : ℕ) → f < 6 → p f ≡ q f) → setOf p ≡ setOf q
 setOf-cong p q e = rw (e 0 (omega arith), e 1 (omega arith), e 2 (omega arith), e 3 (omega arith), e 4 (omega arith), e 5 (omega arith))
 

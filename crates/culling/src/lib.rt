@@ -427,7 +427,7 @@ fn block_row(
     }
 }
 
-// The side sets of a row that has no room for a block.
+// The side sets of a row, a cell at a time: of one that has no room for a block, and of the grid's first and last.
 fn short_row(
     sets: &mut [u8],
     dims: Dimensions,

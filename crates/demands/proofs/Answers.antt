@@ -17,7 +17,7 @@ use Rattle.rules.specs.Mesh.{Lists, layout}
 use Rattle.rules.specs.Update.{source, work, entryAt, needed, Course}
 use Rattle.rules.specs.Answers as rules
 use Rattle.rules.specs.Answers.{fine, refuse}
-use Rattle.rules.specs.Calls.{Answer, CubeOutcome, cubeVerdict, cubeBy, Scene, world, span, faces, room, Outcome, freshMesh, meshVerdict, meshBy, updateVerdict, course, courseAnswer, updateBy, checkVerdict, checkBy}
+use Rattle.rules.specs.Calls.{CubeOutcome, cubeVerdict, cubeBy, Scene, world, span, faces, room, Outcome, freshMesh, meshVerdict, meshBy, updateVerdict, course, courseAnswer, updateBy, checkVerdict, checkBy}
 use Rattle.rules.proofs.Refusals.{Within, given, CUBE, MESH, UPDATE, CHECK, cube-numbers, mesh-numbers, update-numbers, check-numbers}
 use Rattle.answers.specs.declared.Refusal.{Refusal}
 use Rattle.answers.specs.declared.Refusal.the-variants.{NoRoom}

@@ -15,7 +15,7 @@ use Rattle.rules.proofs.Refusals.{CHECK, check-numbers, zero-fine, cube-refused
 use Rattle.rules.proofs.Demands.{accepts-exactly, fresh-accepted, mended-accepted}
 use Rattle.answers.specs.declared.Verdict.the-variants.{Fine}
 use Rattle.exports.specs.Answers.{answer, cubeOut, outcome}
-use Rattle.demands.specs.Chunks.{gridAfter, HonestLog}
+use Rattle.demands.specs.Chunks.{gridAfter, MendableLog}
 use Rattle.demands.proofs.Answers.{out-of-room-keeps-the-entries-before}
 use Rattle.demands.proofs.Exact.{the-check-is-exact}
 
@@ -31,6 +31,25 @@ TellsUpdate S log B Q a exit = outcome a exit ≡ updateMesh S log B Q
 
 abbrev pub TellsCheck : Scene → List ℕ → List ℕ → Lists → ℕ → ℕ → ℕ → Type 0
 TellsCheck S outer grid B Q number place = answer number place 0 0 ≡ checkMesh S outer grid B Q
+
+-- one outcome: what two answers tell, and the lists they leave, are the same
+pub one-c-cube : (shape : Shape) (room : List ℕ) (a b : Answer) (x y : List ℕ) → TellsCube shape room a x → TellsCube shape room b y → (a ≡ b) × (x ≡ y)
+one-c-cube shape room a b x y p q = let e = p ∙ sym q in (ap (λ (o : CubeOutcome). o .answer) e, ap (λ (o : CubeOutcome). o .out) e)
+
+one-told : (a b : Answer) (x y : Lists) → outcome a x ≡ outcome b y → (a ≡ b) × (x ≡ y)
+one-told a b x y e = (ap (λ (o : Outcome). o .answer) e, ap (λ (o : Outcome). o .lists) e)
+
+pub one-c-mesh : (S : Scene) (outer grid : List ℕ) (culling : Bool) (B : Lists) (a b : Answer) (x y : Lists)
+    → TellsMesh S outer grid culling B a x → TellsMesh S outer grid culling B b y → (a ≡ b) × (x ≡ y)
+one-c-mesh S outer grid culling B a b x y p q = one-told a b x y (p ∙ sym q)
+
+pub one-c-update : (S : Scene) (log : List ℕ) (B : Lists) (Q : ℕ) (a b : Answer) (x y : Lists)
+    → TellsUpdate S log B Q a x → TellsUpdate S log B Q b y → (a ≡ b) × (x ≡ y)
+one-c-update S log B Q a b x y p q = one-told a b x y (p ∙ sym q)
+
+pub one-c-check : (S : Scene) (outer grid : List ℕ) (B : Lists) (Q m n i j : ℕ) → TellsCheck S outer grid B Q m i → TellsCheck S outer grid B Q n j
+    → (m ≡ n) × (i ≡ j)
+one-c-check S outer grid B Q m n i j p q = let e = p ∙ sym q in (ap (λ (a : Answer). a .number) e, ap (λ (a : Answer). a .place) e)
 
 pub a-refused-c-cube-changes-nothing : (shape : Shape) (room : List ℕ) (a : Answer) (exit : List ℕ) → a .number ≢ 0
     → TellsCube shape room a exit → exit ≡ room
@@ -71,7 +90,7 @@ a-fresh-c-mesh-passes S outer grid B a exit number place z e c =
     ap (λ (x : Answer). x .number) (c ∙ passes)
 
 pub a-mended-c-mesh-passes : (S : Scene) (log grid : List ℕ) (B : Lists) (Q before : ℕ) (a : Answer) (exit : Lists) (number place : ℕ)
-    → TellsCheck S [] grid B Q 0 before → HonestLog S grid log → a .number ≡ 0 → TellsUpdate S log B Q a exit
+    → TellsCheck S [] grid B Q 0 before → MendableLog S grid log → a .number ≡ 0 → TellsUpdate S log B Q a exit
     → TellsCheck S [] (gridAfter S log grid) exit (a .quads) number place → number ≡ 0
 a-mended-c-mesh-passes S log grid B Q before a exit number place p h z e c =
     let passes = subst (λ (o : Outcome). checkMesh S [] (gridAfter S log grid) (o .lists) (o .answer .quads) ≡ answered 0 0) (sym e)

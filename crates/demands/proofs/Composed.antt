@@ -18,7 +18,7 @@ use Rattle.update.specs.declared.Updated.{Updated}
 use Rattle.update.specs.declared.Updated.the-variants as updated
 use Rattle.update.specs.Outcome.{answerOf, outcomeOf}
 use Rattle.demands.specs.Contracts.{Meshes, Updates}
-use Rattle.demands.specs.Chunks.{gridAfter, HonestLog}
+use Rattle.demands.specs.Chunks.{gridAfter, MendableLog}
 use Rattle.demands.specs.Composed.{verdictBy, mendPromise, mendVerdict}
 use Rattle.demands.proofs.Telling.{numbered}
 use Rattle.demands.proofs.Answers.{what-a-mesh-call-says}
@@ -60,8 +60,8 @@ module _ (S : Scene) (grid log left : List ℕ) (B : Lists) (Q : ℕ) where
       let n : refuse (numberOf why) place ≡ verdictBy (answerOf (updated.Refused why place count)) = rw (numbered why .1) in
       ap (λ (v : Verdict). v then checkVerdict S [] left exit (count .quads)) n ∙ (λ i. chain (sym p i) (e i))
 
-  -- LAW: after an honest log the second check refuses nothing
-  pub second-check-idle : HonestLog S grid log → left ≡ gridAfter S log grid → mendVerdict S grid log left B Q ≡ mendPromise S grid log B Q
+  -- LAW: after a log of demand 3 the second check refuses nothing
+  pub second-check-idle : MendableLog S grid log → left ≡ gridAfter S log grid → mendVerdict S grid log left B Q ≡ mendPromise S grid log B Q
   unfolding _then_
   second-check-idle h l = first (checkVerdict S [] grid B Q) refl
     where
@@ -84,5 +84,5 @@ module _ (S : Scene) (grid log left : List ℕ) (B : Lists) (Q : ℕ) where
       first (refuse n k) p = refl
 
   pub promised : {v : Verdict} → v ≡ mendVerdict S grid log left B Q
-      → (v ≡ mendVerdict S grid log left B Q) × (HonestLog S grid log → left ≡ gridAfter S log grid → v ≡ mendPromise S grid log B Q)
+      → (v ≡ mendVerdict S grid log left B Q) × (MendableLog S grid log → left ≡ gridAfter S log grid → v ≡ mendPromise S grid log B Q)
   promised e = (e, λ h l. e ∙ second-check-idle h l)

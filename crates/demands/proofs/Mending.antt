@@ -1,5 +1,5 @@
 -- Promise 6, "if a mesh passes with no outer face named, it passes for the new grid after any unrefused honest log of Added and Broken
--- alone": mesh_grid, then any number of update_mesh calls, then check_mesh says Fine. Assumes nothing.
+-- alone", the Added of demand 3 (`MendableLog`, specs/Chunks): mesh_grid, then any number of update_mesh calls, then check_mesh says Fine. Assumes nothing.
 use Prim.Native.Nat.{ℕ}
 use mathlib.Core.Path.{_≡_, sym, ap, subst}
 use mathlib.Core.Bool.{true}
@@ -14,13 +14,13 @@ use Rattle.meshem.specs.declared.Meshed.the-variants as meshed
 use Rattle.mending.specs.declared.Count.{Count}
 use Rattle.update.specs.declared.Updated.the-variants.{Done}
 use Rattle.demands.specs.Contracts.{Meshes, Updates, Checks}
-use Rattle.demands.specs.Chunks.{Chunk, Passes, gridAfter, HonestLog, mendedTo, Mended, untouched, oneMore}
+use Rattle.demands.specs.Chunks.{Chunk, Passes, gridAfter, MendableLog, mendedTo, Mended, untouched, oneMore}
 use Rattle.demands.proofs.OneOutcome.{one-check}
 use Rattle.demands.proofs.Exact.{fine-is-zero}
 use Rattle.demands.proofs.Fresh.{fresh-is-fine}
 
 -- the check says Fine of what the rule of an update leaves
-pub still-fine : (S : Scene) (log grid : List ℕ) (B : Lists) (Q : ℕ) → Checks S [] grid B Q Fine → HonestLog S grid log
+pub still-fine : (S : Scene) (log grid : List ℕ) (B : Lists) (Q : ℕ) → Checks S [] grid B Q Fine → MendableLog S grid log
     → (updateMesh S log B Q) .answer .number ≡ 0
     → Checks S [] (gridAfter S log grid) ((updateMesh S log B Q) .lists) ((updateMesh S log B Q) .answer .quads) Fine
 still-fine S log grid B Q passed true-log unrefused =
@@ -29,14 +29,14 @@ still-fine S log grid B Q passed true-log unrefused =
     (true-log .honest) (true-log .mends) unrefused)
 
 -- and of what the call leaves
-mended-is-fine : (S : Scene) (log : List ℕ) (k : Chunk) (exit : Lists) (count : Count) → Passes S k → HonestLog S (k .grid) log
+mended-is-fine : (S : Scene) (log : List ℕ) (k : Chunk) (exit : Lists) (count : Count) → Passes S k → MendableLog S (k .grid) log
     → Updates S log (k .lists) (k .quads) (Done count) exit → Passes S (mendedTo S log k count exit)
 mended-is-fine S log k exit count passed true-log mended =
     subst (λ (o : Outcome). Checks S [] (gridAfter S log (k .grid)) (o .lists) (o .answer .quads) Fine) (sym mended)
     (still-fine S log (k .grid) (k .lists) (k .quads) passed true-log (sym (ap (λ (o : Outcome). o .answer .number) mended)))
 
 pub a-mended-mesh-passes : (S : Scene) (log grid : List ℕ) (B exit : Lists) (Q : ℕ) (count : Count) (r : Verdict)
-    → Checks S [] grid B Q Fine → HonestLog S grid log → Updates S log B Q (Done count) exit
+    → Checks S [] grid B Q Fine → MendableLog S grid log → Updates S log B Q (Done count) exit
     → Checks S [] (gridAfter S log grid) exit (count .quads) r → r ≡ Fine
 a-mended-mesh-passes S log grid B exit Q count r passed true-log mended checked =
     one-check S [] (gridAfter S log grid) exit (count .quads) r Fine checked

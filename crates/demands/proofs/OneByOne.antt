@@ -24,7 +24,7 @@ use Rattle.update.specs.Outcome.{outcomeOf}
 use Rattle.answers.specs.declared.Verdict.the-variants.{Fine}
 use Rattle.demands.specs.declared.one_by_one.Went.{Went}
 use Rattle.demands.specs.Contracts.{Meshes, Updates, Checks}
-use Rattle.demands.specs.Chunks.{gridAfter, HonestLog}
+use Rattle.demands.specs.Chunks.{gridAfter, MendableLog}
 use Rattle.demands.specs.OneByOne.{Course, through, halted, wentOf, onward, entryLog, calls, verdictOn, checkedOn, chain, chainPromise, chainVerdict}
 use Rattle.demands.proofs.Telling.{numbered}
 use Rattle.demands.proofs.Stopped.{entry-stays}
@@ -151,8 +151,8 @@ calls-pass S log (suc n) i grid B Q h p ho me =
         })
         (eqb-true (u .answer .number) 0 t))
 
--- LAW: after a call for each entry of an honest log, each of them answered, the check says Fine for the grid that the log left
-pub one-by-one : (S : Scene) (log grid : List ℕ) (B : Lists) (Q : ℕ) → Checks S [] grid B Q Fine → HonestLog S grid log
+-- LAW: after a call for each entry of a log of demand 3, each of them answered, the check says Fine for the grid that the log left
+pub one-by-one : (S : Scene) (log grid : List ℕ) (B : Lists) (Q : ℕ) → Checks S [] grid B Q Fine → MendableLog S grid log
     → PassesOn S (gridAfter S log grid) (calls S log 0 (length log / 12) B Q)
 one-by-one S log grid B Q p h = calls-pass S log (length log / 12) 0 grid B Q (omega arith) p (h .honest) (h .mends)
 
@@ -167,7 +167,7 @@ module _ (S : Scene) (grid log left : List ℕ) (B : Lists) where
 
   pub chained : (exit : Lists) (quads : ℕ) {v : Verdict} → Meshes S [] grid true B (meshed.Done quads) exit
       → v ≡ checkedOn S left (calls S log 0 (length log / 12) exit quads)
-      → (v ≡ chainVerdict S grid log left B) × (HonestLog S grid log → left ≡ gridAfter S log grid → v ≡ chainPromise S grid log B)
+      → (v ≡ chainVerdict S grid log left B) × (MendableLog S grid log → left ≡ gridAfter S log grid → v ≡ chainPromise S grid log B)
   unfolding _then_
   chained exit quads e c =
       let done : Outcome → Course = λ o. calls S log 0 (length log / 12) (o .lists) (o .answer .quads) in (
@@ -181,7 +181,7 @@ module _ (S : Scene) (grid log left : List ℕ) (B : Lists) where
 
   pub unmade : (exit : Lists) (why : Refusal) (place : ℕ) → Meshes S [] grid true B (meshed.Refused why place) exit
       → (refuse (numberOf why) place ≡ chainVerdict S grid log left B)
-      × (HonestLog S grid log → left ≡ gridAfter S log grid → refuse (numberOf why) place ≡ chainPromise S grid log B)
+      × (MendableLog S grid log → left ≡ gridAfter S log grid → refuse (numberOf why) place ≡ chainPromise S grid log B)
   unfolding _then_
   unmade exit why place e =
       let t = sym (what-a-mesh-call-says S [] grid true B (meshed.Refused why place) exit e .told) in

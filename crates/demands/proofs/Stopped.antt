@@ -12,8 +12,8 @@ use borrow.Author.Tests.{leb-false, eq-eqb}
 use Rattle.rules.specs.Lists.{every, part}
 use Rattle.rules.specs.Cells.{cells}
 use Rattle.rules.specs.Mesh.{Quad, Lists, layout, decode}
-use Rattle.rules.specs.Update.{Entry, Work, Course, Tested, u32At, entryAt, work, ops, run, moves, highest, needed, courseFrom}
-use Rattle.rules.specs.Answers.{Verdict, fine, refuse, _then_, refuseLowest, BAD-SIZE, badNeighbour, badEntry, BAD-ENTRY}
+use Rattle.rules.specs.Update.{Work, Course, Tested, u32At, entryAt, work, ops, run, moves, highest, needed, courseFrom}
+use Rattle.rules.specs.Answers.{fine, refuseLowest, BAD-SIZE, badNeighbour, badEntry, BAD-ENTRY}
 use Rattle.rules.specs.Calls.{Scene, answered, world, span, faces, room, typesVerdict, lentVerdict, updateVerdict, course, updateBy, updateMeshBy}
 use Rattle.rules.proofs.Checking.{then-fine, fine-then, fine-if, lowest-fine, fine-lowest}
 

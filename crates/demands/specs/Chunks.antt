@@ -23,16 +23,16 @@ Passes S k = Checks S [] (k .grid) (k .lists) (k .quads) Fine
 abbrev pub gridAfter : Scene → List ℕ → List ℕ → List ℕ
 gridAfter S log grid = gridLog (world S) (entriesOf log) grid
 
--- an honest log of Added and Broken alone, whose Added put cubes that cover opposite sides alike into empty cells
-pub record HonestLog (S : Scene) (grid log : List ℕ) : Type 0 where
+-- an honest log of Added and Broken alone whose Added put NormalCubes that cover opposite sides alike into cells that hold a Null covering nothing: demand 3's
+pub record MendableLog (S : Scene) (grid log : List ℕ) : Type 0 where
   pub honest : Honest (world S) grid (entriesOf log)
   pub mends : Mends source (world S) grid (entriesOf log)
 
 abbrev pub mendedTo : Scene → List ℕ → Chunk → Count → Lists → Chunk
 mendedTo S log k count exit = record { grid = gridAfter S log (k .grid); lists = exit; quads = count .quads }
 
--- n update calls lead from one chunk to another, each for an honest log and each answered Done
+-- n update calls lead from one chunk to another, each for such a log and each answered Done
 pub data Mended (S : Scene) (from : Chunk) : ℕ → Chunk → Type 0 where
   untouched : Mended S from 0 from
-  oneMore : {n : ℕ} {k : Chunk} (log : List ℕ) (count : Count) (exit : Lists) → Mended S from n k → HonestLog S (k .grid) log
+  oneMore : {n : ℕ} {k : Chunk} (log : List ℕ) (count : Count) (exit : Lists) → Mended S from n k → MendableLog S (k .grid) log
       → Updates S log (k .lists) (k .quads) (Done count) exit → Mended S from (suc n) (mendedTo S log k count exit)

@@ -14,7 +14,7 @@ ghost use Rattle.rules.specs.Calls.{meshVerdict};
 ghost use Rattle.answers.specs.Verdicts.{verdictOf};
 ghost use Rattle.admit.specs.Scenes.{sceneOf};
 ghost use Rattle.rules.specs.Mesh.{listsOf};
-ghost use Rattle.demands.specs.Chunks.{HonestLog, gridAfter};
+ghost use Rattle.demands.specs.Chunks.{MendableLog, gridAfter};
 ghost use Rattle.demands.specs.Composed.{mendVerdict, mendPromise};
 
 pub mod one_by_one; // one_by_one.rt: a call for each entry of a log
@@ -85,7 +85,7 @@ pub fn mend_and_check(
     ensures { λ r. ⌜ (verdictOf r ≡ mendVerdict (sceneOf scene (now (kinds .entry)) (now (covers .entry)) (now (cubes .entry)))
         (now (grid .entry)) (now (log .entry)) (now (left .entry))
         (listsOf (now (vertices .entry)) (now (triangles .entry)) (now (links .entry)) (now (slots .entry))) quads)
-        × (HonestLog (sceneOf scene (now (kinds .entry)) (now (covers .entry)) (now (cubes .entry))) (now (grid .entry)) (now (log .entry))
+        × (MendableLog (sceneOf scene (now (kinds .entry)) (now (covers .entry)) (now (cubes .entry))) (now (grid .entry)) (now (log .entry))
         → now (left .entry) ≡ gridAfter (sceneOf scene (now (kinds .entry)) (now (covers .entry)) (now (cubes .entry)))
         (now (log .entry)) (now (grid .entry))
         → verdictOf r ≡ mendPromise (sceneOf scene (now (kinds .entry)) (now (covers .entry)) (now (cubes .entry)))

@@ -14,7 +14,7 @@ ghost use lib.ListN.{length};
 ghost use Rattle.answers.specs.Verdicts.{verdictOf};
 ghost use Rattle.admit.specs.Scenes.{sceneOf};
 ghost use Rattle.rules.specs.Mesh.{listsOf};
-ghost use Rattle.demands.specs.Chunks.{HonestLog, gridAfter};
+ghost use Rattle.demands.specs.Chunks.{MendableLog, gridAfter};
 ghost use Rattle.demands.specs.OneByOne.{wentOf, calls, checkedOn, chainVerdict, chainPromise};
 
 // How far the calls went: through them all, with so many quads, or to one that was refused.
@@ -122,7 +122,7 @@ fn mend_each_and_check(
 }
 
 // Meshes a grid by Culling with no outer face named, mends the mesh by a call for each entry of a log, and checks it for the grid that the
-// log left: the check refuses nothing.
+// log left: after a log of demand 3 the check refuses nothing.
 pub fn make_mend_and_check(
     vertices: &mut [u32],
     triangles: &mut [u32],
@@ -139,7 +139,7 @@ pub fn make_mend_and_check(
     ensures { λ r. ⌜ (verdictOf r ≡ chainVerdict (sceneOf scene (now (kinds .entry)) (now (covers .entry)) (now (cubes .entry)))
         (now (grid .entry)) (now (log .entry)) (now (left .entry))
         (listsOf (now (vertices .entry)) (now (triangles .entry)) (now (links .entry)) (now (slots .entry))))
-        × (HonestLog (sceneOf scene (now (kinds .entry)) (now (covers .entry)) (now (cubes .entry))) (now (grid .entry)) (now (log .entry))
+        × (MendableLog (sceneOf scene (now (kinds .entry)) (now (covers .entry)) (now (cubes .entry))) (now (grid .entry)) (now (log .entry))
         → now (left .entry) ≡ gridAfter (sceneOf scene (now (kinds .entry)) (now (covers .entry)) (now (cubes .entry)))
         (now (log .entry)) (now (grid .entry))
         → verdictOf r ≡ chainPromise (sceneOf scene (now (kinds .entry)) (now (covers .entry)) (now (cubes .entry)))

@@ -2,12 +2,12 @@
 use mathlib.Core.Path.{_≡_, refl, sym, ap, _∙_}
 use mathlib.Core.Bool.{Bool, true, false}
 use mathlib.Core.List.{List, []}
-use Prim.Native.Nat.{ℕ, suc, _+_, _-_, _*_, _≤_, _<_}
+use Prim.Native.Nat.{ℕ, _+_, _-_, _*_, _≤_, _<_}
 use native.Mathlib.Omega.{arith}
 use lib.ListN.{length, getD}
 use borrow.Author.Tests.{eqb-true, eq-eqb}
 use Rattle.rules.specs.Lists.{count}
-use Rattle.rules.specs.Cells.{Triple, cells, coordinates, quadsOf}
+use Rattle.rules.specs.Cells.{cells, coordinates, quadsOf}
 use Rattle.rules.specs.Types.{floats, cubeOf}
 use Rattle.rules.specs.Mesh.{World, Lists, typeAt, isNormalCube, drawn, quadAt}
 use Rattle.rules.specs.Calls.{Scene, world, span, room}

@@ -1,5 +1,4 @@
 -- The call's answer with the lists at exit, as the rules see them. Definitions only.
-use Prim.Native.Nat.{ℕ}
 use mathlib.Core.Bool.{Bool, true, false}
 use Rattle.rules.specs.Mesh.{Lists}
 use Rattle.rules.specs.Calls.{Answer, answered, refused, Outcome}

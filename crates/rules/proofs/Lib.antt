@@ -14,6 +14,5 @@ pub mod Courses
 pub mod Refusals
 pub mod Demands
 pub mod Idle
-pub mod OneOutcome
 pub mod Cases
 pub mod Witness

@@ -1,4 +1,4 @@
-// The grid: its dimensions, its cells by number and by coordinates, and the neighbours of a cell.
+// The grid: its dimensions, its cells by number and by coordinates, its rows, and the neighbours of a cell.
 use face::Cell;
 use face::Face;
 ghost use mathlib.Core.Path.{_≡_};

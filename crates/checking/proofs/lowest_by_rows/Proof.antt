@@ -12,7 +12,7 @@ use Rattle.rules.specs.Lists.{lowest}
 use Rattle.rules.specs.Cells.{Size, cells, coordinates, setOf}
 use Rattle.rules.specs.Mesh.{World, drawn}
 use Rattle.rules.proofs.Searches.{Searched, searched, ended}
-use Rattle.util.specs.Grid.{Starts, sizeOf, Within, cordsOf}
+use Rattle.util.specs.Grid.{Starts, sizeOf, cordsOf}
 use Rattle.culling.specs.Culling.{worldOf, outerSet}
 use Rattle.checking.specs.Faces.{wrongSlot, wrongInRow}
 use Rattle.util.proofs.Rows.{first, high, long, cell-is, row-end}
@@ -78,7 +78,7 @@ drawn-row-requires c κs =
 cast-start : tie.Need-cast-start Inv-loop μ-loop
 cast-start c = search needs
 
--- the row is there, with its sets
+-- the list of sets has room for a row
 long-enough : (c : tie.After-drawn-row Inv-loop μ-loop) → given (c .before .before) .args .dims .width ≤ length (c .drawn-row .last .0)
 long-enough c =
     let i = c .before .before in

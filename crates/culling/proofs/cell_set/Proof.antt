@@ -3,7 +3,6 @@ use mathlib.Core.Path.{_∙_}
 use denote.Ref.{now}
 use Rattle.util.specs.Grid.{sizeOf}
 use Rattle.culling.proofs.Plain.{cell-is-plain, kept-sides, few-beside}
-use borrow.Author.Needs.{needs}
 use native.Mathlib.Omega.{arith}
 use Rattle.culling.proofs.cell_set.Statement.{statement}
 use Rattle.culling.proofs.cell_set.Tie as tie

@@ -1,4 +1,4 @@
--- `demands::mend_and_check` meets its contract: after an honest log the second check refuses nothing. Assumes nothing.
+-- `demands::mend_and_check` meets its contract: after a log of demand 3 the second check refuses nothing. Assumes nothing.
 use mathlib.Core.Path.{_≡_, sym, _∙_}
 use mathlib.Core.List.{[]}
 use Rattle.rules.specs.Mesh.{Lists, listsOf}

@@ -1,18 +1,16 @@
 -- `meshem::count_quads` meets its contract: before a row, the quads of the rows before it are counted. Assumes nothing.
 use mathlib.Core.Path.{_≡_, refl, sym, ap, _∙_}
-use mathlib.Core.Bool.{Bool}
-use mathlib.Core.List.{List}
-use Prim.Native.Nat.{ℕ, _+_, _-_, _*_, _≤_, _<_}
+use Prim.Native.Nat.{ℕ, _+_, _-_, _≤_, _<_}
 use borrow.Author.Needs.{needs}
 use native.Mathlib.Omega.{arith}
 use denote.Ref.{now}
-use lib.ListN.{length, getD, take}
+use lib.ListN.{length}
 use lib.Seq.{getD-take, length-take-le}
 use Rattle.rules.specs.Cells.{Size, cells, coordinates}
-use Rattle.util.specs.Grid.{Starts, sizeOf, Within, cordsOf}
+use Rattle.util.specs.Grid.{Starts, sizeOf, cordsOf}
 use Rattle.culling.specs.Culling.{worldOf}
 use Rattle.drawing.specs.Drawn.{asked}
-use Rattle.meshem.specs.Fresh.{setAt, facesOf, RowOf}
+use Rattle.meshem.specs.Fresh.{setAt, facesOf}
 use Rattle.meshem.proofs.Sets.{set-below}
 use Rattle.util.proofs.Rows.{first, row-end}
 use Rattle.meshem.proofs.Rows.{asked-few, asked-row, asked-on}
@@ -71,7 +69,7 @@ side-row-requires c κs =
       s .pre .5,
     )
 
--- the row is there, with its sets
+-- the list of sets has room for a row
 long-enough : (c : tie.After-side-row Inv-loop μ-loop) → given (c .before .before) .args .dims .width ≤ length (c .side-row .last .0)
 long-enough c =
     let i = c .before .before in

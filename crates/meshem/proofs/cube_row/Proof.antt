@@ -1,5 +1,5 @@
 -- `meshem::cube_row` meets its contract: 63 for a NormalCube, 0 for the others. Assumes nothing.
-use mathlib.Core.Path.{_≡_, refl, sym, ap, _∙_}
+use mathlib.Core.Path.{_≡_, refl, _∙_}
 use mathlib.Core.Bool.{Bool, true, false, cond}
 use mathlib.Core.List.{List}
 use Prim.Native.Nat.{ℕ, _+_, _-_, _*_, _≤_, _<_}
@@ -11,8 +11,6 @@ use native.Mathlib.Decide.{ℕ-discrete}
 use lib.Dec.{eqb}
 use lib.ListN.{length, getD, set, length-set}
 use lib.Seq.{getD-set-same, getD-set-other}
-use Rattle.rules.specs.Mesh.{typeAt}
-use Rattle.rules.proofs.ListLaws.{split}
 use Rattle.books.proofs.Books.{within}
 use Rattle.meshem.proofs.Sets.{naive-set}
 use Rattle.meshem.proofs.cube_row.Statement.{statement}

@@ -1,18 +1,18 @@
 -- `meshem::draw_row` meets its contract: before cell x, the cells before it are drawn. Assumes nothing.
 use mathlib.Core.Path.{_≡_, refl, sym, ap, _∙_, subst}
 use mathlib.Core.List.{[]}
-use Prim.Native.Nat.{ℕ, _+_, _-_, _≤_, _<_}
+use Prim.Native.Nat.{ℕ, _+_, _-_, _≤_}
 use borrow.Author.Needs.{needs}
 use native.Mathlib.Omega.{arith}
 use denote.Ref.{now}
-use lib.ListN.{length, getD}
+use lib.ListN.{getD}
 use Rattle.rules.specs.Cells.{quadsOf}
-use Rattle.rules.specs.Mesh.{Lists, quadAt, listsOf}
+use Rattle.rules.specs.Mesh.{quadAt, listsOf}
 use Rattle.rules.specs.Calls.{Scene, world, span}
 use Rattle.drawing.specs.Drawn.{cellsDrawn, asked}
 use Rattle.drawing.proofs.Turns.{Kept}
 use Rattle.admit.specs.Scenes.{sceneOf}
-use Rattle.meshem.specs.Fresh.{setsFrom, CellReady}
+use Rattle.meshem.specs.Fresh.{setsFrom}
 use Rattle.util.proofs.Rows.{row-end, row-cords}
 use Rattle.meshem.proofs.Rows.{asked-step, row-kept, cell-ready, row-more}
 use Rattle.meshem.proofs.draw_row.Statement.{statement}

@@ -1,8 +1,6 @@
 -- `meshem::draw_rows` meets its contract: before a row, the rows before it are drawn. Assumes nothing.
 use mathlib.Core.Path.{_≡_, refl, sym, ap, _∙_, subst}
-use mathlib.Core.List.{List}
-use Prim.Native.Nat.{ℕ, _+_, _-_, _*_, _≤_, _<_}
-use borrow.Author.Needs.{needs}
+use Prim.Native.Nat.{ℕ, _+_, _-_, _≤_}
 use native.Mathlib.Omega.{arith}
 use denote.Ref.{now}
 use lib.ListN.{length}
@@ -10,7 +8,6 @@ use Rattle.rules.specs.Cells.{Size, cells, coordinates}
 use Rattle.rules.specs.Mesh.{Lists, quadAt, listsOf}
 use Rattle.rules.specs.Calls.{Scene, world, span}
 use Rattle.util.specs.Grid.{Starts, sizeOf, Within, cordsOf}
-use Rattle.culling.specs.Culling.{worldOf}
 use Rattle.drawing.specs.Drawn.{cellsDrawn, asked}
 use Rattle.drawing.proofs.Turns.{Kept}
 use Rattle.admit.specs.Scenes.{sceneOf}

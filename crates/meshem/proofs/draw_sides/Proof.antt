@@ -1,6 +1,6 @@
 -- `meshem::draw_sides` meets its contract: the cell's type has its cube in the middle of the registry. Assumes nothing.
-use mathlib.Core.Path.{_≡_, refl, sym, ap, _∙_}
-use Prim.Native.Nat.{ℕ, _+_, _-_, _*_, _≤_}
+use mathlib.Core.Path.{_≡_, refl, sym, _∙_}
+use Prim.Native.Nat.{_+_, _-_, _*_, _≤_}
 use borrow.Author.Needs.{needs}
 use native.Mathlib.Nat.{mul-le-mul}
 use native.Mathlib.Omega.{arith}
@@ -9,13 +9,12 @@ use lib.ListN.{length, getD}
 use mathlib.Core.List.{[]}
 use Rattle.rules.specs.Lists.{part, count}
 use Rattle.rules.specs.Cells.{quadsOf}
-use Rattle.rules.specs.Types.{floats, cubeOf}
+use Rattle.rules.specs.Types.{cubeOf}
 use Rattle.rules.specs.Mesh.{typeAt, quadAt, listsOf}
 use Rattle.rules.specs.Calls.{Scene, world, span}
 use Rattle.books.proofs.Books.{within}
 use Rattle.voxel_mesh.proofs.Shapes.{few}
 use Rattle.vav.proofs.Laws.{part-lent}
-use Rattle.drawing.specs.Drawn.{facesDrawn}
 use Rattle.admit.specs.Scenes.{sceneOf}
 use Rattle.drawing.proofs.Bare.{still-bare}
 use Rattle.meshem.proofs.draw_sides.Statement.{statement}
@@ -57,7 +56,7 @@ shared-slice-read-wide c = start (c .before .before .before) .pre .0 .inside
 wide-requires : tie.Need-wide-requires
 wide-requires c κs = search needs
 
--- the cube starts and ends in the registry
+-- where a cube starts fits a word
 short : (c : tie.After-wide) → 24 * c .before .before .before .floats-of .result * c .wide .result ≤ 288 * 255
 short c =
     let n = narrow (c .before .before .before) in

@@ -1,9 +1,8 @@
 -- `meshem::side_row` meets its contract: Culling asks for what `drawn_row` finds, Naive for all six of a NormalCube. Assumes nothing.
-use mathlib.Core.Path.{_≡_, ap, _∙_}
+use mathlib.Core.Path.{ap, _∙_}
 use borrow.Author.Needs.{needs}
 use native.Mathlib.Omega.{arith}
 use denote.Ref.{now}
-use lib.ListN.{length}
 use Rattle.rules.specs.Cells.{setOf}
 use Rattle.rules.specs.Mesh.{drawn}
 use Rattle.util.specs.Grid.{sizeOf}

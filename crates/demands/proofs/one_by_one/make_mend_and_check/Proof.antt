@@ -1,4 +1,4 @@
--- `demands::one_by_one::make_mend_and_check` meets its contract: after an honest log the check refuses nothing. Assumes nothing.
+-- `demands::one_by_one::make_mend_and_check` meets its contract: after a log of demand 3 the check refuses nothing. Assumes nothing.
 use Rattle.rules.specs.Mesh.{Lists, listsOf}
 use Rattle.rules.specs.Calls.{Scene}
 use Rattle.admit.specs.Scenes.{sceneOf}

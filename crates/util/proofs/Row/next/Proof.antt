@@ -3,7 +3,7 @@ use mathlib.Core.Path.{refl}
 use native.Mathlib.Omega.{arith}
 use borrow.Author.Needs.{needs}
 use Rattle.util.specs.Grid.{sizeOf}
-use Rattle.util.proofs.Rows.{high, long, row-end, next-row, next-layer}
+use Rattle.util.proofs.Rows.{high, long, next-row, next-layer}
 use Rattle.util.proofs.Row.next.Statement.{statement}
 use Rattle.util.proofs.Row.next.Tie as tie
 
