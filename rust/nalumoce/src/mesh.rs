@@ -165,6 +165,13 @@ pub fn mesh_grid(
     }
 }
 
+/// Refuses a registry with colour for a mesh without, and the reverse: a vertex of the one has more floats than one of the other, so
+/// the registry's lists have the wrong lengths for the mesh.
+fn same_floats(mesh: &Mesh, reg: &VoxelRegistry) -> Result<(), Refusal> {
+    let fits = mesh.coloured == reg.coloured;
+    fits.then_some(()).ok_or(Refusal { reason: Reason::BadTypes, place: 255 })
+}
+
 /// Mends a mesh by the changes logged, and empties the log. The lists grow if they must.
 ///
 /// ```
@@ -186,9 +193,11 @@ pub fn mesh_grid(
 ///
 /// # Errors
 ///
-/// BAD_ENTRY for a log that names what isn't there; BAD_COUNT, BAD_LINKS or BAD_TRIANGLES for metadata of another mesh; BAD_TYPES,
-/// BAD_NUMBER or NOT_A_CUBE for a registry that would not mesh. Mesh and log are then as they were.
+/// BAD_TYPES, place 255, for a registry with colour and a mesh without, or the reverse, tried first; BAD_TYPES, BAD_NUMBER or
+/// NOT_A_CUBE for a registry that would not mesh; BAD_COUNT, BAD_LINKS or BAD_TRIANGLES for metadata of another mesh; BAD_ENTRY for a
+/// log that names what isn't there. Mesh and log are then as they were.
 pub fn update_mesh(mesh: &mut Mesh, metadata: &mut MeshMD, reg: &VoxelRegistry) -> Result<Updated, Refusal> {
+    same_floats(mesh, reg)?;
     let log = std::mem::take(&mut metadata.log);
     let (mut done, mut moved) = (0, 0);
     loop {
@@ -216,8 +225,9 @@ pub fn update_mesh(mesh: &mut Mesh, metadata: &mut MeshMD, reg: &VoxelRegistry) 
 ///
 /// # Errors
 ///
-/// What is wrong, and where.
+/// BAD_TYPES, place 255, for a registry with colour and a mesh without, or the reverse, tried first; then what is wrong, and where.
 pub fn check_mesh(mesh: &Mesh, metadata: &MeshMD, outer_layer: &[Face], grid: &[u8], reg: &VoxelRegistry) -> Result<(), Refusal> {
+    same_floats(mesh, reg)?;
     let lists = Lists { vertices: &mesh.vertices, triangles: &mesh.triangles, links: &metadata.links, slots: &metadata.slots };
     lent::check_mesh(metadata.dims, outer_layer, grid, reg, lists, mesh.quads)
 }

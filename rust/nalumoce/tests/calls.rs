@@ -176,6 +176,45 @@ fn a_refused_log_is_kept_and_nothing_is_done() {
     assert!(matches!(update_mesh(&mut mesh, &mut other, &registry), Err(Refusal { reason: Reason::BadLinks, .. })));
 }
 
+/// The same codes as in [`registry`], with or without colour.
+fn registry_in(color: Option<f32>) -> VoxelRegistry {
+    let mut registry = VoxelRegistry::new([1.0; 3], [0.0; 3], color.is_some());
+    assert_eq!(registry.add(VoxelMesh::Null, Sides::NONE), Ok(AIR));
+    assert_eq!(registry.add(VoxelMesh::NormalCube(&cube(color)), Sides::ALL), Ok(ROCK));
+    registry
+}
+
+#[test]
+fn a_registry_with_colour_does_not_fit_a_mesh_without_nor_the_reverse() {
+    let (dims, grid) = ((2, 1, 1), [ROCK; 2]);
+    for (of_the_mesh, other) in [(None, Some(0.5)), (Some(0.5), None)] {
+        let (own, other) = (registry_in(of_the_mesh), registry_in(other));
+        let (mut mesh, mut metadata) = mesh_grid(dims, &[], &grid, &own, MeshingAlgorithm::Culling).unwrap();
+        let (vertices, indices) = (mesh.vertices().to_vec(), mesh.indices().to_vec());
+        assert_eq!(refused(check_mesh(&mesh, &metadata, &[], &grid, &other)), (Reason::BadTypes, 255));
+
+        metadata.log(VoxelChange::Broken, 0, ROCK, neighboring_voxels(&grid, 0, dims));
+        assert_eq!(refused(update_mesh(&mut mesh, &mut metadata, &other)), (Reason::BadTypes, 255));
+        assert_eq!((mesh.quads(), mesh.vertices(), mesh.indices()), (10, &vertices[..], &indices[..]));
+        assert_eq!(metadata.logged().len(), 1);
+        assert_eq!(check_mesh(&mesh, &metadata, &[], &grid, &own), Ok(()));
+
+        assert_eq!(update_mesh(&mut mesh, &mut metadata, &own), Ok(Updated { quads: 6, moved: 14 }));
+        assert_eq!(check_mesh(&mesh, &metadata, &[], &[AIR, ROCK], &own), Ok(()));
+    }
+}
+
+#[test]
+fn a_mesh_without_a_quad_has_its_colour_all_the_same() {
+    for (of_the_mesh, other) in [(None, Some(0.5)), (Some(0.5), None)] {
+        let (own, other) = (registry_in(of_the_mesh), registry_in(other));
+        let (mut mesh, mut metadata) = mesh_grid((1, 1, 1), &[], &[AIR], &own, MeshingAlgorithm::Culling).unwrap();
+        assert_eq!(refused(check_mesh(&mesh, &metadata, &[], &[AIR], &other)), (Reason::BadTypes, 255));
+        assert_eq!(refused(update_mesh(&mut mesh, &mut metadata, &other)), (Reason::BadTypes, 255));
+        assert_eq!(mesh.colors().is_some(), of_the_mesh.is_some());
+    }
+}
+
 #[test]
 fn lent_room_is_refused_whole_and_left_alone() {
     let registry = registry();
