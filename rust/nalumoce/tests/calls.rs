@@ -56,6 +56,7 @@ fn meshes_worked_by_hand() {
     assert_eq!(quads((2, 1, 1), &[], &[ROCK; 2], MeshingAlgorithm::Culling), 10);
     assert_eq!(quads((2, 1, 1), &[], &[ROCK; 2], MeshingAlgorithm::Naive), 12);
     assert_eq!(quads((2, 1, 1), &[Face::Top], &[ROCK; 2], MeshingAlgorithm::Culling), 8);
+    assert_eq!(quads((2, 1, 1), &[Face::Top], &[ROCK; 2], MeshingAlgorithm::Naive), 12);
     assert_eq!(quads((3, 3, 3), &[], &[ROCK; 27], MeshingAlgorithm::Culling), 54);
 }
 
@@ -107,6 +108,16 @@ fn a_slab_added_above_rock_leaves_the_face_beneath_it() {
     grid[1] = SLAB;
     assert_eq!(update_mesh(&mut mesh, &mut metadata, &registry).unwrap().quads, 11);
     assert_eq!(refused(check_mesh(&mesh, &metadata, &[], &grid, &registry)), (Reason::WrongSet, 0));
+}
+
+#[test]
+fn an_update_draws_sides_at_the_edge_that_a_fresh_mesh_was_told_to_leave_out() {
+    let (registry, outer) = (registry(), [Face::Top]);
+    let (mut mesh, mut metadata) = mesh_grid((1, 1, 1), &outer, &[AIR], &registry, MeshingAlgorithm::Culling).unwrap();
+    metadata.log(VoxelChange::Added, 0, ROCK, [None; 6]);
+    assert_eq!(update_mesh(&mut mesh, &mut metadata, &registry).unwrap().quads, 6);
+    assert_eq!(refused(check_mesh(&mesh, &metadata, &outer, &[ROCK], &registry)), (Reason::WrongSet, 0));
+    assert_eq!(check_mesh(&mesh, &metadata, &[], &[ROCK], &registry), Ok(()));
 }
 
 #[test]
@@ -172,8 +183,27 @@ fn a_refused_log_is_kept_and_nothing_is_done() {
         assert_eq!((mesh.vertices(), metadata.logged().len()), (&before[..], 2));
         metadata.clear_log();
     }
-    let (_, mut other) = meshed((2, 1, 1), &[ROCK, AIR]);
-    assert!(matches!(update_mesh(&mut mesh, &mut other, &registry), Err(Refusal { reason: Reason::BadLinks, .. })));
+}
+
+/// What the documentation of `update_mesh` says of another mesh's metadata.
+#[test]
+fn metadata_of_another_mesh_is_noticed_by_the_number_of_quads_alone() {
+    let registry = registry();
+    let (mut two, _) = meshed((2, 1, 1), &[ROCK; 2]);
+    let (mut one, mut of_one) = meshed((2, 1, 1), &[ROCK, AIR]);
+    let (_, mut of_two) = meshed((2, 1, 1), &[ROCK; 2]);
+    assert_eq!(refused(update_mesh(&mut two, &mut of_one, &registry)), (Reason::BadLinks, 6));
+    assert_eq!(refused(update_mesh(&mut one, &mut of_two, &registry)), (Reason::BadLinks, 6));
+    let (mut many, _) = meshed((3, 3, 3), &[ROCK; 27]);
+    assert_eq!(refused(update_mesh(&mut many, &mut of_one, &registry)), (Reason::BadCount, 0));
+
+    // six quads both, of cell 0 and of cell 1
+    let (_, mut of_other) = meshed((2, 1, 1), &[AIR, ROCK]);
+    assert_eq!(refused(check_mesh(&one, &of_other, &[], &[ROCK, AIR], &registry)), (Reason::WrongSet, 0));
+    assert_eq!(refused(check_mesh(&one, &of_other, &[], &[AIR, ROCK], &registry)), (Reason::WrongVertex, 0));
+    of_other.log(VoxelChange::CullFaces, 1, ROCK, [Some(ROCK), None, None, None, None, None]);
+    assert_eq!(update_mesh(&mut one, &mut of_other, &registry), Ok(Updated { quads: 5, moved: 5 }));
+    assert!(check_mesh(&one, &of_other, &[], &[AIR, ROCK], &registry).is_err());
 }
 
 /// The same codes as in [`registry`], with or without colour.
