@@ -275,7 +275,7 @@ fn a_lent_update_out_of_room_keeps_what_it_did() {
     }
     let answer = lent::update_mesh(&mut kept.room(), 0, dims, &log, &registry);
     assert_eq!(answer, Err(UpdateError::NoRoom { entry: 2, kept: Updated { quads: 12, moved: 0 } }));
-    assert_eq!(Refusal::from(answer.unwrap_err()), Refusal { reason: Reason::NoRoom, place: 2 });
+    assert_eq!(answer.unwrap_err().to_string(), "NO_ROOM at 2 (the entries before it are done, and left 12 quads)");
     assert_eq!(lent::check_mesh(dims, &[], &[ROCK, AIR, ROCK, AIR, AIR], &registry, kept.room().lists(), 12), Ok(()));
 }
 
