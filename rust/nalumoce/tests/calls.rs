@@ -1,6 +1,6 @@
 //! The calls as a user makes them: worked meshes, refusals with their places, and lists lent and owned.
 
-use nalumoce::lent::{self, Room, UpdateError};
+use nalumoce::lent::{self, Lists, Room, UpdateError, NO_QUAD};
 use nalumoce::*;
 
 const AIR: u8 = 0;
@@ -277,6 +277,44 @@ fn a_lent_update_out_of_room_keeps_what_it_did() {
     assert_eq!(answer, Err(UpdateError::NoRoom { entry: 2, kept: Updated { quads: 12, moved: 0 } }));
     assert_eq!(answer.unwrap_err().to_string(), "NO_ROOM at 2 (the entries before it are done, and left 12 quads)");
     assert_eq!(lent::check_mesh(dims, &[], &[ROCK, AIR, ROCK, AIR, AIR], &registry, kept.room().lists(), 12), Ok(()));
+}
+
+#[test]
+fn empty_lists_are_lists_too() {
+    let (registry, dims) = (registry(), (1, 1, 1));
+    let mut slots = [7; 6];
+    let mut room = Room { vertices: &mut [], triangles: &mut [], links: &mut [], slots: &mut slots };
+    let mesh =
+        |grid: &[u8], registry, room: &mut Room| lent::mesh_grid(dims, &[], grid, registry, MeshingAlgorithm::Culling, room);
+    assert_eq!(refused(mesh(&[ROCK], &registry, &mut room)), (Reason::NoRoom, 0));
+    assert_eq!(room.slots, [7; 6]);
+    assert_eq!(mesh(&[AIR], &registry, &mut room), Ok(0));
+    assert_eq!(lent::update_mesh(&mut room, 0, dims, &Log::new(), &registry), Ok(Updated { quads: 0, moved: 0 }));
+    assert_eq!(lent::check_mesh(dims, &[], &[AIR], &registry, room.lists(), 0), Ok(()));
+    assert_eq!(slots, [NO_QUAD; 6]);
+
+    let mut none = Room { vertices: &mut [], triangles: &mut [], links: &mut [], slots: &mut [] };
+    let empty = VoxelRegistry::new([1.0; 3], [0.0; 3], false);
+    assert_eq!(refused(mesh(&[], &empty, &mut none)), (Reason::BadSize, 0));
+    assert_eq!(refused(mesh(&[AIR], &empty, &mut none)), (Reason::BadTypes, 255));
+    assert_eq!(refused(mesh(&[AIR], &registry, &mut none)), (Reason::ShortRoom, 0));
+    let no_types = UpdateError::Refused(Refusal { reason: Reason::BadTypes, place: 255 });
+    assert_eq!(lent::update_mesh(&mut none, 0, dims, &Log::new(), &empty), Err(no_types));
+    assert_eq!(refused(lent::check_mesh(dims, &[], &[AIR], &registry, none.lists(), 0)), (Reason::ShortRoom, 0));
+}
+
+#[test]
+fn lists_that_are_only_read_may_be_one_list() {
+    let registry = registry();
+    let mut kept = Kept::new(6, 1);
+    assert_eq!(lent::mesh_grid((1, 1, 1), &[], &[ROCK], &registry, MeshingAlgorithm::Culling, &mut kept.room()), Ok(6));
+    let words: Vec<u32> = [&kept.links[..], &kept.slots, &kept.triangles].concat();
+    let check = |lists| lent::check_mesh((1, 1, 1), &[], &[ROCK], &registry, lists, 6);
+    let parts = Lists { vertices: &kept.vertices, triangles: &words[12..], links: &words, slots: &words[6..] };
+    assert_eq!(check(parts), Ok(()));
+    assert_eq!(refused(check(Lists { slots: &words, ..parts })), (Reason::BadLinks, 0));
+    let one = Lists { triangles: &kept.triangles, links: &kept.triangles, slots: &kept.triangles, ..parts };
+    assert_eq!(refused(check(one)), (Reason::BadLinks, 0));
 }
 
 #[test]
