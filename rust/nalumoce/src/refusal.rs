@@ -30,7 +30,7 @@ macro_rules! reasons {
 reasons! {
     BadFile "BAD_FILE" 1 "the program's file breaks a rule; no call of this crate gives it";
     BadSize "BAD_SIZE" 2 "a size is not 1 to 1,024, the cells are more than 1,048,576, or the grid has another length";
-    BadTypes "BAD_TYPES" 3 "place 255: none, over 255, or lists of the wrong lengths, as of colour where there is to be none; else the lowest type whose kind or set is none";
+    BadTypes "BAD_TYPES" 3 "place 255: none, over 255, or lists of the wrong lengths (colour in one of two alone); else the lowest type whose kind or set is none";
     BadNumber "BAD_NUMBER" 4 "a voxel's size, centre or padding is not finite";
     BadAtlas "BAD_ATLAS" 5 "an atlas side is not 1 to 4,096, or a tile is over 4,095";
     NotACube "NOT_A_CUBE" 6 "place: the lowest type whose vertices do not surround the centre as a cube's do";
