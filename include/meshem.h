@@ -1,9 +1,16 @@
 /*
- * The C interface of Meshem. A slice is a pointer and then a count of elements; the slices and outputs of one call
- * never overlap. Every float is its 32-bit pattern. Each call takes every number, length and content, returns 0 or
- * the number of a refusal, and always writes its outputs, the thin pointers at its end: after success `place` is 0,
- * after a refusal the counts are 0 and nothing else has changed, but for an update's MESHEM_NO_ROOM, which keeps the
- * entries before `place` and tells their counts.
+ * The C interface of Meshem. Every float is its 32-bit pattern.
+ *
+ * A list is a pointer and then a count of elements. A list of no elements may come with any pointer, NULL too. Every
+ * other list is that many elements of memory, aligned for their type. The thin pointers at a call's end are its
+ * outputs: they are not NULL, are aligned, and are always written.
+ *
+ * Lists do not overlap, by Rust's rule: what a call writes (the lists without `const`, and the outputs) shares no
+ * memory with another list or output of the call. Lists that are only read may share memory with one another.
+ *
+ * Within these rules each call takes every number, length and content. It returns 0 or the number of a refusal. After
+ * success `place` is 0; after a refusal the counts are 0 and nothing else has changed, but for an update's
+ * MESHEM_NO_ROOM, which keeps the entries before `place` and tells their counts.
  */
 #ifndef MESHEM_H
 #define MESHEM_H

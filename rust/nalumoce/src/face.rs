@@ -104,7 +104,7 @@ pub fn three_d_cords_arr_safe(cell: usize, (width, height, length): Dimensions) 
     (at[1] < height).then_some(at)
 }
 
-/// The cell beyond a face, as in Meshem; none at the grid's edge.
+/// The cell beyond a face, as in Meshem; none at the grid's edge, nor for a cell outside, where Meshem panics.
 ///
 /// ```
 /// use nalumoce::{get_neighbor, Face};

@@ -1,11 +1,13 @@
 //! The calls on lists that you lend: a mapped graphics buffer, a part of a larger list, a list kept from frame to frame. Nothing is
 //! allocated or copied; the lists have the library's layout.
 //!
-//! Per quad: four vertices of 8 or 12 floats, six triangle words, one link (which cell and face it is). Per cell: six slots (which
-//! vertex each face's quad starts at, [`NO_QUAD`] for none). The room in quads is what the shortest of vertices, triangles and links holds.
+//! Per quad: four vertices of 8 floats, or of 12 if the registry has colour, six triangle words, one link (which cell and face it is).
+//! Per cell: six slots (which vertex each face's quad starts at, [`NO_QUAD`] for none). The room in quads is what the shortest of
+//! vertices, triangles and links holds. Nothing in the lists says whether they have colour: a registry that differs in it from the one
+//! they were meshed by is not noticed, and misreads them.
 //!
 //! ```
-//! use nalumoce::lent::{self, Room};
+//! use nalumoce::lent::{self, Room, UpdateError};
 //! # use nalumoce::*;
 //! # let mut registry = VoxelRegistry::new([1.0; 3], [0.0; 3], false);
 //! # let texture = Face::ALL.map(|face| (face, [0, 0]));
@@ -20,8 +22,13 @@
 //!
 //! let mut log = Log::new();
 //! log.push(VoxelChange::Broken, 0, rock, neighboring_voxels(&grid, 0, dims));
-//! let updated = lent::update_mesh(&mut room, quads, dims, &log, &registry)?;
-//! lent::check_mesh(dims, &[], &[air, rock], &registry, room.lists(), updated.quads)?;
+//! match lent::update_mesh(&mut room, quads, dims, &log, &registry) {
+//!     Ok(updated) => lent::check_mesh(dims, &[], &[air, rock], &registry, room.lists(), updated.quads)?,
+//!     // nothing has changed
+//!     Err(UpdateError::Refused(refusal)) => return Err(refusal),
+//!     // the entries before are done: the count of quads from before the call is no longer the mesh's
+//!     Err(UpdateError::NoRoom { entry, kept }) => panic!("no room at entry {entry}, {} quads now", kept.quads),
+//! }
 //! # Ok::<(), Refusal>(())
 //! ```
 
@@ -74,7 +81,8 @@ pub struct Updated {
     pub moved: u64,
 }
 
-/// Why an update stopped.
+/// Why an update stopped. It is no [`Refusal`], which would say that nothing has changed: after `NoRoom` the mesh has `kept.quads`
+/// quads, and goes by no other count.
 #[derive(Clone, Copy, Debug, PartialEq, Eq)]
 pub enum UpdateError {
     /// Refused: nothing has changed.
@@ -88,18 +96,14 @@ pub enum UpdateError {
     },
 }
 
-impl From<UpdateError> for Refusal {
-    fn from(error: UpdateError) -> Refusal {
-        match error {
-            UpdateError::Refused(refusal) => refusal,
-            UpdateError::NoRoom { entry, .. } => Refusal { reason: Reason::NoRoom, place: entry as u64 },
-        }
-    }
-}
-
 impl fmt::Display for UpdateError {
     fn fmt(&self, f: &mut fmt::Formatter) -> fmt::Result {
-        Refusal::from(*self).fmt(f)
+        match self {
+            UpdateError::Refused(refusal) => refusal.fmt(f),
+            UpdateError::NoRoom { entry, kept } => {
+                write!(f, "{} at {entry} (the entries before it are done, and left {} quads)", Reason::NoRoom.name(), kept.quads)
+            }
+        }
     }
 }
 

@@ -13,7 +13,7 @@ pub enum MeshingAlgorithm {
     Culling,
 }
 
-/// A mesh: vertices and triangles. [`MeshMD`] belongs to it.
+/// A mesh: vertices and triangles. The [`MeshMD`] made with it belongs to it, and no other does.
 #[derive(Clone, Debug)]
 pub struct Mesh {
     vertices: Vec<f32>,
@@ -68,10 +68,10 @@ impl Mesh {
     }
 }
 
-/// What has to be kept beside a mesh to mend it: the index of its quads, and the log of changes.
+/// What has to be kept beside a mesh to mend it: the index of its quads (their links and slots), and the log of changes.
 #[derive(Clone, Debug)]
 pub struct MeshMD {
-    /// The dimensions of the grid.
+    /// The dimensions of the grid, to be left as they are.
     pub dims: Dimensions,
     links: Vec<u32>,
     slots: Vec<u32>,
@@ -123,7 +123,7 @@ fn set_room(mesh: &mut Mesh, metadata: &mut MeshMD, quads: usize) {
 /// The most cells that a grid may have.
 const MOST_CELLS: usize = 1 << 20;
 
-/// Meshes a grid of type codes. The faces of the grid's edge named by `outer_layer` are not drawn.
+/// Meshes a grid of type codes. Culling does not draw the faces of the grid's edge that `outer_layer` names; naive meshing draws all.
 ///
 /// ```
 /// # use nalumoce::*;
@@ -165,6 +165,13 @@ pub fn mesh_grid(
     }
 }
 
+/// Refuses a registry with colour for a mesh without, and the reverse: a vertex of the one has more floats than one of the other, so
+/// the registry's lists have the wrong lengths for the mesh.
+fn same_floats(mesh: &Mesh, reg: &VoxelRegistry) -> Result<(), Refusal> {
+    let fits = mesh.coloured == reg.coloured;
+    fits.then_some(()).ok_or(Refusal { reason: Reason::BadTypes, place: 255 })
+}
+
 /// Mends a mesh by the changes logged, and empties the log. The lists grow if they must.
 ///
 /// ```
@@ -184,11 +191,20 @@ pub fn mesh_grid(
 /// # Ok::<(), Refusal>(())
 /// ```
 ///
+/// Metadata, registry and mesh have to belong together, and an update notices only some that don't. It compares the numbers of quads
+/// and reads no vertex: metadata of another mesh with as many quads, or a registry with other cubes, is taken, and the mesh is then
+/// ruined. [`check_mesh`] finds that out, and the mesh has to be made again.
+///
+/// A side that a log shows at the grid's edge is drawn, whatever outer layer the mesh was made with.
+///
 /// # Errors
 ///
-/// BAD_ENTRY for a log that names what isn't there; BAD_COUNT, BAD_LINKS or BAD_TRIANGLES for metadata of another mesh; BAD_TYPES,
-/// BAD_NUMBER or NOT_A_CUBE for a registry that would not mesh. Mesh and log are then as they were.
+/// BAD_TYPES, place 255, for a registry with colour and a mesh without, or the reverse, tried first; BAD_TYPES, BAD_NUMBER or
+/// NOT_A_CUBE for a registry that would not mesh; BAD_COUNT or BAD_LINKS for metadata of a mesh with another number of quads; BAD_ENTRY
+/// for a log that names what isn't there; BAD_SIZE, SHORT_ROOM or BAD_LINKS if [`MeshMD::dims`] were changed to what can't be. Mesh and
+/// log are then as they were.
 pub fn update_mesh(mesh: &mut Mesh, metadata: &mut MeshMD, reg: &VoxelRegistry) -> Result<Updated, Refusal> {
+    same_floats(mesh, reg)?;
     let log = std::mem::take(&mut metadata.log);
     let (mut done, mut moved) = (0, 0);
     loop {
@@ -216,8 +232,9 @@ pub fn update_mesh(mesh: &mut Mesh, metadata: &mut MeshMD, reg: &VoxelRegistry) 
 ///
 /// # Errors
 ///
-/// What is wrong, and where.
+/// BAD_TYPES, place 255, for a registry with colour and a mesh without, or the reverse, tried first; then what is wrong, and where.
 pub fn check_mesh(mesh: &Mesh, metadata: &MeshMD, outer_layer: &[Face], grid: &[u8], reg: &VoxelRegistry) -> Result<(), Refusal> {
+    same_floats(mesh, reg)?;
     let lists = Lists { vertices: &mesh.vertices, triangles: &mesh.triangles, links: &metadata.links, slots: &metadata.slots };
     lent::check_mesh(metadata.dims, outer_layer, grid, reg, lists, mesh.quads)
 }

@@ -1,5 +1,10 @@
-//! The C interface of `include/meshem.h`, and the only unsafe code: each slice is passed as its own pointer and length, what is
-//! written to comes by `&mut` and so overlaps nothing, and an f32 and its bits are one word.
+//! The C interface of `include/meshem.h`, and the only unsafe code. It is sound because the header's rules hold of whatever a safe caller
+//! lends:
+//!
+//! - Each slice is passed as its own pointer and length, so it is that long and aligned. An empty one dangles, as the header allows.
+//! - What is written comes by `&mut`, the outputs too, which are fields of a [`Told`] made for the call. So it overlaps nothing.
+//! - What is only read comes by `&`. Safe code may lend one list twice, as links and as slots say, and the header allows that.
+//! - An f32 and its bits are one word, and a [`Face`] is its number.
 
 use crate::lent::{Lists, Room};
 use crate::{Dimensions, Face, MeshingAlgorithm, Reason, Refusal, VoxelRegistry};

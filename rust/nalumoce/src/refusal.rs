@@ -30,7 +30,7 @@ macro_rules! reasons {
 reasons! {
     BadFile "BAD_FILE" 1 "the program's file breaks a rule; no call of this crate gives it";
     BadSize "BAD_SIZE" 2 "a size is not 1 to 1,024, the cells are more than 1,048,576, or the grid has another length";
-    BadTypes "BAD_TYPES" 3 "place 255: none, over 255, or lists of the wrong lengths; else the lowest type whose kind or set is none";
+    BadTypes "BAD_TYPES" 3 "place 255: none, over 255, or lists of the wrong lengths (colour in one of two alone); else the lowest type whose kind or set is none";
     BadNumber "BAD_NUMBER" 4 "a voxel's size, centre or padding is not finite";
     BadAtlas "BAD_ATLAS" 5 "an atlas side is not 1 to 4,096, or a tile is over 4,095";
     NotACube "NOT_A_CUBE" 6 "place: the lowest type whose vertices do not surround the centre as a cube's do";
@@ -41,7 +41,7 @@ reasons! {
     BadLinks "BAD_LINKS" 11 "place: the lowest quad whose link and slot disagree; the count of quads if more slots are filled";
     BadTriangles "BAD_TRIANGLES" 12 "place: the lowest quad whose triangle words are not its own";
     BadEntry "BAD_ENTRY" 13 "place: the lowest log entry with a cell, type or neighbour that is none, or past 16,777,216 entries";
-    NoRoom "NO_ROOM" 14 "more quads are needed than the lists hold; place: the log entry, of an update";
+    NoRoom "NO_ROOM" 14 "more quads are needed than the lists hold; an update tells its entry, and keeps those before it";
     WrongSet "WRONG_SET" 15 "the check: place is the lowest 6 · cell + face that is missing or should not be there";
     WrongVertex "WRONG_VERTEX" 16 "the check: place is the first quad with a float that differs in a bit";
 }
@@ -58,12 +58,13 @@ impl Reason {
     }
 }
 
-/// A refusal: a reason, and the place that [`Reason`] says. A refused call has changed nothing.
+/// A refusal: a reason, and the place that [`Reason`] says. A call that answers with one has changed nothing. A lent update that runs
+/// out of room has, and answers with [`UpdateError::NoRoom`](crate::lent::UpdateError::NoRoom) instead.
 #[derive(Clone, Copy, Debug, PartialEq, Eq, Hash)]
 pub struct Refusal {
     /// Why.
     pub reason: Reason,
-    /// Where: a type, cell, quad or entry as the reason says, else 0.
+    /// Where: a type, cell, face, quad or entry as the reason says, else 0.
     pub place: u64,
 }
 

@@ -3,7 +3,7 @@
 use crate::raw;
 use crate::{Face, Reason, Refusal, Sides};
 
-/// The vertices of one voxel, four a face by face: position 3, normal 3, uv 2, and colour 4 if it has one.
+/// The vertices of one voxel, four a face, face by face: position 3, normal 3, uv 2, and colour 4 if it has one.
 #[derive(Clone, Debug, PartialEq)]
 pub struct Cube {
     vertices: Vec<f32>,
@@ -46,7 +46,7 @@ pub(crate) const fn floats(coloured: bool) -> usize {
 }
 
 /// The mesh of a voxel, argument for argument as in Meshem: its size, the atlas in tiles, a tile for each face, its centre, the
-/// padding of a tile, a colour if its vertices are to have one, and that colour's alpha.
+/// padding of a tile, a colour if its vertices are to have one, and that colour's alpha. A face named twice has the later tile.
 ///
 /// ```
 /// use nalumoce::{generate_voxel_mesh, Face};
@@ -131,7 +131,7 @@ impl VoxelRegistry {
     /// # Errors
     ///
     /// BAD_TYPES, place 255, if there are 255 types already, or if the cube has a colour and the registry none, or the reverse.
-    /// Whether it is a cube about the centre is tested by each call that meshes.
+    /// Whether it is a cube about the centre is tested by each call that meshes, mends or checks.
     pub fn add(&mut self, mesh: VoxelMesh<&Cube>, covers: Sides) -> Result<u8, Refusal> {
         let code = self.kinds.len();
         let (kind, cube) = match mesh {
@@ -164,5 +164,50 @@ impl VoxelRegistry {
     /// Whether vertices have a colour.
     pub fn is_coloured(&self) -> bool {
         self.coloured
+    }
+}
+
+#[cfg(test)]
+mod tests {
+    use super::*;
+
+    /// As the paper has them: of face f, 4f + 0, 1, 3 and 2, 3, 1.
+    #[test]
+    #[rustfmt::skip]
+    fn the_36_words() {
+        assert_eq!(Cube::INDICES, [
+            0, 1, 3, 2, 3, 1,
+            4, 5, 7, 6, 7, 5,
+            8, 9, 11, 10, 11, 9,
+            12, 13, 15, 14, 15, 13,
+            16, 17, 19, 18, 19, 17,
+            20, 21, 23, 22, 23, 21,
+        ]);
+    }
+
+    /// Each triangle is half of its face, and runs counter-clockwise as seen from outside.
+    #[test]
+    fn the_words_go_with_the_vertices() {
+        let texture = Face::ALL.map(|face| (face, [0, 0]));
+        for color in [None, Some(0.5)] {
+            let cube = generate_voxel_mesh([1.0; 3], [1, 1], texture, [0.0; 3], 0.0, color, 1.0).unwrap();
+            let vertices: Vec<&[f32]> = cube.vertices().chunks_exact(floats(cube.is_coloured())).collect();
+            assert_eq!(vertices.len(), 24);
+            for (number, triangle) in Cube::INDICES.chunks_exact(3).enumerate() {
+                let [a, b, c] = [0, 1, 2].map(|i| vertices[triangle[i] as usize]);
+                let [p, q] = [b, c].map(|end| [0, 1, 2].map(|axis| end[axis] - a[axis]));
+                let across = [p[1] * q[2] - p[2] * q[1], p[2] * q[0] - p[0] * q[2], p[0] * q[1] - p[1] * q[0]];
+                let outward = match Face::ALL[number / 2] {
+                    Face::Top => [0.0, 1.0, 0.0],
+                    Face::Bottom => [0.0, -1.0, 0.0],
+                    Face::Right => [1.0, 0.0, 0.0],
+                    Face::Left => [-1.0, 0.0, 0.0],
+                    Face::Back => [0.0, 0.0, 1.0],
+                    Face::Forward => [0.0, 0.0, -1.0],
+                };
+                assert_eq!(across, outward);
+                assert_eq!(a[3..6], outward);
+            }
+        }
     }
 }

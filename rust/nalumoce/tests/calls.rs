@@ -1,6 +1,6 @@
 //! The calls as a user makes them: worked meshes, refusals with their places, and lists lent and owned.
 
-use nalumoce::lent::{self, Room, UpdateError};
+use nalumoce::lent::{self, Lists, Room, UpdateError, NO_QUAD};
 use nalumoce::*;
 
 const AIR: u8 = 0;
@@ -56,6 +56,7 @@ fn meshes_worked_by_hand() {
     assert_eq!(quads((2, 1, 1), &[], &[ROCK; 2], MeshingAlgorithm::Culling), 10);
     assert_eq!(quads((2, 1, 1), &[], &[ROCK; 2], MeshingAlgorithm::Naive), 12);
     assert_eq!(quads((2, 1, 1), &[Face::Top], &[ROCK; 2], MeshingAlgorithm::Culling), 8);
+    assert_eq!(quads((2, 1, 1), &[Face::Top], &[ROCK; 2], MeshingAlgorithm::Naive), 12);
     assert_eq!(quads((3, 3, 3), &[], &[ROCK; 27], MeshingAlgorithm::Culling), 54);
 }
 
@@ -107,6 +108,16 @@ fn a_slab_added_above_rock_leaves_the_face_beneath_it() {
     grid[1] = SLAB;
     assert_eq!(update_mesh(&mut mesh, &mut metadata, &registry).unwrap().quads, 11);
     assert_eq!(refused(check_mesh(&mesh, &metadata, &[], &grid, &registry)), (Reason::WrongSet, 0));
+}
+
+#[test]
+fn an_update_draws_sides_at_the_edge_that_a_fresh_mesh_was_told_to_leave_out() {
+    let (registry, outer) = (registry(), [Face::Top]);
+    let (mut mesh, mut metadata) = mesh_grid((1, 1, 1), &outer, &[AIR], &registry, MeshingAlgorithm::Culling).unwrap();
+    metadata.log(VoxelChange::Added, 0, ROCK, [None; 6]);
+    assert_eq!(update_mesh(&mut mesh, &mut metadata, &registry).unwrap().quads, 6);
+    assert_eq!(refused(check_mesh(&mesh, &metadata, &outer, &[ROCK], &registry)), (Reason::WrongSet, 0));
+    assert_eq!(check_mesh(&mesh, &metadata, &[], &[ROCK], &registry), Ok(()));
 }
 
 #[test]
@@ -172,8 +183,66 @@ fn a_refused_log_is_kept_and_nothing_is_done() {
         assert_eq!((mesh.vertices(), metadata.logged().len()), (&before[..], 2));
         metadata.clear_log();
     }
-    let (_, mut other) = meshed((2, 1, 1), &[ROCK, AIR]);
-    assert!(matches!(update_mesh(&mut mesh, &mut other, &registry), Err(Refusal { reason: Reason::BadLinks, .. })));
+}
+
+/// What the documentation of `update_mesh` says of another mesh's metadata.
+#[test]
+fn metadata_of_another_mesh_is_noticed_by_the_number_of_quads_alone() {
+    let registry = registry();
+    let (mut two, _) = meshed((2, 1, 1), &[ROCK; 2]);
+    let (mut one, mut of_one) = meshed((2, 1, 1), &[ROCK, AIR]);
+    let (_, mut of_two) = meshed((2, 1, 1), &[ROCK; 2]);
+    assert_eq!(refused(update_mesh(&mut two, &mut of_one, &registry)), (Reason::BadLinks, 6));
+    assert_eq!(refused(update_mesh(&mut one, &mut of_two, &registry)), (Reason::BadLinks, 6));
+    let (mut many, _) = meshed((3, 3, 3), &[ROCK; 27]);
+    assert_eq!(refused(update_mesh(&mut many, &mut of_one, &registry)), (Reason::BadCount, 0));
+
+    // six quads both, of cell 0 and of cell 1
+    let (_, mut of_other) = meshed((2, 1, 1), &[AIR, ROCK]);
+    assert_eq!(refused(check_mesh(&one, &of_other, &[], &[ROCK, AIR], &registry)), (Reason::WrongSet, 0));
+    assert_eq!(refused(check_mesh(&one, &of_other, &[], &[AIR, ROCK], &registry)), (Reason::WrongVertex, 0));
+    of_other.log(VoxelChange::CullFaces, 1, ROCK, [Some(ROCK), None, None, None, None, None]);
+    assert_eq!(update_mesh(&mut one, &mut of_other, &registry), Ok(Updated { quads: 5, moved: 5 }));
+    assert!(check_mesh(&one, &of_other, &[], &[AIR, ROCK], &registry).is_err());
+}
+
+/// The same codes as in [`registry`], with or without colour.
+fn registry_in(color: Option<f32>) -> VoxelRegistry {
+    let mut registry = VoxelRegistry::new([1.0; 3], [0.0; 3], color.is_some());
+    assert_eq!(registry.add(VoxelMesh::Null, Sides::NONE), Ok(AIR));
+    assert_eq!(registry.add(VoxelMesh::NormalCube(&cube(color)), Sides::ALL), Ok(ROCK));
+    registry
+}
+
+#[test]
+fn a_registry_with_colour_does_not_fit_a_mesh_without_nor_the_reverse() {
+    let (dims, grid) = ((2, 1, 1), [ROCK; 2]);
+    for (of_the_mesh, other) in [(None, Some(0.5)), (Some(0.5), None)] {
+        let (own, other) = (registry_in(of_the_mesh), registry_in(other));
+        let (mut mesh, mut metadata) = mesh_grid(dims, &[], &grid, &own, MeshingAlgorithm::Culling).unwrap();
+        let (vertices, indices) = (mesh.vertices().to_vec(), mesh.indices().to_vec());
+        assert_eq!(refused(check_mesh(&mesh, &metadata, &[], &grid, &other)), (Reason::BadTypes, 255));
+
+        metadata.log(VoxelChange::Broken, 0, ROCK, neighboring_voxels(&grid, 0, dims));
+        assert_eq!(refused(update_mesh(&mut mesh, &mut metadata, &other)), (Reason::BadTypes, 255));
+        assert_eq!((mesh.quads(), mesh.vertices(), mesh.indices()), (10, &vertices[..], &indices[..]));
+        assert_eq!(metadata.logged().len(), 1);
+        assert_eq!(check_mesh(&mesh, &metadata, &[], &grid, &own), Ok(()));
+
+        assert_eq!(update_mesh(&mut mesh, &mut metadata, &own), Ok(Updated { quads: 6, moved: 14 }));
+        assert_eq!(check_mesh(&mesh, &metadata, &[], &[AIR, ROCK], &own), Ok(()));
+    }
+}
+
+#[test]
+fn a_mesh_without_a_quad_has_its_colour_all_the_same() {
+    for (of_the_mesh, other) in [(None, Some(0.5)), (Some(0.5), None)] {
+        let (own, other) = (registry_in(of_the_mesh), registry_in(other));
+        let (mut mesh, mut metadata) = mesh_grid((1, 1, 1), &[], &[AIR], &own, MeshingAlgorithm::Culling).unwrap();
+        assert_eq!(refused(check_mesh(&mesh, &metadata, &[], &[AIR], &other)), (Reason::BadTypes, 255));
+        assert_eq!(refused(update_mesh(&mut mesh, &mut metadata, &other)), (Reason::BadTypes, 255));
+        assert_eq!(mesh.colors().is_some(), of_the_mesh.is_some());
+    }
 }
 
 #[test]
@@ -206,8 +275,46 @@ fn a_lent_update_out_of_room_keeps_what_it_did() {
     }
     let answer = lent::update_mesh(&mut kept.room(), 0, dims, &log, &registry);
     assert_eq!(answer, Err(UpdateError::NoRoom { entry: 2, kept: Updated { quads: 12, moved: 0 } }));
-    assert_eq!(Refusal::from(answer.unwrap_err()), Refusal { reason: Reason::NoRoom, place: 2 });
+    assert_eq!(answer.unwrap_err().to_string(), "NO_ROOM at 2 (the entries before it are done, and left 12 quads)");
     assert_eq!(lent::check_mesh(dims, &[], &[ROCK, AIR, ROCK, AIR, AIR], &registry, kept.room().lists(), 12), Ok(()));
+}
+
+#[test]
+fn empty_lists_are_lists_too() {
+    let (registry, dims) = (registry(), (1, 1, 1));
+    let mut slots = [7; 6];
+    let mut room = Room { vertices: &mut [], triangles: &mut [], links: &mut [], slots: &mut slots };
+    let mesh =
+        |grid: &[u8], registry, room: &mut Room| lent::mesh_grid(dims, &[], grid, registry, MeshingAlgorithm::Culling, room);
+    assert_eq!(refused(mesh(&[ROCK], &registry, &mut room)), (Reason::NoRoom, 0));
+    assert_eq!(room.slots, [7; 6]);
+    assert_eq!(mesh(&[AIR], &registry, &mut room), Ok(0));
+    assert_eq!(lent::update_mesh(&mut room, 0, dims, &Log::new(), &registry), Ok(Updated { quads: 0, moved: 0 }));
+    assert_eq!(lent::check_mesh(dims, &[], &[AIR], &registry, room.lists(), 0), Ok(()));
+    assert_eq!(slots, [NO_QUAD; 6]);
+
+    let mut none = Room { vertices: &mut [], triangles: &mut [], links: &mut [], slots: &mut [] };
+    let empty = VoxelRegistry::new([1.0; 3], [0.0; 3], false);
+    assert_eq!(refused(mesh(&[], &empty, &mut none)), (Reason::BadSize, 0));
+    assert_eq!(refused(mesh(&[AIR], &empty, &mut none)), (Reason::BadTypes, 255));
+    assert_eq!(refused(mesh(&[AIR], &registry, &mut none)), (Reason::ShortRoom, 0));
+    let no_types = UpdateError::Refused(Refusal { reason: Reason::BadTypes, place: 255 });
+    assert_eq!(lent::update_mesh(&mut none, 0, dims, &Log::new(), &empty), Err(no_types));
+    assert_eq!(refused(lent::check_mesh(dims, &[], &[AIR], &registry, none.lists(), 0)), (Reason::ShortRoom, 0));
+}
+
+#[test]
+fn lists_that_are_only_read_may_be_one_list() {
+    let registry = registry();
+    let mut kept = Kept::new(6, 1);
+    assert_eq!(lent::mesh_grid((1, 1, 1), &[], &[ROCK], &registry, MeshingAlgorithm::Culling, &mut kept.room()), Ok(6));
+    let words: Vec<u32> = [&kept.links[..], &kept.slots, &kept.triangles].concat();
+    let check = |lists| lent::check_mesh((1, 1, 1), &[], &[ROCK], &registry, lists, 6);
+    let parts = Lists { vertices: &kept.vertices, triangles: &words[12..], links: &words, slots: &words[6..] };
+    assert_eq!(check(parts), Ok(()));
+    assert_eq!(refused(check(Lists { slots: &words, ..parts })), (Reason::BadLinks, 0));
+    let one = Lists { triangles: &kept.triangles, links: &kept.triangles, slots: &kept.triangles, ..parts };
+    assert_eq!(refused(check(one)), (Reason::BadLinks, 0));
 }
 
 #[test]
