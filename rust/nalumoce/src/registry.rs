@@ -171,7 +171,7 @@ impl VoxelRegistry {
 mod tests {
     use super::*;
 
-    /// As the paper has them: of face f, 4f + 0, 1, 3 and 2, 3, 1.
+    /// As document 01 has them: of face f, 4f + 0, 1, 3 and 2, 3, 1.
     #[test]
     #[rustfmt::skip]
     fn the_36_words() {
