@@ -1,13 +1,13 @@
 -- Laws of the size limits. Assumes nothing.
 use mathlib.Core.Path.{_≡_, refl, sym, ap, ap₂, _∙_}
-use mathlib.Core.Bool.{Bool, true, false, not, cond, _&&_, _||_}
+use mathlib.Core.Bool.{Bool, true, false, not, cond, _&&_, _||_, true≢false}
 use Prim.Native.Nat.{ℕ, suc, _≤_}
 use native.Mathlib.Nat.{le-of-suc-le-suc}
-use native.Mathlib.Omega.{arith}
 use lib.Dec.{leb, ltb, leb·suc-suc}
 use borrow.Author.Tests.{leb-true, leb-false, ltb-true, ltb-false, lt-ltb, le-ltb}
 use Rattle.rules.specs.Cells.{Size, cells}
 use Rattle.rules.specs.Answers.{outOf, badLimits}
+use Rattle.rules.proofs.ListLaws.{and-true}
 use Rattle.util.specs.Grid.{Sides, Within}
 
 at-least : (a b : ℕ) → not (ltb a b) ≡ leb b a
@@ -42,23 +42,15 @@ limits s = pick (outOf (s .w) 1 1024) (outOf (s .h) 1 1024) (outOf (s .l) 1 1024
     pick false false true d = refl
     pick false false false d = refl
 
-mixed : false ≡ true → ⊥
-mixed e = let z : _≡_ {A = ℕ} 0 1 = cc in omega arith
-
-both : (a b : Bool) → (a && b) ≡ true → (a ≡ true) × (b ≡ true)
-both true true e = (refl, refl)
-both true false e = absurd (mixed e)
-both false b e = absurd (mixed e)
-
 side : (n : ℕ) → not (outOf n 1 1024) ≡ true → (1 ≤ n) × (n ≤ 1024)
 side n e =
-    let t = both _ _ (in-range n 1 1024 ∙ e) in
+    let t = and-true _ _ (in-range n 1 1024 ∙ e) in
     (leb-true 1 n (t .0), le-of-suc-le-suc (ltb-true n 1025 (t .1)))
 
 pub sides : (s : Size) → sidesHold s ≡ true → Sides s
 sides s e =
-    let t = both _ _ e in
-    let u = both _ _ (t .0) in
+    let t = and-true _ _ e in
+    let u = and-true _ _ (t .0) in
     let w = side (s .w) (u .0) in
     let h = side (s .h) (u .1) in
     let l = side (s .l) (t .1) in
@@ -69,4 +61,4 @@ within s e = go (sidesHold s) refl (sym (limits s) ∙ e)
   where
     go : (t : Bool) → sidesHold s ≡ t → cond t (ltb 1048576 (cells s)) true ≡ false → Within s
     go true k no-more = record { sides = sides s k; most = ltb-false _ _ no-more }
-    go false k wrong = absurd (mixed (sym wrong))
+    go false k wrong = absurd (true≢false wrong)

@@ -1,7 +1,8 @@
 -- `culling::is_plain_row` meets its contract. Assumes nothing.
 use denote.Ref.{now}
 use Rattle.util.specs.Grid.{sizeOf}
-use Rattle.culling.proofs.Plain.{all-plain, all-five, plain-around}
+use Rattle.rules.proofs.ListLaws.{and-true}
+use Rattle.culling.proofs.Plain.{all-plain, plain-around}
 use borrow.Author.Needs.{needs}
 use native.Mathlib.Omega.{arith}
 use Rattle.culling.proofs.is_plain_row.Statement.{statement}
@@ -31,9 +32,12 @@ are-plain-requires-5 c κs = omega arith
 returns-2 : tie.Need-returns-2
 returns-2 c =
     λ e. let s = c .before .before .before .before .before .before .before .before in
-    let t = all-five _ _ _ _ _ e in
+    let four = and-true _ _ e in
+    let three = and-true _ _ (four .0) in
+    let two = and-true _ _ (three .0) in
+    let one = and-true _ _ (two .0) in
     plain-around (sizeOf (s .args .dims)) (s .args .clear) (s .args .full) (now (s .args .grid)) (s .pre .0)
-    (c .before .before .before .before .are-plain .ensures (t .0)) (c .before .before .before .are-plain2 .ensures (t .1)) (c .before .before .are-plain3 .ensures (t .2)) (c .before .are-plain4 .ensures (t .3)) (c .are-plain5 .ensures (t .4))
+    (c .before .before .before .before .are-plain .ensures (one .0)) (c .before .before .before .are-plain2 .ensures (one .1)) (c .before .before .are-plain3 .ensures (two .1)) (c .before .are-plain4 .ensures (three .1)) (c .are-plain5 .ensures (four .1))
 
 pub is-plain-row-spec : {M : Type 1} → statement M
 is-plain-row-spec =
