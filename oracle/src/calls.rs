@@ -43,7 +43,7 @@ impl Calls for Plain {
     }
 
     fn update_mesh(&self, case: &Case, room: &mut Words, count: u64) -> Answer {
-        plain::update_mesh(&mut buffers(room), count, sizes(case), &case.log, &types(&case.types)).map_or_else(
+        plain::update_mesh(&mut buffers(room), count, sizes(case), &case.log, case.tested, &types(&case.types)).map_or_else(
             refused,
             |updated| {
                 let number = updated.no_room.map_or(Answer::default(), refused);

@@ -1,6 +1,7 @@
 //! Cases, made from a seed and nothing else: cubes, types, grids and logs, all of them accepted by document 01.
 
 use crate::calls::accepted;
+use plain::Tested;
 use crate::rust::{cube, floats, CubeParameters, Types, ENTRY, OUTSIDE};
 
 /// A grid to mesh and a log to apply to its mesh.
@@ -12,6 +13,8 @@ pub struct Case {
     pub types: Types,
     pub naive: bool,
     pub log: Vec<u8>,
+    /// The side of an Added voxel that the update tests; the Rust knows the opposite alone.
+    pub tested: Tested,
 }
 
 /// A cube of one edge about a centre of zero, every face with the same tile of an atlas of one.
@@ -220,7 +223,7 @@ impl Random {
         let most = if self.one_in(400) { 255 } else { 5 };
         let (dims, types) = (self.dims(), self.types(most));
         let grid = self.grid(dims.iter().product::<u32>() as usize, types.kinds.len());
-        let mut case = Case { dims, outer: self.outer(), grid, types, naive: self.one_in(4), log: vec![] };
+        let mut case = Case { dims, outer: self.outer(), grid, types, naive: self.one_in(4), ..Case::default() };
         let most = self.pick(&[1, 4, 12, 40]);
         let entries = self.below(most + 1);
         let candour = self.pick(&[Candour::Honest, Candour::Foolish, Candour::Mixed]);

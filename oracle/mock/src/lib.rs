@@ -1,7 +1,13 @@
 //! The C interface over the plain reading.
 #![allow(clippy::missing_safety_doc, clippy::too_many_arguments)]
 
-use plain::{Buffers, Cube, Held, Refusal, Sizes, Types};
+use plain::{Buffers, Cube, Held, Refusal, Sizes, Tested, Types};
+
+/// The level of the C interface that this stands for.
+#[no_mangle]
+pub extern "C" fn meshem_abi() -> u32 {
+    2
+}
 
 unsafe fn lent<'a, T>(data: *const T, len: usize) -> &'a [T] {
     if len == 0 {
@@ -97,6 +103,7 @@ pub unsafe extern "C" fn meshem_update_mesh(
     count: u64,
     width: u32, height: u32, length: u32,
     log: *const u8, log_len: usize,
+    tested: u32,
     kinds: *const u8, kinds_len: usize, covers: *const u8, covers_len: usize,
     cubes: *const u32, cubes_len: usize, coloured: u32,
     dx: u32, dy: u32, dz: u32, cx: u32, cy: u32, cz: u32,
@@ -117,7 +124,8 @@ pub unsafe extern "C" fn meshem_update_mesh(
         slots: lent_mut(slots, slots_len),
     };
     let sizes = Sizes { width, height, length };
-    let answer = plain::update_mesh(&mut buffers, count, sizes, lent(log, log_len), &types);
+    let side = if tested == 0 { Tested::Opposite } else { Tested::Itself };
+    let answer = plain::update_mesh(&mut buffers, count, sizes, lent(log, log_len), side, &types);
     let (Refusal(number, at), left, changed) = match answer {
         Ok(updated) => (updated.no_room.unwrap_or(Refusal(0, 0)), updated.quads, updated.moved),
         Err(refusal) => (refusal, 0, 0),

@@ -12,7 +12,7 @@ pub use check::check_mesh;
 pub use cube::{generate_voxel_mesh, Cube};
 pub use mesh::{mesh_grid, Buffers, Held};
 pub use tables::{Sizes, Types};
-pub use update::{update_mesh, Updated};
+pub use update::{update_mesh, Tested, Updated};
 
 /// A refusal: its number and place.
 #[derive(Clone, Copy, Debug, PartialEq, Eq)]

@@ -6,6 +6,25 @@ use crate::*;
 const ENTRY: usize = 12;
 const MOST_ENTRIES: usize = 16_777_216;
 
+/// The side of an Added voxel that decides whether the neighbour at a face loses its facing quad.
+#[derive(Clone, Copy, Debug, Default, PartialEq, Eq)]
+pub enum Tested {
+    /// The opposite of the face, as the source does.
+    #[default]
+    Opposite,
+    /// The face itself.
+    Itself,
+}
+
+impl Tested {
+    fn side(self, face: usize) -> usize {
+        match self {
+            Tested::Opposite => opposite(face),
+            Tested::Itself => face,
+        }
+    }
+}
+
 /// What an update leaves: the quads, the quads moved, and whether an entry found no room.
 #[derive(Clone, Copy, Debug, PartialEq, Eq)]
 pub struct Updated {
@@ -48,12 +67,20 @@ enum Step {
 struct Update<'a, 'b> {
     buffers: &'a mut Buffers<'b>,
     sizes: Sizes,
+    tested: Tested,
     types: &'a Types<'a>,
     quads: usize,
     moved: u64,
 }
 
-pub fn update_mesh(buffers: &mut Buffers, count: u64, sizes: Sizes, log: &[u8], types: &Types) -> Result<Updated, Refusal> {
+pub fn update_mesh(
+    buffers: &mut Buffers,
+    count: u64,
+    sizes: Sizes,
+    log: &[u8],
+    tested: Tested,
+    types: &Types,
+) -> Result<Updated, Refusal> {
     sizes.verdict()?;
     types.verdict()?;
     let cells = sizes.cells();
@@ -64,7 +91,7 @@ pub fn update_mesh(buffers: &mut Buffers, count: u64, sizes: Sizes, log: &[u8], 
     refuse_if(log.len() % ENTRY != 0, BAD_ENTRY, (log.len() / ENTRY) as u64)?;
 
     let room = buffers.held().room(types.coloured);
-    let mut update = Update { buffers, sizes, types, quads: count as usize, moved: 0 };
+    let mut update = Update { buffers, sizes, tested, types, quads: count as usize, moved: 0 };
     for (number, entry) in entries().enumerate() {
         if update.needed(&entry) > room {
             return Ok(update.left(Some(Refusal(NO_ROOM, number as u64))));
@@ -110,14 +137,14 @@ impl Update<'_, '_> {
         drawn.then_some(Step::Draw { cell, face: opposite(face), voxel })
     }
 
-    /// What Added removes last: the neighbours' facing quads, where the voxel covers the opposite of the side.
+    /// What Added removes last: the neighbours' facing quads, where the voxel covers the side tested.
     fn facing_steps(&self, entry: &Entry) -> Vec<Step> {
         if entry.change != 1 || !self.types.is_cube(entry.voxel) {
             return vec![];
         }
         let facing = |face: usize| {
             let cell = self.sizes.neighbour(entry.cell, face)?;
-            self.types.covers(entry.voxel, opposite(face)).then_some(Step::Remove { cell, face: opposite(face) })
+            self.types.covers(entry.voxel, self.tested.side(face)).then_some(Step::Remove { cell, face: opposite(face) })
         };
         (0..FACES).filter_map(facing).collect()
     }

@@ -126,8 +126,8 @@ fn report_fault(number: u64, difference: &str, parameters: &CubeParameters, case
 }
 
 fn print(case: &Case) {
-    let Case { dims, outer, grid, types, naive, log } = case;
-    println!("  w,h,l {dims:?} outer {outer:?} naive {naive} grid {grid:?}");
+    let Case { dims, outer, grid, types, naive, log, tested } = case;
+    println!("  w,h,l {dims:?} outer {outer:?} naive {naive} grid {grid:?}, the side tested: {tested:?}");
     println!("  kinds {:?} covers {:?} coloured {}", types.kinds, types.covers, types.coloured);
     println!("  d {:x?} centre {:x?}", types.d, types.centre);
     for entry in log.chunks(ENTRY) {

@@ -90,7 +90,7 @@ fn replay_grid(number: u32, record: &mut Reader, types: &Types) {
     let naive = record.one() == 0;
     let [outer, cells, entries] = record.three().map(|length| length as usize);
     let (outer, grid, log) = (record.bytes(outer), record.bytes(cells), record.bytes(entries * ENTRY));
-    let case = Case { dims, outer, grid, types: types.clone(), naive, log };
+    let case = Case { dims, outer, grid, types: types.clone(), naive, log, ..Case::default() };
     let (fresh, updated) = (record.mesh(&case), record.mesh(&case));
 
     let quads = 6 * cells;
