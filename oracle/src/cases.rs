@@ -1,8 +1,8 @@
 //! Cases, made from a seed and nothing else: cubes, types, grids and logs, all of them accepted by document 01.
 
 use crate::calls::accepted;
-use plain::Tested;
 use crate::rust::{cube, floats, CubeParameters, Types, ENTRY, OUTSIDE};
+use plain::Tested;
 
 /// A grid to mesh and a log to apply to its mesh.
 #[derive(Clone, Debug, Default, PartialEq)]
