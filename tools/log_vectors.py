@@ -8,8 +8,8 @@ import random
 
 from cube_vectors import INF, NAN, cube, f, shape
 from mesh_vectors import JUNK, UNIT, call, faces, floats, mesh, some_types
-from trials import (ADD_FACES, ADDED, BROKEN, CHECK, CULL_FACES, CULLING, NAIVE, NONE, OUTSIDE, UPDATE, Trials, beside, cell_count, covers, entry,
-                    spare)
+from trials import (ADD_FACES, ADDED, BROKEN, CHECK, CULL_FACES, CULLING, NAIVE, NONE, OUTSIDE, UPDATE, UPDATE_ITSELF, Trials, beside, cell_count,
+                    covers, entry, spare)
 
 trials = Trials()
 add = trials.add
@@ -84,6 +84,8 @@ for covering, quads, fresh in ((2, 11, 10), (1, 10, 11)):
     base(m)
     assert add(UPDATE, 6, entry(1, ADDED, 2, *by(1, 1)))[2] == quads
     assert check_goes_on([1, 2])[0] == 15
+    assert add(UPDATE_ITSELF, 6, entry(1, ADDED, 2, *by(1, 1)))[2] == fresh
+    assert check_goes_on([1, 2])[0] == 0
     assert add(CULLING, 0, before=[(trials.at("grid", 1), 2)])[2] == fresh and add(NAIVE, 0, before=[(trials.at("grid", 1), 2)])[2] == 12
 base(PAIR)
 for cell in (0, 1):
@@ -130,11 +132,20 @@ for change in (BROKEN, ADDED, CULL_FACES, ADD_FACES):
 
 
 # ---- logs at random, and each at every room from the count on
-def some_log(rng, m, length, honest=None):
+def is_alike(m, code):
+    """Whether a type covers opposite sides alike."""
+    return all(covers(m, code, k) == covers(m, code, k + 1) for k in (0, 2, 4))
+
+
+def any_cube(m, code):
+    return True
+
+
+def some_log(rng, m, length, honest=None, may_add=is_alike):
     """Entries in range; with `honest`, a grid that is kept, demand 3's entries on it."""
     log = b""
     types = len(m["kinds"])
-    codes = [code for code in range(types) if m["kinds"][code] == 1 and all(covers(m, code, k) == covers(m, code, k + 1) for k in (0, 2, 4))]
+    codes = [code for code in range(types) if m["kinds"][code] == 1 and may_add(m, code)]
     empty = [code for code in range(types) if m["kinds"][code] == 0 and m["covers"][code] == 0]
     for _ in range(length):
         cell = rng.randrange(cell_count(m))
@@ -189,6 +200,38 @@ for coloured in (False, True):
         assert told[0] == 0 and check_goes_on(grid)[0] == 0
     grid[7] = 1 if grid[7] != 1 else 2
     assert add(CHECK, told[2], goes_on=True, before=[(trials.at("grid", 7), grid[7])])[0] == 15
+
+# ---- the side itself: a slab on every side of a cube; any covers, honest and foolish; cubes alike, where both modes are one
+def either_way(count, log, **lent):
+    """The same log by both sides; answers the two answers, and whether they left the same words."""
+    by_opposite, left = add(UPDATE, count, log, **lent), trials.image
+    return by_opposite, add(UPDATE_ITSELF, count, log, **lent), left == trials.image
+
+
+SLABS = dict(kinds=[0] + [1] * 9, covers=[0, 63] + [1 << face for face in range(6)] + [0b010110, 0b110011], cubes=JUNK + UNIT * 9)
+CROSS = call(dims=[3, 3, 3], grid=[1 if c in (4, 10, 12, 14, 16, 22) else 0 for c in range(27)], **SLABS)
+count = base(CROSS, 8)
+for code in range(2, 10):
+    told, itself, same = either_way(count, entry(13, ADDED, code, 1, 1, 1, 1, 1, 1))
+    assert told[0] == itself[0] == 0 and same == is_alike(CROSS, code)
+    assert check_goes_on([code if c == 13 else CROSS["grid"][c] for c in range(27)])[0] == 0
+    told, itself, _ = either_way(count, entry(13, ADDED, code, *ALONE), **fit(CROSS, count + 5))  # room is counted before a facing quad goes
+    assert told == itself == (14, 0, count, 0)
+assert either_way(count, entry(13, ADDED, 1, *ALONE), **fit(CROSS, count + 6))[2] and either_way(count, entry(10, BROKEN, 8, 1, 1, 1, 1, 1, 1))[2]
+for turn in range(2):
+    m = call(dims=[2, 3, 1], grid=[rng.randrange(10) for _ in range(6)], **SLABS)
+    count = base(m, 20)
+    for length in (2, 9):
+        add(UPDATE_ITSELF, count, some_log(rng, m, length), **(fit(m, count + 2) if length == 9 else {}))
+        check_goes_on(m["grid"])
+    grid = list(m["grid"])
+    assert either_way(count, some_log(rng, m, 12, grid))[2] and check_goes_on(grid)[0] == 0
+    grid = list(m["grid"])
+    told, itself, same = either_way(count, some_log(rng, m, 40, grid, any_cube))
+    assert told[0] == itself[0] == 0 and not same and check_goes_on(grid)[0] == 0
+    for _ in range(2):
+        itself = add(UPDATE_ITSELF, itself[2], some_log(rng, m, 3, grid, any_cube), goes_on=True)
+        assert itself[0] == 0 and check_goes_on(grid)[0] == 0
 
 # ---- refusals: each, and each two; the log would change everything
 base(PAIR, 3)

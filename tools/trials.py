@@ -1,4 +1,4 @@
-"""Document 01's update and check in plain Python, and the records that crates/trials reads.
+"""Document 01's update, in both modes of document 02's Q-2, and check in plain Python, and the records that crates/trials reads.
 
 A mesh is four lists of words. An update takes them for a list of quads (cell, face, words), works on that as 01's sentences say, and lays it
 out again. No code of the crates is used; cubes, fresh meshing and the types' tests are those of cube_vectors.py and mesh_vectors.py.
@@ -10,7 +10,7 @@ import mesh_vectors
 from cube_vectors import types_answer
 from mesh_vectors import NONE, STEPS, faces, floats, mesh
 
-NAIVE, CULLING, UPDATE, CHECK = range(4)
+NAIVE, CULLING, UPDATE, CHECK, UPDATE_ITSELF = range(5)
 BROKEN, ADDED, CULL_FACES, ADD_FACES = range(4)
 OUTSIDE = 255
 HEAD, ROOM = 19, 32768
@@ -118,15 +118,23 @@ def entries_answer(m, log):
     return (13, len(log) // 12) if len(log) % 12 else (0, 0)
 
 
-def plan(m, cell, change, code, given):
-    """What goes first, what is drawn, and what goes after."""
+def opposite(face):
+    return face ^ 1
+
+
+def itself(face):
+    return face
+
+
+def plan(m, tested, cell, change, code, given):
+    """What goes first, what is drawn, and what goes after: the neighbour's facing quad at face i, if the voxel covers the side tested."""
     own = [(cell, face) for face in range(6)]
     cube = m["kinds"][code] == 1
     if change == ADDED:
         if not cube:
             return [], [], []
         drawn = [(cell, f, code) for f in range(6) if given[f] == OUTSIDE or not covers(m, given[f], f ^ 1)]
-        facing = [(beside(m, cell, i), i ^ 1) for i in range(6) if beside(m, cell, i) is not None and covers(m, code, i ^ 1)]
+        facing = [(beside(m, cell, i), i ^ 1) for i in range(6) if beside(m, cell, i) is not None and covers(m, code, tested(i))]
         return own, drawn, facing
     if change == BROKEN:
         return own, [(beside(m, cell, i), i ^ 1, given[i]) for i in range(6)
@@ -165,7 +173,7 @@ def laid(m, lists, quads, highest):
         slots + lists[3][6 * cells:]]
 
 
-def update(m, lists, count, log):
+def update(m, lists, count, log, tested=opposite):
     """Number, place, quads and moved; and the lists."""
     for number, place in ((2 if bad_size(m) else 0, 0), types_answer(m)):
         if number:
@@ -177,7 +185,7 @@ def update(m, lists, count, log):
     quads = [(lists[2][q] & 0x1FFFFFFF, 5 - (lists[2][q] >> 29), lists[0][n * q:n * q + n]) for q in range(count)]
     highest, moved = count, 0
     for i, one in enumerate(entries(log)):
-        first, drawn, after = plan(m, *one)
+        first, drawn, after = plan(m, tested, *one)
         there = {(cell, face) for cell, face, _ in quads}
         gone = there & set(first)
         new = [(cell, face, code) for cell, face, code in drawn if (cell, face) not in there - gone]
@@ -255,8 +263,8 @@ class Trials:
         grid, kinds, covering, cubes, *lists = self.lent_parts(image, lent)
         m = dict(dims=image[1:4], coloured=image[4] == 1, d=image[5:8], centre=image[8:11], grid=grid, kinds=kinds, covers=covering,
                  cubes=cubes, outer=list(outer), culling=call != NAIVE, lent=[len(part) for part in lists])
-        if call == UPDATE:
-            told, lists = update(m, lists, count, log)
+        if call in (UPDATE, UPDATE_ITSELF):
+            told, lists = update(m, lists, count, log, opposite if call == UPDATE else itself)
         elif call == CHECK:
             told = check(m, lists, count) + (0, 0)
         else:

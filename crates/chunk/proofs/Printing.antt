@@ -39,7 +39,7 @@ module _ (S : Scene) (log : List ℕ) (B : Lists) (Q : ℕ) where
   fine-of-zero fine w e = refl
   fine-of-zero (refuse n p) w e = zero-fine UPDATE refl (refuse n p) w e
 
-  accepted : (updateMesh S log B Q) .answer .number ≡ 0 → updateVerdict S log B Q ≡ fine
+  accepted : (updateMesh source S log B Q) .answer .number ≡ 0 → updateVerdict S log B Q ≡ fine
   accepted e = fine-of-zero (updateVerdict S log B Q) (update-numbers S log B Q) e
 
   module _ (eu : updateVerdict S log B Q ≡ fine) where
@@ -66,10 +66,10 @@ module _ (S : Scene) (log : List ℕ) (B : Lists) (Q : ℕ) where
     counted none = refl
     counted (some k) = refl
 
-    quads-are : (updateMesh S log B Q) .answer .quads ≡ length (c .quads)
+    quads-are : (updateMesh source S log B Q) .answer .quads ≡ length (c .quads)
     quads-are = ap (λ (v : Verdict). (updateBy v S c B) .answer .quads) eu ∙ counted (c .full)
 
-    lists-are : (updateMesh S log B Q) .lists ≡ layout (faces S) (span S) (c .highest) (c .quads) B
+    lists-are : (updateMesh source S log B Q) .lists ≡ layout (faces S) (span S) (c .highest) (c .quads) B
     lists-are = ap (λ (v : Verdict). (updateBy v S c B) .lists) eu
 
     inside : c .highest ≤ length (B .links)
@@ -114,7 +114,7 @@ module _ (S : Scene) (log : List ℕ) (B : Lists) (Q : ℕ) where
                 (all-of (λ q. q .key < 6000) m blank (λ q h. let k = keyed q h in omega arith)) (omega (arith, most)) fits long);
           }
 
-      shown : {quads : ℕ} {links : List ℕ} → quads ≡ (updateMesh S log B Q) .answer .quads → links ≡ (updateMesh S log B Q) .lists .links
+      shown : {quads : ℕ} {links : List ℕ} → quads ≡ (updateMesh source S log B Q) .answer .quads → links ≡ (updateMesh source S log B Q) .lists .links
           → Shown quads moved links out
       shown {quads} {links} p q =
           let e : quads ≡ length m = p ∙ quads-are in
@@ -160,9 +160,9 @@ mesh-stops S log {a} {L} {o} told h = told ∙ go (o .answer .number) refl
     go (suc k) e = refl
 
 pub update-follows : (S : Scene) (log : List ℕ) {a : Answer} {L : Lists} {o x : Outcome} → outcome a L ≡ o → a .number ≡ 0
-    → x ≡ updateMesh S log L (a .quads) → x ≡ updateAfter S log o (o .answer .number)
+    → x ≡ updateMesh source S log L (a .quads) → x ≡ updateAfter S log o (o .answer .number)
 update-follows S log {a} {L} {o} told h e =
-    e ∙ (λ i. updateMesh S log (told i .lists) (told i .answer .quads))
+    e ∙ (λ i. updateMesh source S log (told i .lists) (told i .answer .quads))
     ∙ ap (updateAfter S log o) (sym (ap (λ (x : Outcome). x .answer .number) (sym told) ∙ h))
 
 module _ (file : List ℕ) (S : Scene) (outer : List ℕ) (B : Lists) (a : Answer) (L : Lists) (told : outcome a L ≡ workedOn file S outer B) where

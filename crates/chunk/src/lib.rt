@@ -25,6 +25,7 @@ ghost use Rattle.rules.specs.Cube.{floatsOf};
 ghost use Rattle.rules.specs.Calls.{generateVoxelMesh, meshGrid, updateMesh};
 ghost use Rattle.rules.specs.Program.{word, typeCount, sizeIn, colouredIn, shapeIn, sceneIn, gridIn, logIn, roomIn, buildFrom, worked, linesOf, builtLines, printed};
 ghost use Rattle.rules.specs.Mesh.{listsOf};
+ghost use Rattle.rules.specs.Update.{source};
 ghost use Rattle.exports.specs.Answers.{isYes, toldOf, mendedOf, cubeOut, outcome};
 ghost use Rattle.workfile.specs.Work.{Good};
 ghost use Rattle.lines.specs.Written.{Wrote};
@@ -32,6 +33,9 @@ ghost use Rattle.chunk.specs.Steps.{sceneWith, builtOf, workedOn, linesI
 
 // What the lines of 128 quads take at most.
 pub const ANSWER_BYTES: usize = 1_317;
+
+// The file has no place for the mode of its update.
+const SOURCE_MODE: u32 = 0;
 
 // A yes or no as the calls take it.
 fn flag(yes: bool) -> u32
@@ -209,7 +213,7 @@ fn update_lists(
 ) -> Mended
     requires { ⌜ Good (now file) ⌝ }
     ensures { λ r. ⌜ outcome (mendedOf r) (listsOf (now (vertices .exit)) (now (triangles .exit)) (now (links .exit)) (now (slots .exit)))
-        ≡ updateMesh (sceneWith (now (file .entry)) (now (kinds .entry)) (now (covers .entry)) (now (cubes .entry))) (logIn (now (file .entry)))
+        ≡ updateMesh source (sceneWith (now (file .entry)) (now (kinds .entry)) (now (covers .entry)) (now (cubes .entry))) (logIn (now (file .entry)))
         (listsOf (now (vertices .entry)) (now (triangles .entry)) (now (links .entry)) (now (slots .entry))) count ⌝ }
 {
     let work = read_work(file);
@@ -229,6 +233,7 @@ fn update_lists(
         dims.height,
         dims.length,
         log_of(file),
+        SOURCE_MODE,
         kinds,
         covers,
         cubes,

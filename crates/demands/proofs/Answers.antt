@@ -14,7 +14,7 @@ use borrow.Author.Tests.{eqb-false}
 use Rattle.rules.specs.Lists.{member}
 use Rattle.rules.specs.Cube.{Shape, floatsOf, cubeWords}
 use Rattle.rules.specs.Mesh.{Lists, layout}
-use Rattle.rules.specs.Update.{source, work, entryAt, needed, Course}
+use Rattle.rules.specs.Update.{Tested, work, entryAt, needed, Course}
 use Rattle.rules.specs.Answers as rules
 use Rattle.rules.specs.Answers.{fine, refuse}
 use Rattle.rules.specs.Calls.{CubeOutcome, cubeVerdict, cubeBy, Scene, world, span, faces, room, Outcome, freshMesh, meshVerdict, meshBy, updateVerdict, course, courseAnswer, updateBy, checkVerdict, checkBy}
@@ -127,47 +127,47 @@ what-a-mesh-call-says S outer grid culling entry r exit e =
 
 -- ---- an update
 
--- 01's course of the log, by the side that the source tests, laid out in the lent lists; `full` is the entry that found no room
-pub record Ran (S : Scene) (log : List ℕ) (entry : Lists) (Q : ℕ) (full : Option ℕ) (count : Count) (exit : Lists) : Type 0 where
+-- 01's course of the log, by the side tested, laid out in the lent lists; `full` is the entry that found no room
+pub record Ran (tested : Tested) (S : Scene) (log : List ℕ) (entry : Lists) (Q : ℕ) (full : Option ℕ) (count : Count) (exit : Lists) : Type 0 where
   pub accepted : updateVerdict S log entry Q ≡ fine
-  pub ended : (course source S log entry Q) .full ≡ full
-  pub quads : count .quads ≡ length ((course source S log entry Q) .quads)
-  pub moved : count .moved ≡ (course source S log entry Q) .moved
-  pub laid : let c = course source S log entry Q in exit ≡ layout (faces S) (span S) (c .highest) (c .quads) entry
+  pub ended : (course tested S log entry Q) .full ≡ full
+  pub quads : count .quads ≡ length ((course tested S log entry Q) .quads)
+  pub moved : count .moved ≡ (course tested S log entry Q) .moved
+  pub laid : let c = course tested S log entry Q in exit ≡ layout (faces S) (span S) (c .highest) (c .quads) entry
 
 -- out of room at entry k: the call for the entries before it alone, k of them, answers Done with the same count and the same lists
-pub record Stopped (S : Scene) (log : List ℕ) (entry : Lists) (Q k : ℕ) (count : Count) (exit : Lists) : Type 0 where
-  pub ran : Ran S log entry Q (some k) count exit
+pub record Stopped (tested : Tested) (S : Scene) (log : List ℕ) (entry : Lists) (Q k : ℕ) (count : Count) (exit : Lists) : Type 0 where
+  pub ran : Ran tested S log entry Q (some k) count exit
   pub inLog : k < length log / 12
-  pub noRoom : room S entry < needed (work source (world S) (entryAt log k)) ((course source S log entry Q) .quads)
-  pub before : Updates S (take (12 * k) log) entry Q (updated.Done count) exit
+  pub noRoom : room S entry < needed (work tested (world S) (entryAt log k)) ((course tested S log entry Q) .quads)
+  pub before : Updates tested S (take (12 * k) log) entry Q (updated.Done count) exit
 
 -- a refusal counts nothing and changes nothing; NO_ROOM alone, 14, tells what the entries before it did, and keeps them
-pub record Turned (S : Scene) (log : List ℕ) (entry : Lists) (Q number place : ℕ) (count : Count) (exit : Lists) : Type 0 where
+pub record Turned (tested : Tested) (S : Scene) (log : List ℕ) (entry : Lists) (Q number place : ℕ) (count : Count) (exit : Lists) : Type 0 where
   pub refused : number ≢ 14 → Refuses UPDATE (updateVerdict S log entry Q) number place entry exit
   pub uncounted : number ≢ 14 → count ≡ record { quads = 0; moved = 0 }
-  pub stopped : number ≡ 14 → Stopped S log entry Q place count exit
+  pub stopped : number ≡ 14 → Stopped tested S log entry Q place count exit
 
-abbrev pub UpdateSays : Scene → List ℕ → Lists → ℕ → Updated → Lists → Type 0
-UpdateSays S log entry Q (updated.Done count) exit = Ran S log entry Q none count exit
-UpdateSays S log entry Q (updated.Refused why place count) exit = Turned S log entry Q (numberOf why) place count exit
+abbrev pub UpdateSays : Tested → Scene → List ℕ → Lists → ℕ → Updated → Lists → Type 0
+UpdateSays tested S log entry Q (updated.Done count) exit = Ran tested S log entry Q none count exit
+UpdateSays tested S log entry Q (updated.Refused why place count) exit = Turned tested S log entry Q (numberOf why) place count exit
 
-pub what-an-update-call-says : (S : Scene) (log : List ℕ) (entry : Lists) (Q : ℕ) (r : Updated) (exit : Lists)
-    → Updates S log entry Q r exit → UpdateSays S log entry Q r exit
-what-an-update-call-says S log entry Q r exit e =
+pub what-an-update-call-says : (tested : Tested) (S : Scene) (log : List ℕ) (entry : Lists) (Q : ℕ) (r : Updated) (exit : Lists)
+    → Updates tested S log entry Q r exit → UpdateSays tested S log entry Q r exit
+what-an-update-call-says tested S log entry Q r exit e =
     go r (updateVerdict S log entry Q) refl (update-numbers S log entry Q) e
   where
     c : Course
-    c = course source S log entry Q
+    c = course tested S log entry Q
 
     ran : (count : Count) (full : Option ℕ) → updateVerdict S log entry Q ≡ fine → c .full ≡ full
         → count .quads ≡ length (c .quads) → count .moved ≡ c .moved
-        → exit ≡ layout (faces S) (span S) (c .highest) (c .quads) entry → Ran S log entry Q full count exit
+        → exit ≡ layout (faces S) (span S) (c .highest) (c .quads) entry → Ran tested S log entry Q full count exit
     ran count full a f q m l = record { accepted = a; ended = f; quads = q; moved = m; laid = l }
 
     through : (r : Updated) → updateVerdict S log entry Q ≡ fine → (full : Option ℕ) → c .full ≡ full
         → outcomeOf r exit ≡ record { answer = courseAnswer c full; lists = layout (faces S) (span S) (c .highest) (c .quads) entry }
-        → UpdateSays S log entry Q r exit
+        → UpdateSays tested S log entry Q r exit
     through (updated.Done count) t none f e =
         ran count none t f (ap (λ (o : Outcome). o .answer .quads) e) (ap (λ (o : Outcome). o .answer .moved) e) (ap (λ (o : Outcome). o .lists) e)
     through (updated.Refused why place count) t none f e = absurd (not-zero why (ap (λ (o : Outcome). o .answer .number) e))
@@ -181,15 +181,15 @@ what-an-update-call-says S log entry Q r exit e =
           stopped = λ _. record {
             ran = ran count (some k) t p (ap (λ (o : Outcome). o .answer .quads) e) (ap (λ (o : Outcome). o .answer .moved) e)
                 (ap (λ (o : Outcome). o .lists) e);
-            inLog = in-log source S log entry Q k t p;
-            noRoom = no-room-there source S log entry Q k t p;
+            inLog = in-log tested S log entry Q k t p;
+            noRoom = no-room-there tested S log entry Q k t p;
             before = (λ i. record { answer = record { number = 0; place = 0; quads = e i .answer .quads; moved = e i .answer .moved }; lists = e i .lists })
-                ∙ sym (done-before source S log entry Q k t p);
+                ∙ sym (done-before tested S log entry Q k t p);
           };
         }
 
     go : (r : Updated) (v : rules.Verdict) → updateVerdict S log entry Q ≡ v → Within UPDATE v
-        → outcomeOf r exit ≡ updateBy v S c entry → UpdateSays S log entry Q r exit
+        → outcomeOf r exit ≡ updateBy v S c entry → UpdateSays tested S log entry Q r exit
     go r fine t w e = through r t (c .full) refl e
     go (updated.Done count) (refuse n p) t w e = unlisted refl w (ap (λ (o : Outcome). o .answer .number) e)
     go (updated.Refused why place count) (refuse n p) t w e =
@@ -227,16 +227,16 @@ pub a-refused-mesh-changes-nothing : (S : Scene) (outer grid : List ℕ) (cullin
 a-refused-mesh-changes-nothing S outer grid culling entry why place exit e =
     what-a-mesh-call-says S outer grid culling entry (meshed.Refused why place) exit e .kept
 
-pub a-refused-update-changes-nothing : (S : Scene) (log : List ℕ) (entry : Lists) (Q : ℕ) (why : Refusal) (place : ℕ) (count : Count)
-    (exit : Lists) → numberOf why ≢ 14 → Updates S log entry Q (updated.Refused why place count) exit → exit ≡ entry
-a-refused-update-changes-nothing S log entry Q why place count exit d e =
-    what-an-update-call-says S log entry Q (updated.Refused why place count) exit e .refused d .kept
+pub a-refused-update-changes-nothing : (tested : Tested) (S : Scene) (log : List ℕ) (entry : Lists) (Q : ℕ) (why : Refusal) (place : ℕ) (count : Count)
+    (exit : Lists) → numberOf why ≢ 14 → Updates tested S log entry Q (updated.Refused why place count) exit → exit ≡ entry
+a-refused-update-changes-nothing tested S log entry Q why place count exit d e =
+    what-an-update-call-says tested S log entry Q (updated.Refused why place count) exit e .refused d .kept
 
 -- the one exception
-pub out-of-room-keeps-the-entries-before : (S : Scene) (log : List ℕ) (entry : Lists) (Q k : ℕ) (count : Count) (exit : Lists)
-    → Updates S log entry Q (updated.Refused NoRoom k count) exit → Updates S (take (12 * k) log) entry Q (updated.Done count) exit
-out-of-room-keeps-the-entries-before S log entry Q k count exit e =
-    what-an-update-call-says S log entry Q (updated.Refused NoRoom k count) exit e .stopped refl .before
+pub out-of-room-keeps-the-entries-before : (tested : Tested) (S : Scene) (log : List ℕ) (entry : Lists) (Q k : ℕ) (count : Count) (exit : Lists)
+    → Updates tested S log entry Q (updated.Refused NoRoom k count) exit → Updates tested S (take (12 * k) log) entry Q (updated.Done count) exit
+out-of-room-keeps-the-entries-before tested S log entry Q k count exit e =
+    what-an-update-call-says tested S log entry Q (updated.Refused NoRoom k count) exit e .stopped refl .before
 
 -- ---- and nothing is refused without cause
 
@@ -249,9 +249,9 @@ made-if-nothing-refuses S outer grid culling entry (meshed.Refused why place) ex
     fine-not-refused (sym v ∙ what-a-mesh-call-says S outer grid culling entry (meshed.Refused why place) exit e .told)
 
 -- an update of a log that is accepted is done, unless an entry finds no room
-pub done-if-nothing-refuses : (S : Scene) (log : List ℕ) (entry : Lists) (Q : ℕ) (r : Updated) (exit : Lists)
-    → updateVerdict S log entry Q ≡ fine → (course source S log entry Q) .full ≡ none → Updates S log entry Q r exit
+pub done-if-nothing-refuses : (tested : Tested) (S : Scene) (log : List ℕ) (entry : Lists) (Q : ℕ) (r : Updated) (exit : Lists)
+    → updateVerdict S log entry Q ≡ fine → (course tested S log entry Q) .full ≡ none → Updates tested S log entry Q r exit
     → (count : Count) × (r ≡ updated.Done count)
-done-if-nothing-refuses S log entry Q (updated.Done count) exit v f e = (count, refl)
-done-if-nothing-refuses S log entry Q (updated.Refused why place count) exit v f e =
+done-if-nothing-refuses tested S log entry Q (updated.Done count) exit v f e = (count, refl)
+done-if-nothing-refuses tested S log entry Q (updated.Refused why place count) exit v f e =
     absurd (not-zero why (ap (λ (o : Outcome). o .answer .number) e ∙ rw (v, f)))

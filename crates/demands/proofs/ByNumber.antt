@@ -5,17 +5,19 @@ use mathlib.Core.Logic.{_≢_, _↔_}
 use mathlib.Core.Bool.{Bool, true}
 use mathlib.Core.List.{List, []}
 use lib.ListN.{take}
+use borrow.Author.Tests.{ne-eqb}
 use Rattle.rules.specs.Cube.{Shape}
 use Rattle.rules.specs.Mesh.{Lists}
-use Rattle.rules.specs.Update.{source}
+use Rattle.rules.specs.Update.{AddsAlike}
 use Rattle.rules.specs.Answers.{fine}
 use Rattle.rules.specs.Check.{Right}
-use Rattle.rules.specs.Calls.{Answer, CubeOutcome, generateVoxelMesh, Outcome, Scene, answered, world, span, openVerdict, meshGrid, updateMesh, checkVerdict, checkMesh}
+use Rattle.rules.specs.Calls.{Answer, CubeOutcome, generateVoxelMesh, Outcome, Scene, answered, world, span, entriesOf, openVerdict, meshGrid, updateMesh, checkVerdict, checkMesh}
 use Rattle.rules.proofs.Refusals.{CHECK, check-numbers, zero-fine, cube-refused, mesh-refused, update-refused}
+use Rattle.rules.proofs.Modes.{itself-alike}
 use Rattle.rules.proofs.Demands.{accepts-exactly, fresh-accepted, mended-accepted}
 use Rattle.answers.specs.declared.Verdict.the-variants.{Fine}
-use Rattle.exports.specs.Answers.{answer, cubeOut, outcome}
-use Rattle.demands.specs.Chunks.{gridAfter, MendableLog}
+use Rattle.exports.specs.Answers.{testedFrom, answer, cubeOut, outcome}
+use Rattle.demands.specs.Chunks.{gridAfter, FillingLog, MendableLog}
 use Rattle.demands.proofs.Answers.{out-of-room-keeps-the-entries-before}
 use Rattle.demands.proofs.Exact.{the-check-is-exact}
 
@@ -26,8 +28,9 @@ TellsCube shape room a exit = cubeOut a exit ≡ generateVoxelMesh shape room
 abbrev pub TellsMesh : Scene → List ℕ → List ℕ → Bool → Lists → Answer → Lists → Type 0
 TellsMesh S outer grid culling B a exit = outcome a exit ≡ meshGrid S outer grid culling B
 
-abbrev pub TellsUpdate : Scene → List ℕ → Lists → ℕ → Answer → Lists → Type 0
-TellsUpdate S log B Q a exit = outcome a exit ≡ updateMesh S log B Q
+-- the mode by its number: 0 the source's, else the new one
+abbrev pub TellsUpdate : ℕ → Scene → List ℕ → Lists → ℕ → Answer → Lists → Type 0
+TellsUpdate tested S log B Q a exit = outcome a exit ≡ updateMesh (testedFrom tested) S log B Q
 
 abbrev pub TellsCheck : Scene → List ℕ → List ℕ → Lists → ℕ → ℕ → ℕ → Type 0
 TellsCheck S outer grid B Q number place = answer number place 0 0 ≡ checkMesh S outer grid B Q
@@ -43,9 +46,9 @@ pub one-c-mesh : (S : Scene) (outer grid : List ℕ) (culling : Bool) (B : Lists
     → TellsMesh S outer grid culling B a x → TellsMesh S outer grid culling B b y → (a ≡ b) × (x ≡ y)
 one-c-mesh S outer grid culling B a b x y p q = one-told a b x y (p ∙ sym q)
 
-pub one-c-update : (S : Scene) (log : List ℕ) (B : Lists) (Q : ℕ) (a b : Answer) (x y : Lists)
-    → TellsUpdate S log B Q a x → TellsUpdate S log B Q b y → (a ≡ b) × (x ≡ y)
-one-c-update S log B Q a b x y p q = one-told a b x y (p ∙ sym q)
+pub one-c-update : (tested : ℕ) (S : Scene) (log : List ℕ) (B : Lists) (Q : ℕ) (a b : Answer) (x y : Lists)
+    → TellsUpdate tested S log B Q a x → TellsUpdate tested S log B Q b y → (a ≡ b) × (x ≡ y)
+one-c-update tested S log B Q a b x y p q = one-told a b x y (p ∙ sym q)
 
 pub one-c-check : (S : Scene) (outer grid : List ℕ) (B : Lists) (Q m n i j : ℕ) → TellsCheck S outer grid B Q m i → TellsCheck S outer grid B Q n j
     → (m ≡ n) × (i ≡ j)
@@ -61,17 +64,17 @@ pub a-refused-c-mesh-changes-nothing : (S : Scene) (outer grid : List ℕ) (cull
 a-refused-c-mesh-changes-nothing S outer grid culling B a exit d e =
     ap (λ (o : Outcome). o .lists) e ∙ mesh-refused S outer grid culling B (subst (λ (o : Outcome). o .answer .number ≢ 0) e d)
 
-pub a-refused-c-update-changes-nothing : (S : Scene) (log : List ℕ) (B : Lists) (Q : ℕ) (a : Answer) (exit : Lists) → a .number ≢ 0
-    → a .number ≢ 14 → TellsUpdate S log B Q a exit → exit ≡ B
-a-refused-c-update-changes-nothing S log B Q a exit d f e =
+pub a-refused-c-update-changes-nothing : (tested : ℕ) (S : Scene) (log : List ℕ) (B : Lists) (Q : ℕ) (a : Answer) (exit : Lists) → a .number ≢ 0
+    → a .number ≢ 14 → TellsUpdate tested S log B Q a exit → exit ≡ B
+a-refused-c-update-changes-nothing tested S log B Q a exit d f e =
     ap (λ (o : Outcome). o .lists) e
-    ∙ update-refused source S log B Q (subst (λ (o : Outcome). o .answer .number ≢ 0) e d) (subst (λ (o : Outcome). o .answer .number ≢ 14) e f)
+    ∙ update-refused (testedFrom tested) S log B Q (subst (λ (o : Outcome). o .answer .number ≢ 0) e d) (subst (λ (o : Outcome). o .answer .number ≢ 14) e f)
 
 -- the one exception: what is left is what the call for the entries before it leaves
-pub out-of-room-c-keeps-the-entries-before : (S : Scene) (log : List ℕ) (B : Lists) (Q : ℕ) (a : Answer) (exit : Lists) → a .number ≡ 14
-    → TellsUpdate S log B Q a exit → TellsUpdate S (take (12 * a .place) log) B Q (answer 0 0 (a .quads) (a .moved)) exit
-out-of-room-c-keeps-the-entries-before S log B Q a exit z e =
-    out-of-room-keeps-the-entries-before S log B Q (a .place) (record { quads = a .quads; moved = a .moved }) exit
+pub out-of-room-c-keeps-the-entries-before : (tested : ℕ) (S : Scene) (log : List ℕ) (B : Lists) (Q : ℕ) (a : Answer) (exit : Lists) → a .number ≡ 14
+    → TellsUpdate tested S log B Q a exit → TellsUpdate tested S (take (12 * a .place) log) B Q (answer 0 0 (a .quads) (a .moved)) exit
+out-of-room-c-keeps-the-entries-before tested S log B Q a exit z e =
+    out-of-room-keeps-the-entries-before (testedFrom tested) S log B Q (a .place) (record { quads = a .quads; moved = a .moved }) exit
     ((λ i. outcome (answer (sym z i) (a .place) (a .quads) (a .moved)) exit) ∙ e)
 
 pub the-c-check-is-exact : (S : Scene) (outer grid : List ℕ) (B : Lists) (Q number place : ℕ) → TellsCheck S outer grid B Q number place
@@ -89,11 +92,23 @@ a-fresh-c-mesh-passes S outer grid B a exit number place z e c =
     (fresh-accepted S outer grid B (sym (ap (λ (o : Outcome). o .answer .number) e) ∙ z)) in
     ap (λ (x : Answer). x .number) (c ∙ passes)
 
-pub a-mended-c-mesh-passes : (S : Scene) (log grid : List ℕ) (B : Lists) (Q before : ℕ) (a : Answer) (exit : Lists) (number place : ℕ)
-    → TellsCheck S [] grid B Q 0 before → MendableLog S grid log → a .number ≡ 0 → TellsUpdate S log B Q a exit
-    → TellsCheck S [] (gridAfter S log grid) exit (a .quads) number place → number ≡ 0
-a-mended-c-mesh-passes S log grid B Q before a exit number place p h z e c =
+c-mended : (tested : ℕ) (S : Scene) (log grid : List ℕ) (B : Lists) (Q before : ℕ) (a : Answer) (exit : Lists) (number place : ℕ)
+    → TellsCheck S [] grid B Q 0 before → FillingLog S grid log → AddsAlike (testedFrom tested) (world S) (entriesOf log)
+    → a .number ≡ 0 → TellsUpdate tested S log B Q a exit → TellsCheck S [] (gridAfter S log grid) exit (a .quads) number place → number ≡ 0
+c-mended tested S log grid B Q before a exit number place p h alike z e c =
     let passes = subst (λ (o : Outcome). checkMesh S [] (gridAfter S log grid) (o .lists) (o .answer .quads) ≡ answered 0 0) (sym e)
-    (mended-accepted source S grid log B Q (sym (ap (λ (x : Answer). x .number) p)) (h .honest) (h .mends)
+    (mended-accepted (testedFrom tested) S grid log B Q (sym (ap (λ (x : Answer). x .number) p)) (h .honest) (h .mends) alike
     (sym (ap (λ (o : Outcome). o .answer .number) e) ∙ z)) in
     ap (λ (x : Answer). x .number) (c ∙ passes)
+
+pub a-mended-c-mesh-passes : (S : Scene) (log grid : List ℕ) (B : Lists) (Q before : ℕ) (a : Answer) (exit : Lists) (number place : ℕ)
+    → TellsCheck S [] grid B Q 0 before → MendableLog S grid log → a .number ≡ 0 → TellsUpdate 0 S log B Q a exit
+    → TellsCheck S [] (gridAfter S log grid) exit (a .quads) number place → number ≡ 0
+a-mended-c-mesh-passes S log grid B Q before a exit number place p h =
+    c-mended 0 S log grid B Q before a exit number place p (h .filling) (h .alike)
+
+pub a-c-mesh-mended-with-slabs-passes : (tested : ℕ) (S : Scene) (log grid : List ℕ) (B : Lists) (Q before : ℕ) (a : Answer) (exit : Lists)
+    (number place : ℕ) → tested ≢ 0 → TellsCheck S [] grid B Q 0 before → FillingLog S grid log → a .number ≡ 0 → TellsUpdate tested S log B Q a exit
+    → TellsCheck S [] (gridAfter S log grid) exit (a .quads) number place → number ≡ 0
+a-c-mesh-mended-with-slabs-passes tested S log grid B Q before a exit number place d p h =
+    c-mended tested S log grid B Q before a exit number place p h (rw (ne-eqb tested 0 d) (itself-alike (world S) (entriesOf log)))

@@ -6,24 +6,27 @@ use mathlib.Core.List.{List, []}
 use lib.Dec.{eqb}
 use borrow.Author.Tests.{eqb-true}
 use Rattle.rules.specs.Mesh.{Lists}
+use Rattle.rules.specs.Update.{Tested, AddsAlike}
 use Rattle.rules.specs.Answers.{Verdict, fine, refuse, _then_}
-use Rattle.rules.specs.Calls.{Outcome, Scene, meshVerdict, updateMesh, checkVerdict}
+use Rattle.rules.specs.Calls.{Outcome, Scene, world, entriesOf, meshVerdict, updateMesh, checkVerdict}
 use Rattle.answers.specs.declared.Refusal.{Refusal}
 use Rattle.answers.specs.Verdicts.{numberOf}
 use Rattle.meshem.specs.declared.Meshed.{Meshed}
 use Rattle.meshem.specs.declared.Meshed.the-variants as meshed
 use Rattle.meshem.specs.Outcome as mesh
+use Rattle.sides.specs.declared.Tested as code
+use Rattle.sides.specs.Tests.{testedBy}
 use Rattle.mending.specs.declared.Count.{Count}
 use Rattle.update.specs.declared.Updated.{Updated}
 use Rattle.update.specs.declared.Updated.the-variants as updated
 use Rattle.update.specs.Outcome.{answerOf, outcomeOf}
 use Rattle.demands.specs.Contracts.{Meshes, Updates}
-use Rattle.demands.specs.Chunks.{gridAfter, MendableLog}
+use Rattle.demands.specs.Chunks.{gridAfter, FillingLog, LogFor}
 use Rattle.demands.specs.Composed.{verdictBy, mendPromise, mendVerdict}
 use Rattle.demands.proofs.Telling.{numbered}
 use Rattle.demands.proofs.Answers.{what-a-mesh-call-says}
 use Rattle.demands.proofs.Fresh.{fresh-is-fine}
-use Rattle.demands.proofs.Mending.{still-fine}
+use Rattle.demands.proofs.Mending.{still-fine, asked}
 
 -- an answer by the name that a `match` found it to have
 pub meshes : {o : Outcome} {exit : Lists} {a b : Meshed} → a ≡ b → mesh.outcome a exit ≡ o → mesh.outcome b exit ≡ o
@@ -44,29 +47,30 @@ pub not-made : (S : Scene) (outer grid : List ℕ) (B exit : Lists) (why : Refus
 not-made S outer grid B exit why place e = sym (what-a-mesh-call-says S outer grid true B (meshed.Refused why place) exit e .told)
 
 -- ---- a mesh mended and checked
-module _ (S : Scene) (grid log left : List ℕ) (B : Lists) (Q : ℕ) where
+module _ (tested : Tested) (S : Scene) (grid log left : List ℕ) (B : Lists) (Q : ℕ) where
   abbrev chain : Verdict → Outcome → Verdict
   chain v u = v then verdictBy (u .answer) then checkVerdict S [] left (u .lists) (u .answer .quads)
 
-  pub mended : (exit : Lists) (count : Count) {v : Verdict} → checkVerdict S [] grid B Q ≡ fine → Updates S log B Q (updated.Done count) exit
-      → v ≡ checkVerdict S [] left exit (count .quads) → v ≡ mendVerdict S grid log left B Q
+  pub mended : (exit : Lists) (count : Count) {v : Verdict} → checkVerdict S [] grid B Q ≡ fine → Updates tested S log B Q (updated.Done count) exit
+      → v ≡ checkVerdict S [] left exit (count .quads) → v ≡ mendVerdict tested S grid log left B Q
   unfolding _then_
   mended exit count p e c = c ∙ (λ i. chain (sym p i) (e i))
 
   pub refused : (exit : Lists) (why : Refusal) (place : ℕ) (count : Count) → checkVerdict S [] grid B Q ≡ fine
-      → Updates S log B Q (updated.Refused why place count) exit → refuse (numberOf why) place ≡ mendVerdict S grid log left B Q
+      → Updates tested S log B Q (updated.Refused why place count) exit → refuse (numberOf why) place ≡ mendVerdict tested S grid log left B Q
   unfolding _then_
   refused exit why place count p e =
       let n : refuse (numberOf why) place ≡ verdictBy (answerOf (updated.Refused why place count)) = rw (numbered why .1) in
       ap (λ (v : Verdict). v then checkVerdict S [] left exit (count .quads)) n ∙ (λ i. chain (sym p i) (e i))
 
   -- LAW: after a log of demand 3 the second check refuses nothing
-  pub second-check-idle : MendableLog S grid log → left ≡ gridAfter S log grid → mendVerdict S grid log left B Q ≡ mendPromise S grid log B Q
+  pub second-check-idle : FillingLog S grid log → AddsAlike tested (world S) (entriesOf log) → left ≡ gridAfter S log grid
+      → mendVerdict tested S grid log left B Q ≡ mendPromise tested S grid log B Q
   unfolding _then_
-  second-check-idle h l = first (checkVerdict S [] grid B Q) refl
+  second-check-idle h al l = first (checkVerdict S [] grid B Q) refl
     where
       u : Outcome
-      u = updateMesh S log B Q
+      u = updateMesh tested S log B Q
 
       again : Verdict
       again = checkVerdict S [] left (u .lists) (u .answer .quads)
@@ -75,7 +79,7 @@ module _ (S : Scene) (grid log left : List ℕ) (B : Lists) (Q : ℕ) where
           → (cond b fine (refuse (u .answer .number) (u .answer .place)) then again) ≡ cond b fine (refuse (u .answer .number) (u .answer .place))
       second true t p =
           ap (λ (g : List ℕ). checkVerdict S [] g (u .lists) (u .answer .quads)) l
-          ∙ sym (still-fine S log grid B Q (sym p) h (eqb-true (u .answer .number) 0 t))
+          ∙ sym (still-fine tested S log grid B Q (sym p) h al (eqb-true (u .answer .number) 0 t))
       second false t p = refl
 
       first : (v : Verdict) → checkVerdict S [] grid B Q ≡ v
@@ -83,6 +87,8 @@ module _ (S : Scene) (grid log left : List ℕ) (B : Lists) (Q : ℕ) where
       first fine p = second (eqb (u .answer .number) 0) refl p
       first (refuse n k) p = refl
 
-  pub promised : {v : Verdict} → v ≡ mendVerdict S grid log left B Q
-      → (v ≡ mendVerdict S grid log left B Q) × (MendableLog S grid log → left ≡ gridAfter S log grid → v ≡ mendPromise S grid log B Q)
-  promised e = (e, λ h l. e ∙ second-check-idle h l)
+pub promised : (mode : code.Tested) (S : Scene) (grid log left : List ℕ) (B : Lists) (Q : ℕ) {v : Verdict} → v ≡ mendVerdict (testedBy mode) S grid log left B Q
+    → (v ≡ mendVerdict (testedBy mode) S grid log left B Q)
+    × (LogFor mode S grid log → left ≡ gridAfter S log grid → v ≡ mendPromise (testedBy mode) S grid log B Q)
+promised mode S grid log left B Q e =
+    (e, λ h l. let a = asked mode S grid log h in e ∙ second-check-idle (testedBy mode) S grid log left B Q (a .0) (a .1) l)

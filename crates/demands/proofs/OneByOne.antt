@@ -11,26 +11,28 @@ use lib.Seq.{getD-drop, drop-drop, length-take-le}
 use borrow.Author.Tests.{eqb-true}
 use Rattle.rules.specs.Lists.{each}
 use Rattle.rules.specs.Mesh.{Lists}
-use Rattle.rules.specs.Update.{Entry, entryAt, source, gridLog, Honest, Mends, gridAfter as gridStep}
+use Rattle.rules.specs.Update.{Entry, entryAt, Tested, gridLog, Honest, Mends, AddsAlike, gridAfter as gridStep}
 use Rattle.rules.specs.Answers.{Verdict, fine, refuse, _then_}
 use Rattle.rules.specs.Calls.{Outcome, Scene, world, entriesOf, meshVerdict, updateMesh}
 use Rattle.rules.proofs.ListLaws.{split}
 use Rattle.answers.specs.declared.Refusal.{Refusal}
 use Rattle.answers.specs.Verdicts.{numberOf}
 use Rattle.meshem.specs.declared.Meshed.the-variants as meshed
+use Rattle.sides.specs.declared.Tested as code
+use Rattle.sides.specs.Tests.{testedBy}
 use Rattle.mending.specs.declared.Count.{Count}
 use Rattle.update.specs.declared.Updated.the-variants.{Done, Refused}
 use Rattle.update.specs.Outcome.{outcomeOf}
 use Rattle.answers.specs.declared.Verdict.the-variants.{Fine}
 use Rattle.demands.specs.declared.one_by_one.Went.{Went}
 use Rattle.demands.specs.Contracts.{Meshes, Updates, Checks}
-use Rattle.demands.specs.Chunks.{gridAfter, MendableLog}
+use Rattle.demands.specs.Chunks.{gridAfter, LogFor}
 use Rattle.demands.specs.OneByOne.{Course, through, halted, wentOf, onward, entryLog, calls, verdictOn, checkedOn, chain, chainPromise, chainVerdict}
 use Rattle.demands.proofs.Telling.{numbered}
 use Rattle.demands.proofs.Stopped.{entry-stays}
 use Rattle.demands.proofs.Answers.{what-a-mesh-call-says}
 use Rattle.demands.proofs.Fresh.{fresh-is-fine}
-use Rattle.demands.proofs.Mending.{still-fine}
+use Rattle.demands.proofs.Mending.{still-fine, asked}
 
 -- an answer by the name that a `match` found it to have
 pub went : (exit : Lists) {k : Course} {a b : Went} → a ≡ b → wentOf a exit ≡ k → wentOf b exit ≡ k
@@ -44,26 +46,26 @@ pub record Kept (A B : Lists) : Type 0 where
   pub slots : length (B .slots) ≡ length (A .slots)
 
 -- k calls are done: what is left on what is there is the whole on what was there
-pub record Calling (S : Scene) (log : List ℕ) (n : ℕ) (B₀ : Lists) (Q₀ k : ℕ) (B : Lists) (Q : ℕ) : Type 0 where
+pub record Calling (tested : Tested) (S : Scene) (log : List ℕ) (n : ℕ) (B₀ : Lists) (Q₀ k : ℕ) (B : Lists) (Q : ℕ) : Type 0 where
   pub kept : Kept B₀ B
-  pub left : calls S log k (n - k) B Q ≡ calls S log 0 n B₀ Q₀
+  pub left : calls tested S log k (n - k) B Q ≡ calls tested S log 0 n B₀ Q₀
 
-module _ (S : Scene) (log : List ℕ) (n : ℕ) (B₀ : Lists) (Q₀ : ℕ) where
-  pub starts : Calling S log n B₀ Q₀ 0 B₀ Q₀
+module _ (tested : Tested) (S : Scene) (log : List ℕ) (n : ℕ) (B₀ : Lists) (Q₀ : ℕ) where
+  pub starts : Calling tested S log n B₀ Q₀ 0 B₀ Q₀
   starts = record { kept = record { vertices = refl; triangles = refl; links = refl; slots = refl }; left = rw sub-zero }
 
   abbrev rest : ℕ → Lists → ℕ → Course
-  rest k = calls S log (k + 1) (n - (k + 1))
+  rest k = calls tested S log (k + 1) (n - (k + 1))
 
-  one-call : (k : ℕ) (B : Lists) (Q : ℕ) → k < n → calls S log k (n - k) B Q ≡ onward (updateMesh S (entryLog log k) B Q) (rest k)
+  one-call : (k : ℕ) (B : Lists) (Q : ℕ) → k < n → calls tested S log k (n - k) B Q ≡ onward (updateMesh tested S (entryLog log k) B Q) (rest k)
   unfolding calls
   one-call k B Q h =
       let e : n - k ≡ suc (n - (k + 1)) = omega arith in
       let f : suc k ≡ k + 1 = omega arith in
-      rw e (ap (λ (j : ℕ). onward (updateMesh S (entryLog log k) B Q) (calls S log j (n - (k + 1)))) f)
+      rw e (ap (λ (j : ℕ). onward (updateMesh tested S (entryLog log k) B Q) (calls tested S log j (n - (k + 1)))) f)
 
-  pub goes-on : (k : ℕ) (B : Lists) (Q : ℕ) (exit : Lists) (count : Count) → k < n → Calling S log n B₀ Q₀ k B Q → Kept B exit
-      → Updates S (entryLog log k) B Q (Done count) exit → Calling S log n B₀ Q₀ (k + 1) exit (count .quads)
+  pub goes-on : (k : ℕ) (B : Lists) (Q : ℕ) (exit : Lists) (count : Count) → k < n → Calling tested S log n B₀ Q₀ k B Q → Kept B exit
+      → Updates tested S (entryLog log k) B Q (Done count) exit → Calling tested S log n B₀ Q₀ (k + 1) exit (count .quads)
   goes-on k B Q exit count h c s e =
       record {
         kept = record {
@@ -75,13 +77,13 @@ module _ (S : Scene) (log : List ℕ) (n : ℕ) (B₀ : Lists) (Q₀ : ℕ) wher
         left = (λ i. onward (e i) (rest k)) ∙ sym (one-call k B Q h) ∙ c .left;
       }
 
-  pub refuses : (k : ℕ) (B : Lists) (Q : ℕ) (exit : Lists) (why : Refusal) (place : ℕ) (count : Count) → k < n → Calling S log n B₀ Q₀ k B Q
-      → Updates S (entryLog log k) B Q (Refused why place count) exit → halted (numberOf why) place exit ≡ calls S log 0 n B₀ Q₀
+  pub refuses : (k : ℕ) (B : Lists) (Q : ℕ) (exit : Lists) (why : Refusal) (place : ℕ) (count : Count) → k < n → Calling tested S log n B₀ Q₀ k B Q
+      → Updates tested S (entryLog log k) B Q (Refused why place count) exit → halted (numberOf why) place exit ≡ calls tested S log 0 n B₀ Q₀
   refuses k B Q exit why place count h c e =
       let stop : halted (numberOf why) place exit ≡ onward (outcomeOf (Refused why place count) exit) (rest k) = rw (numbered why .1) in
       stop ∙ (λ i. onward (e i) (rest k)) ∙ sym (one-call k B Q h) ∙ c .left
 
-  pub ends : (k : ℕ) (B : Lists) (Q : ℕ) → n ≤ k → Calling S log n B₀ Q₀ k B Q → through B Q ≡ calls S log 0 n B₀ Q₀
+  pub ends : (k : ℕ) (B : Lists) (Q : ℕ) → n ≤ k → Calling tested S log n B₀ Q₀ k B Q → through B Q ≡ calls tested S log 0 n B₀ Q₀
   unfolding calls
   ends k B Q h c = let z : n - k ≡ 0 = omega arith in (rw z) ∙ c .left
 
@@ -117,20 +119,21 @@ abbrev pub PassesOn : Scene → List ℕ → Course → Type 0
 PassesOn S grid (through B Q) = Checks S [] grid B Q Fine
 PassesOn S grid (halted number place B) = Unit {0}
 
-calls-pass : (S : Scene) (log : List ℕ) (n i : ℕ) (grid : List ℕ) (B : Lists) (Q : ℕ) → i + n ≤ length log / 12 → Checks S [] grid B Q Fine
-    → Honest (world S) grid (each n i (λ j. entryAt log j ∷ [])) → Mends source (world S) grid (each n i (λ j. entryAt log j ∷ []))
-    → PassesOn S (gridLog (world S) (each n i (λ j. entryAt log j ∷ [])) grid) (calls S log i n B Q)
+calls-pass : (tested : Tested) (S : Scene) (log : List ℕ) (n i : ℕ) (grid : List ℕ) (B : Lists) (Q : ℕ) → i + n ≤ length log / 12 → Checks S [] grid B Q Fine
+    → Honest (world S) grid (each n i (λ j. entryAt log j ∷ [])) → Mends (world S) grid (each n i (λ j. entryAt log j ∷ []))
+    → AddsAlike tested (world S) (each n i (λ j. entryAt log j ∷ []))
+    → PassesOn S (gridLog (world S) (each n i (λ j. entryAt log j ∷ [])) grid) (calls tested S log i n B Q)
 unfolding each calls
-calls-pass S log zero i grid B Q h p ho me = p
-calls-pass S log (suc n) i grid B Q h p ho me =
+calls-pass tested S log zero i grid B Q h p ho me al = p
+calls-pass tested S log (suc n) i grid B Q h p ho me al =
     split (λ b. eqb (u .answer .number) 0 ≡ b
-    → PassesOn S last (cond b (calls S log (suc i) n (u .lists) (u .answer .quads)) (halted (u .answer .number) (u .answer .place) (u .lists))))
+    → PassesOn S last (cond b (calls tested S log (suc i) n (u .lists) (u .answer .quads)) (halted (u .answer .number) (u .answer .place) (u .lists))))
     (eqb (u .answer .number) 0)
-    (λ x t. calls-pass S log n (suc i) next (u .lists) (u .answer .quads) (omega arith) (mended t) (ho .2) (me .1))
+    (λ x t. calls-pass tested S log n (suc i) next (u .lists) (u .answer .quads) (omega arith) (mended t) (ho .2) (me .1) (al .1))
     (λ x t. tt) refl
   where
     u : Outcome
-    u = updateMesh S (entryLog log i) B Q
+    u = updateMesh tested S (entryLog log i) B Q
 
     next : List ℕ
     next = gridStep (world S) grid (entryAt log i)
@@ -144,20 +147,22 @@ calls-pass S log (suc n) i grid B Q h p ho me =
     mended : eqb (u .answer .number) 0 ≡ true → Checks S [] next (u .lists) (u .answer .quads) Fine
     mended t =
         subst (λ (g : List ℕ). Checks S [] g (u .lists) (u .answer .quads) Fine) (ap (λ (es : List Entry). gridLog (world S) es grid) alone)
-        (still-fine S (entryLog log i) grid B Q p
+        (still-fine tested S (entryLog log i) grid B Q p
         (record {
           honest = subst (Honest (world S) grid) (sym alone) (ho .0, ho .1, tt);
-          mends = subst (Mends source (world S) grid) (sym alone) (me .0, tt);
+          mends = subst (Mends (world S) grid) (sym alone) (me .0, tt);
         })
-        (eqb-true (u .answer .number) 0 t))
+        (subst (AddsAlike tested (world S)) (sym alone) (al .0, tt)) (eqb-true (u .answer .number) 0 t))
 
 -- LAW: after a call for each entry of a log of demand 3, each of them answered, the check says Fine for the grid that the log left
-pub one-by-one : (S : Scene) (log grid : List ℕ) (B : Lists) (Q : ℕ) → Checks S [] grid B Q Fine → MendableLog S grid log
-    → PassesOn S (gridAfter S log grid) (calls S log 0 (length log / 12) B Q)
-one-by-one S log grid B Q p h = calls-pass S log (length log / 12) 0 grid B Q (omega arith) p (h .honest) (h .mends)
+pub one-by-one : (mode : code.Tested) (S : Scene) (log grid : List ℕ) (B : Lists) (Q : ℕ) → Checks S [] grid B Q Fine → LogFor mode S grid log
+    → PassesOn S (gridAfter S log grid) (calls (testedBy mode) S log 0 (length log / 12) B Q)
+one-by-one mode S log grid B Q p h =
+    let a = asked mode S grid log h in
+    calls-pass (testedBy mode) S log (length log / 12) 0 grid B Q (omega arith) p (a .0 .honest) (a .0 .mends) (a .1)
 
 -- ---- a mesh made, mended by a call for each entry, and checked
-module _ (S : Scene) (grid log left : List ℕ) (B : Lists) where
+module _ (mode : code.Tested) (S : Scene) (grid log left : List ℕ) (B : Lists) where
   idle-on : (c : Course) → PassesOn S left c → checkedOn S left c ≡ verdictOn c
   idle-on (through C Q) p = sym p
   idle-on (halted number place C) p = refl
@@ -166,23 +171,23 @@ module _ (S : Scene) (grid log left : List ℕ) (B : Lists) where
   made-fine exit quads e = what-a-mesh-call-says S [] grid true B (meshed.Done quads) exit e .accepted
 
   pub chained : (exit : Lists) (quads : ℕ) {v : Verdict} → Meshes S [] grid true B (meshed.Done quads) exit
-      → v ≡ checkedOn S left (calls S log 0 (length log / 12) exit quads)
-      → (v ≡ chainVerdict S grid log left B) × (MendableLog S grid log → left ≡ gridAfter S log grid → v ≡ chainPromise S grid log B)
+      → v ≡ checkedOn S left (calls (testedBy mode) S log 0 (length log / 12) exit quads)
+      → (v ≡ chainVerdict (testedBy mode) S grid log left B) × (LogFor mode S grid log → left ≡ gridAfter S log grid → v ≡ chainPromise (testedBy mode) S grid log B)
   unfolding _then_
   chained exit quads e c =
-      let done : Outcome → Course = λ o. calls S log 0 (length log / 12) (o .lists) (o .answer .quads) in (
+      let done : Outcome → Course = λ o. calls (testedBy mode) S log 0 (length log / 12) (o .lists) (o .answer .quads) in (
         c ∙ (λ i. sym (made-fine exit quads e) i then checkedOn S left (done (e i))),
         λ h l. c
-            ∙ idle-on (calls S log 0 (length log / 12) exit quads)
-            (subst (λ (g : List ℕ). PassesOn S g (calls S log 0 (length log / 12) exit quads)) (sym l)
-            (one-by-one S log grid exit quads (fresh-is-fine S [] grid B exit quads e) h))
+            ∙ idle-on (calls (testedBy mode) S log 0 (length log / 12) exit quads)
+            (subst (λ (g : List ℕ). PassesOn S g (calls (testedBy mode) S log 0 (length log / 12) exit quads)) (sym l)
+            (one-by-one mode S log grid exit quads (fresh-is-fine S [] grid B exit quads e) h))
             ∙ (λ i. sym (made-fine exit quads e) i then verdictOn (done (e i))),
       )
 
   pub unmade : (exit : Lists) (why : Refusal) (place : ℕ) → Meshes S [] grid true B (meshed.Refused why place) exit
-      → (refuse (numberOf why) place ≡ chainVerdict S grid log left B)
-      × (MendableLog S grid log → left ≡ gridAfter S log grid → refuse (numberOf why) place ≡ chainPromise S grid log B)
+      → (refuse (numberOf why) place ≡ chainVerdict (testedBy mode) S grid log left B)
+      × (LogFor mode S grid log → left ≡ gridAfter S log grid → refuse (numberOf why) place ≡ chainPromise (testedBy mode) S grid log B)
   unfolding _then_
   unmade exit why place e =
       let t = sym (what-a-mesh-call-says S [] grid true B (meshed.Refused why place) exit e .told) in
-      (λ i. t i then checkedOn S left (chain S grid log B), λ h l. λ i. t i then verdictOn (chain S grid log B))
+      (λ i. t i then checkedOn S left (chain (testedBy mode) S grid log B), λ h l. λ i. t i then verdictOn (chain (testedBy mode) S grid log B))

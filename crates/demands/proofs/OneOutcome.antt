@@ -6,6 +6,7 @@ use mathlib.Core.Bool.{Bool}
 use mathlib.Core.List.{List}
 use Rattle.rules.specs.Cube.{Shape}
 use Rattle.rules.specs.Mesh.{Lists}
+use Rattle.rules.specs.Update.{Tested}
 use Rattle.rules.specs.Calls.{CubeOutcome, Outcome, Scene}
 use Rattle.answers.specs.declared.Verdict.{Verdict}
 use Rattle.voxel_mesh.specs.declared.Cubed.{Cubed}
@@ -23,9 +24,9 @@ pub one-mesh : (S : Scene) (outer grid : List ℕ) (culling : Bool) (B : Lists) 
 one-mesh S outer grid culling B a b x y p q =
     let e = p ∙ sym q in (sym (mesh-reads a x) ∙ ap readMesh e ∙ mesh-reads b y, ap (λ (o : Outcome). o .lists) e)
 
-pub one-update : (S : Scene) (log : List ℕ) (B : Lists) (Q : ℕ) (a b : Updated) (x y : Lists)
-    → Updates S log B Q a x → Updates S log B Q b y → (a ≡ b) × (x ≡ y)
-one-update S log B Q a b x y p q =
+pub one-update : (tested : Tested) (S : Scene) (log : List ℕ) (B : Lists) (Q : ℕ) (a b : Updated) (x y : Lists)
+    → Updates tested S log B Q a x → Updates tested S log B Q b y → (a ≡ b) × (x ≡ y)
+one-update tested S log B Q a b x y p q =
     let e = p ∙ sym q in (sym (update-reads a x) ∙ ap readUpdate e ∙ update-reads b y, ap (λ (o : Outcome). o .lists) e)
 
 pub one-check : (S : Scene) (outer grid : List ℕ) (B : Lists) (Q : ℕ) (a b : Verdict)

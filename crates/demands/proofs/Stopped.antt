@@ -14,8 +14,9 @@ use Rattle.rules.specs.Cells.{cells}
 use Rattle.rules.specs.Mesh.{Quad, Lists, layout, decode}
 use Rattle.rules.specs.Update.{Work, Course, Tested, u32At, entryAt, work, ops, run, moves, highest, needed, courseFrom}
 use Rattle.rules.specs.Answers.{fine, refuseLowest, BAD-SIZE, badNeighbour, badEntry, BAD-ENTRY}
-use Rattle.rules.specs.Calls.{Scene, answered, world, span, faces, room, typesVerdict, lentVerdict, updateVerdict, course, updateBy, updateMeshBy}
+use Rattle.rules.specs.Calls.{Scene, answered, world, span, faces, room, typesVerdict, lentVerdict, updateVerdict, course, updateBy, updateMesh}
 use Rattle.rules.proofs.Checking.{then-fine, fine-then, fine-if, lowest-fine, fine-lowest}
+use Rattle.rules.proofs.Courses.{course-alike}
 
 some-is : {a b : ℕ} → _≡_ {A = Option ℕ} (some a) (some b) → a ≡ b
 some-is e = cc
@@ -68,16 +69,6 @@ stops room work i (suc n) m v p k e =
           through = rw t refl;
           tight = rw (t, sym (some-is e)) (leb-false (needed (work i) m) room t);
         }
-
--- a course by works that are alike is the same
-course-alike : (room : ℕ) (a b : ℕ → Work) (i n : ℕ) (m : List Quad) (v p : ℕ) → ((j : ℕ) → j < i + n → a j ≡ b j)
-    → courseFrom room a i n m v p ≡ courseFrom room b i n m v p
-unfolding courseFrom
-course-alike room a b i zero m v p h = refl
-course-alike room a b i (suc n) m v p h =
-    let e = h i (omega arith) in
-    rw e (ap (λ (c : Course). cond (leb (needed (b i) m) room) c (record { full = some i; quads = m; moved = v; highest = p }))
-    (course-alike room a b (suc i) n (run (ops (b i)) m) (v + moves (ops (b i)) m) (highest p (ops (b i)) m) (λ j l. h j (omega arith))))
 
 -- ---- the first entries of a log
 module _ (k : ℕ) (first rest : List ℕ) (whole : length first ≡ 12 * k) where
@@ -166,7 +157,7 @@ module _ (tested : Tested) (S : Scene) (log : List ℕ) (B : Lists) (Q k : ℕ) 
 
   -- LAW: the call for the entries before it alone comes through, with the same quads, moves and lists
   pub done-before : let c = course tested S log B Q in
-      updateMeshBy tested S (take (12 * k) log) B Q
+      updateMesh tested S (take (12 * k) log) B Q
       ≡ record { answer = answered (length (c .quads)) (c .moved); lists = layout (faces S) (span S) (c .highest) (c .quads) B }
   done-before =
       let from = decode (span S) Q B in

@@ -2,9 +2,12 @@
 use Prim.Native.Nat.{ℕ, suc}
 use mathlib.Core.List.{List, []}
 use Rattle.rules.specs.Mesh.{Lists}
-use Rattle.rules.specs.Update.{source, gridLog, Honest, Mends}
+use Rattle.rules.specs.Update.{source, gridLog, Honest, Mends, AddsAlike}
 use Rattle.rules.specs.Calls.{Scene, world, entriesOf}
 use Rattle.answers.specs.declared.Verdict.the-variants.{Fine}
+use Rattle.sides.specs.declared.Tested.{Tested}
+use Rattle.sides.specs.declared.Tested.the-variants.{Opposite, Itself}
+use Rattle.sides.specs.Tests.{testedBy}
 use Rattle.mending.specs.declared.Count.{Count}
 use Rattle.update.specs.declared.Updated.the-variants.{Done}
 use Rattle.demands.specs.Contracts.{Updates, Checks}
@@ -23,16 +26,30 @@ Passes S k = Checks S [] (k .grid) (k .lists) (k .quads) Fine
 abbrev pub gridAfter : Scene → List ℕ → List ℕ → List ℕ
 gridAfter S log grid = gridLog (world S) (entriesOf log) grid
 
--- an honest log of Added and Broken alone whose Added put NormalCubes that cover opposite sides alike into cells that hold a Null covering nothing: demand 3's
-pub record MendableLog (S : Scene) (grid log : List ℕ) : Type 0 where
+-- an honest log of Added and Broken alone whose Added put NormalCubes into cells that hold a Null covering nothing: demand 3's in the new mode
+pub record FillingLog (S : Scene) (grid log : List ℕ) : Type 0 where
   pub honest : Honest (world S) grid (entriesOf log)
-  pub mends : Mends source (world S) grid (entriesOf log)
+  pub mends : Mends (world S) grid (entriesOf log)
+
+-- the NormalCubes that a log adds cover the opposite of each side as the side itself
+abbrev pub AlikeLog : Scene → List ℕ → Type 0
+AlikeLog S log = AddsAlike source (world S) (entriesOf log)
+
+-- demand 3's in the source's mode
+pub record MendableLog (S : Scene) (grid log : List ℕ) : Type 0 where
+  pub filling : FillingLog S grid log
+  pub alike : AlikeLog S log
+
+-- demand 3's, by the mode
+abbrev pub LogFor : Tested → Scene → List ℕ → List ℕ → Type 0
+LogFor Opposite = MendableLog
+LogFor Itself = FillingLog
 
 abbrev pub mendedTo : Scene → List ℕ → Chunk → Count → Lists → Chunk
 mendedTo S log k count exit = record { grid = gridAfter S log (k .grid); lists = exit; quads = count .quads }
 
--- n update calls lead from one chunk to another, each for such a log and each answered Done
-pub data Mended (S : Scene) (from : Chunk) : ℕ → Chunk → Type 0 where
-  untouched : Mended S from 0 from
-  oneMore : {n : ℕ} {k : Chunk} (log : List ℕ) (count : Count) (exit : Lists) → Mended S from n k → MendableLog S (k .grid) log
-      → Updates S log (k .lists) (k .quads) (Done count) exit → Mended S from (suc n) (mendedTo S log k count exit)
+-- n update calls in one mode lead from one chunk to another, each for such a log and each answered Done
+pub data Mended (mode : Tested) (S : Scene) (from : Chunk) : ℕ → Chunk → Type 0 where
+  untouched : Mended mode S from 0 from
+  oneMore : {n : ℕ} {k : Chunk} (log : List ℕ) (count : Count) (exit : Lists) → Mended mode S from n k → LogFor mode S (k .grid) log
+      → Updates (testedBy mode) S log (k .lists) (k .quads) (Done count) exit → Mended mode S from (suc n) (mendedTo S log k count exit)

@@ -5,6 +5,7 @@ use mathlib.Core.Bool.{Bool}
 use mathlib.Core.List.{List}
 use Rattle.rules.specs.Cube.{Shape}
 use Rattle.rules.specs.Mesh.{Lists}
+use Rattle.rules.specs.Update.{Tested}
 use Rattle.rules.specs.Calls.{Scene, generateVoxelMesh, meshGrid, updateMesh, checkVerdict}
 use Rattle.answers.specs.declared.Verdict.{Verdict}
 use Rattle.answers.specs.Verdicts.{verdictOf}
@@ -23,9 +24,9 @@ Cubes shape room r exit = cube.outcome r exit ≡ generateVoxelMesh shape room
 abbrev pub Meshes : Scene → List ℕ → List ℕ → Bool → Lists → Meshed → Lists → Type 0
 Meshes S outer grid culling B r exit = mesh.outcome r exit ≡ meshGrid S outer grid culling B
 
--- update_mesh answers r for a mesh of Q quads
-abbrev pub Updates : Scene → List ℕ → Lists → ℕ → Updated → Lists → Type 0
-Updates S log B Q r exit = outcomeOf r exit ≡ updateMesh S log B Q
+-- update_mesh answers r for a mesh of Q quads, by the side tested
+abbrev pub Updates : Tested → Scene → List ℕ → Lists → ℕ → Updated → Lists → Type 0
+Updates tested S log B Q r exit = outcomeOf r exit ≡ updateMesh tested S log B Q
 
 -- check_mesh answers r; it is lent nothing that it can change
 abbrev pub Checks : Scene → List ℕ → List ℕ → Lists → ℕ → Verdict → Type 0

@@ -6,6 +6,7 @@ use lib.Dec.{eqb}
 use lib.ListN.{length}
 use Rattle.rules.specs.Lists.{part}
 use Rattle.rules.specs.Mesh.{Lists}
+use Rattle.rules.specs.Update.{Tested}
 use Rattle.rules.specs.Answers.{Verdict, fine, refuse, _then_}
 use Rattle.rules.specs.Calls.{Outcome, Scene, meshVerdict, meshGrid, updateMesh, checkVerdict}
 use Rattle.answers.specs.Verdicts.{numberOf}
@@ -30,9 +31,9 @@ abbrev pub entryLog : List ℕ → ℕ → List ℕ
 entryLog log i = part (12 * i) 12 log
 
 -- a call for each of entries i, i + 1, .., n of them
-unfoldable pub calls : Scene → List ℕ → ℕ → ℕ → Lists → ℕ → Course
-calls S log i zero B Q = through B Q
-calls S log i (suc n) B Q = onward (updateMesh S (entryLog log i) B Q) (calls S log (suc i) n)
+unfoldable pub calls : Tested → Scene → List ℕ → ℕ → ℕ → Lists → ℕ → Course
+calls tested S log i zero B Q = through B Q
+calls tested S log i (suc n) B Q = onward (updateMesh tested S (entryLog log i) B Q) (calls tested S log (suc i) n)
 
 -- what refuses the calls, if anything does
 abbrev pub verdictOn : Course → Verdict
@@ -45,11 +46,11 @@ checkedOn S left (through B Q) = checkVerdict S [] left B Q
 checkedOn S left (halted number place B) = refuse number place
 
 -- a fresh mesh by Culling with no outer face named, then a call for each entry
-abbrev pub chain : Scene → List ℕ → List ℕ → Lists → Course
-chain S grid log B = let m = meshGrid S [] grid true B in calls S log 0 (length log / 12) (m .lists) (m .answer .quads)
+abbrev pub chain : Tested → Scene → List ℕ → List ℕ → Lists → Course
+chain tested S grid log B = let m = meshGrid S [] grid true B in calls tested S log 0 (length log / 12) (m .lists) (m .answer .quads)
 
-abbrev pub chainPromise : Scene → List ℕ → List ℕ → Lists → Verdict
-chainPromise S grid log B = meshVerdict S [] grid true B then verdictOn (chain S grid log B)
+abbrev pub chainPromise : Tested → Scene → List ℕ → List ℕ → Lists → Verdict
+chainPromise tested S grid log B = meshVerdict S [] grid true B then verdictOn (chain tested S grid log B)
 
-abbrev pub chainVerdict : Scene → List ℕ → List ℕ → List ℕ → Lists → Verdict
-chainVerdict S grid log left B = meshVerdict S [] grid true B then checkedOn S left (chain S grid log B)
+abbrev pub chainVerdict : Tested → Scene → List ℕ → List ℕ → List ℕ → Lists → Verdict
+chainVerdict tested S grid log left B = meshVerdict S [] grid true B then checkedOn S left (chain tested S grid log B)

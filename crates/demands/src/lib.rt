@@ -6,6 +6,7 @@ use checking::check_mesh;
 use meshem::Meshed;
 use meshem::MeshingAlgorithm;
 use meshem::mesh_grid;
+use sides::Tested;
 use update::Updated;
 use update::update_mesh;
 ghost use mathlib.Core.Path.{_≡_};
@@ -13,8 +14,9 @@ ghost use mathlib.Core.Bool.{true};
 ghost use Rattle.rules.specs.Calls.{meshVerdict};
 ghost use Rattle.answers.specs.Verdicts.{verdictOf};
 ghost use Rattle.admit.specs.Scenes.{sceneOf};
+ghost use Rattle.sides.specs.Tests.{testedBy};
 ghost use Rattle.rules.specs.Mesh.{listsOf};
-ghost use Rattle.demands.specs.Chunks.{MendableLog, gridAfter};
+ghost use Rattle.demands.specs.Chunks.{LogFor, gridAfter};
 ghost use Rattle.demands.specs.Composed.{mendVerdict, mendPromise};
 
 pub mod one_by_one; // one_by_one.rt: a call for each entry of a log
@@ -79,16 +81,17 @@ pub fn mend_and_check(
     covers: &[u8],
     cubes: &[u32],
     quads: usize,
+    tested: Tested,
     log: &[u8],
     left: &[u8],
 ) -> Verdict
-    ensures { λ r. ⌜ (verdictOf r ≡ mendVerdict (sceneOf scene (now (kinds .entry)) (now (covers .entry)) (now (cubes .entry)))
+    ensures { λ r. ⌜ (verdictOf r ≡ mendVerdict (testedBy tested) (sceneOf scene (now (kinds .entry)) (now (covers .entry)) (now (cubes .entry)))
         (now (grid .entry)) (now (log .entry)) (now (left .entry))
         (listsOf (now (vertices .entry)) (now (triangles .entry)) (now (links .entry)) (now (slots .entry))) quads)
-        × (MendableLog (sceneOf scene (now (kinds .entry)) (now (covers .entry)) (now (cubes .entry))) (now (grid .entry)) (now (log .entry))
+        × (LogFor tested (sceneOf scene (now (kinds .entry)) (now (covers .entry)) (now (cubes .entry))) (now (grid .entry)) (now (log .entry))
         → now (left .entry) ≡ gridAfter (sceneOf scene (now (kinds .entry)) (now (covers .entry)) (now (cubes .entry)))
         (now (log .entry)) (now (grid .entry))
-        → verdictOf r ≡ mendPromise (sceneOf scene (now (kinds .entry)) (now (covers .entry)) (now (cubes .entry)))
+        → verdictOf r ≡ mendPromise (testedBy tested) (sceneOf scene (now (kinds .entry)) (now (covers .entry)) (now (cubes .entry)))
         (now (grid .entry)) (now (log .entry))
         (listsOf (now (vertices .entry)) (now (triangles .entry)) (now (links .entry)) (now (slots .entry))) quads) ⌝ }
 {
@@ -118,6 +121,7 @@ pub fn mend_and_check(
         kinds,
         covers,
         cubes,
+        tested,
         log,
         quads,
     );

@@ -6,6 +6,7 @@ use checking::check_mesh;
 use meshem::Meshed;
 use meshem::MeshingAlgorithm;
 use meshem::mesh_grid;
+use sides::Tested;
 use update::Updated;
 use update::update_mesh;
 ghost use mathlib.Core.Path.{_≡_};
@@ -13,8 +14,9 @@ ghost use Prim.Native.Nat.{_/_};
 ghost use lib.ListN.{length};
 ghost use Rattle.answers.specs.Verdicts.{verdictOf};
 ghost use Rattle.admit.specs.Scenes.{sceneOf};
+ghost use Rattle.sides.specs.Tests.{testedBy};
 ghost use Rattle.rules.specs.Mesh.{listsOf};
-ghost use Rattle.demands.specs.Chunks.{MendableLog, gridAfter};
+ghost use Rattle.demands.specs.Chunks.{LogFor, gridAfter};
 ghost use Rattle.demands.specs.OneByOne.{wentOf, calls, checkedOn, chainVerdict, chainPromise};
 
 // How far the calls went: through them all, with so many quads, or to one that was refused.
@@ -33,11 +35,12 @@ fn mend_by_entries(
     kinds: &[u8],
     covers: &[u8],
     cubes: &[u32],
+    tested: Tested,
     log: &[u8],
     quads: usize,
 ) -> Went
     ensures { λ r. ⌜ wentOf r (listsOf (now (vertices .exit)) (now (triangles .exit)) (now (links .exit)) (now (slots .exit)))
-        ≡ calls (sceneOf scene (now (kinds .entry)) (now (covers .entry)) (now (cubes .entry)))
+        ≡ calls (testedBy tested) (sceneOf scene (now (kinds .entry)) (now (covers .entry)) (now (cubes .entry)))
         (now (log .entry)) 0 (length (now (log .entry)) / 12)
         (listsOf (now (vertices .entry)) (now (triangles .entry)) (now (links .entry)) (now (slots .entry))) quads ⌝ }
 {
@@ -56,6 +59,7 @@ fn mend_by_entries(
             kinds,
             covers,
             cubes,
+            tested,
             &log[at..end],
             left,
         );
@@ -82,12 +86,13 @@ fn mend_each_and_check(
     kinds: &[u8],
     covers: &[u8],
     cubes: &[u32],
+    tested: Tested,
     log: &[u8],
     left: &[u8],
     quads: usize,
 ) -> Verdict
     ensures { λ r. ⌜ verdictOf r ≡ checkedOn (sceneOf scene (now (kinds .entry)) (now (covers .entry)) (now (cubes .entry))) (now (left .entry))
-        (calls (sceneOf scene (now (kinds .entry)) (now (covers .entry)) (now (cubes .entry)))
+        (calls (testedBy tested) (sceneOf scene (now (kinds .entry)) (now (covers .entry)) (now (cubes .entry)))
         (now (log .entry)) 0 (length (now (log .entry)) / 12)
         (listsOf (now (vertices .entry)) (now (triangles .entry)) (now (links .entry)) (now (slots .entry))) quads) ⌝ }
 {
@@ -100,6 +105,7 @@ fn mend_each_and_check(
         kinds,
         covers,
         cubes,
+        tested,
         log,
         quads,
     );
@@ -133,16 +139,17 @@ pub fn make_mend_and_check(
     kinds: &[u8],
     covers: &[u8],
     cubes: &[u32],
+    tested: Tested,
     log: &[u8],
     left: &[u8],
 ) -> Verdict
-    ensures { λ r. ⌜ (verdictOf r ≡ chainVerdict (sceneOf scene (now (kinds .entry)) (now (covers .entry)) (now (cubes .entry)))
+    ensures { λ r. ⌜ (verdictOf r ≡ chainVerdict (testedBy tested) (sceneOf scene (now (kinds .entry)) (now (covers .entry)) (now (cubes .entry)))
         (now (grid .entry)) (now (log .entry)) (now (left .entry))
         (listsOf (now (vertices .entry)) (now (triangles .entry)) (now (links .entry)) (now (slots .entry))))
-        × (MendableLog (sceneOf scene (now (kinds .entry)) (now (covers .entry)) (now (cubes .entry))) (now (grid .entry)) (now (log .entry))
+        × (LogFor tested (sceneOf scene (now (kinds .entry)) (now (covers .entry)) (now (cubes .entry))) (now (grid .entry)) (now (log .entry))
         → now (left .entry) ≡ gridAfter (sceneOf scene (now (kinds .entry)) (now (covers .entry)) (now (cubes .entry)))
         (now (log .entry)) (now (grid .entry))
-        → verdictOf r ≡ chainPromise (sceneOf scene (now (kinds .entry)) (now (covers .entry)) (now (cubes .entry)))
+        → verdictOf r ≡ chainPromise (testedBy tested) (sceneOf scene (now (kinds .entry)) (now (covers .entry)) (now (cubes .entry)))
         (now (grid .entry)) (now (log .entry))
         (listsOf (now (vertices .entry)) (now (triangles .entry)) (now (links .entry)) (now (slots .entry)))) ⌝ }
 {
@@ -169,6 +176,7 @@ pub fn make_mend_and_check(
             kinds,
             covers,
             cubes,
+            tested,
             log,
             left,
             quads,

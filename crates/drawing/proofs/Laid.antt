@@ -11,7 +11,7 @@ use borrow.Author.Tests.{ne-eqb}
 use Rattle.rules.specs.Lists.{each, only, table, count}
 use Rattle.rules.specs.Cells.{keyOf, linkOf, firstVertex, has, rank, quadsOf}
 use Rattle.rules.specs.Mesh.{Quad, Lists, NONE, at, pattern, laid, slotOf, slotted, layout}
-use Rattle.rules.proofs.ListLaws.{All, all-append, all-each, all-only, split, length-table}
+use Rattle.rules.proofs.ListLaws.{All, all-append, all-each, all-only, split, length-table, each-same}
 use Rattle.rules.proofs.Slotting.{slot-kept, slot-new}
 use Rattle.rules.proofs.Laying.{Sized, length-laid}
 use Rattle.vav.specs.Rows.{put}
@@ -25,11 +25,6 @@ each-snoc zero i p = append-nil (p i) ∙ ap p (omega arith)
 each-snoc (suc n) i p =
     let e : suc i + n ≡ i + suc n = omega arith in
     rw (each-snoc n (suc i) p, e) (sym (append-assoc (p i) (each n (suc i) p) (p (i + suc n))))
-
-pub each-same {ℓ} : {A : Type ℓ} (n i : ℕ) (p q : ℕ → List A) → ((k : ℕ) → i ≤ k → k < i + n → p k ≡ q k) → each n i p ≡ each n i q
-unfolding each
-each-same zero i p q h = refl
-each-same (suc n) i p q h = rw (h i (omega arith) (omega arith), each-same n (suc i) p q (λ k a b. h k (omega arith) (omega arith)))
 
 -- one word, written as a row of one
 set-put : (q v : ℕ) (xs : List ℕ) → q < length xs → set xs q v ≡ put (1 * q) (v ∷ []) xs

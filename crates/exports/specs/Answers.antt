@@ -1,18 +1,27 @@
 -- The C calls' arguments and answers, as the rules see them. Definitions only.
 use Prim.Native.Nat.{ℕ}
-use mathlib.Core.Bool.{Bool, not}
+use mathlib.Core.Bool.{Bool, cond, not}
 use mathlib.Core.List.{List}
 use lib.Dec.{eqb}
 use Rattle.rules.specs.Cube.{Shape}
 use Rattle.rules.specs.Mesh.{Lists}
+use Rattle.rules.specs.Update.{Tested, source, itself}
 use Rattle.rules.specs.Calls as rules
 use Rattle.rules.specs.Calls.{Answer, CubeOutcome, Outcome}
 use Rattle.exports.specs.declared.Told.{Told}
 use Rattle.exports.specs.declared.Mended.{Mended}
 
+-- the level of the calls: after Q-2
+abbrev pub ABI : ℕ
+ABI = 2
+
 -- 0 no, else yes
 abbrev pub isYes : ℕ → Bool
 isYes n = not (eqb n 0)
+
+-- 0 the opposite of i, as the source; else i itself
+abbrev pub testedFrom : ℕ → Tested
+testedFrom n = cond (isYes n) itself source
 
 abbrev pub answer : ℕ → ℕ → ℕ → ℕ → Answer
 answer number place quads moved = record { number = number; place = place; quads = quads; moved = moved }

@@ -7,6 +7,7 @@ use floats::Triple;
 use meshem::Meshed;
 use meshem::MeshingAlgorithm;
 use meshem::mesh_grid;
+use sides::Tested;
 use update::Updated;
 use update::update_mesh;
 use util::Dimensions;
@@ -22,8 +23,9 @@ ghost use Rattle.voxel_mesh.specs.Outcome as cube;
 ghost use Rattle.meshem.specs.Outcome.{answerOf, isCulling};
 ghost use Rattle.update.specs.Outcome as update;
 ghost use Rattle.admit.specs.Scenes.{sceneOf};
+ghost use Rattle.sides.specs.Tests.{testedBy};
 ghost use Rattle.rules.specs.Mesh.{listsOf};
-ghost use Rattle.exports.specs.Answers.{isYes, answer, toldOf, mendedOf, shapeFrom, sceneFrom, cubeOut, outcome};
+ghost use Rattle.exports.specs.Answers.{ABI, isYes, testedFrom, answer, toldOf, mendedOf, shapeFrom, sceneFrom, cubeOut, outcome};
 
 // An answer's number, place and count.
 pub struct Told {
@@ -147,6 +149,16 @@ fn algorithm_of(n: u32) -> MeshingAlgorithm
     }
 }
 
+fn tested_of(n: u32) -> Tested
+    ensures { λ r. ⌜ testedBy r ≡ testedFrom n ⌝ }
+{
+    if n == 0 {
+        Tested::Opposite
+    } else {
+        Tested::Itself
+    }
+}
+
 fn scene_of(
     width: u32,
     height: u32,
@@ -179,6 +191,14 @@ fn scene_of(
             z: cz,
         },
     }
+}
+
+// The level of these calls, which the header repeats as MESHEM_ABI.
+#[no_mangle]
+pub extern "C" fn meshem_abi() -> u32
+    ensures { λ r. ⌜ r ≡ ABI ⌝ }
+{
+    2
 }
 
 #[no_mangle]
@@ -287,6 +307,7 @@ pub extern "C" fn meshem_update_mesh(
     height: u32,
     length: u32,
     log: &[u8],
+    tested: u32,
     kinds: &[u8],
     covers: &[u8],
     cubes: &[u32],
@@ -303,11 +324,12 @@ pub extern "C" fn meshem_update_mesh(
 ) -> u32
     ensures { λ r. ⌜ outcome (answer r (now (place .exit)) (now (quads .exit)) (now (moved .exit)))
         (listsOf (now (vertices .exit)) (now (triangles .exit)) (now (links .exit)) (now (slots .exit)))
-        ≡ updateMesh (sceneFrom width height length (now (kinds .entry)) (now (covers .entry)) (now (cubes .entry)) coloured dx dy dz cx cy cz)
+        ≡ updateMesh (testedFrom tested) (sceneFrom width height length (now (kinds .entry)) (now (covers .entry)) (now (cubes .entry)) coloured dx dy dz cx cy cz)
         (now (log .entry))
         (listsOf (now (vertices .entry)) (now (triangles .entry)) (now (links .entry)) (now (slots .entry))) count ⌝ }
 {
     let scene = scene_of(width, height, length, coloured, dx, dy, dz, cx, cy, cz);
+    let side = tested_of(tested);
     let mended = told_by_update(update_mesh(
         vertices,
         triangles,
@@ -317,6 +339,7 @@ pub extern "C" fn meshem_update_mesh(
         kinds,
         covers,
         cubes,
+        side,
         log,
         count as usize,
     ));

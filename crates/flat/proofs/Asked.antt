@@ -11,11 +11,10 @@ use Rattle.rules.specs.Lists.{each, only, member, count}
 use Rattle.rules.specs.Cells.{cells, setOf, quadsOf, opposite, keyOf, neighbour}
 use Rattle.rules.specs.Mesh.{Quad, World, Lists, isNormalCube, covering}
 use Rattle.rules.specs.Update.{Entry, givenAt, sides, quads, quadOf, all, reveal}
-use Rattle.rules.proofs.ListLaws.{split, members, read-none}
+use Rattle.rules.proofs.ListLaws.{split, members, read-none, each-same}
 use Rattle.rules.proofs.Neighbours.{beside, opposite-lt}
 use Rattle.rules.proofs.Sets.{has-setOf}
 use Rattle.util.specs.Grid.{Within}
-use Rattle.drawing.proofs.Laid.{each-same}
 use Rattle.flat.specs.Courses.{isFilled, filledOf, missingOf}
 use Rattle.flat.specs.Facing.{facingBy, bareBy}
 

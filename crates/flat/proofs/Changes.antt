@@ -12,7 +12,6 @@ use Rattle.rules.specs.Mesh.{World, isNormalCube}
 use Rattle.rules.specs.Update.{Change, Broken, Added, CullFaces, AddFaces, Entry, Work, Tested, source, ops, Op, sides, quads, all, givenAt, withGiven, isOpen, hide, nothing, added, workBy}
 use Rattle.rules.specs.Calls.{Scene, world, span, faces}
 use Rattle.rules.proofs.Sets.{setOf-lt, has-setOf}
-use Rattle.drawing.proofs.Laid.{each-same}
 use Rattle.flat.specs.Flat.{State, flatRun}
 use Rattle.flat.specs.Courses.{isFilled, filledOf, missingOf, flatNeeded, going, flowOne}
 use Rattle.flat.specs.Facing.{facingBy, bareBy}
@@ -121,14 +120,3 @@ flow-nothing s room i St h = rw (le-leb (St .quads - 0 + 0) room (omega arith))
 
 pub idle-flow : {S : Scene} {room : ℕ} {St : State} {c : ℕ} → Entering S room c St → (s i : ℕ) (w : Work) → w ≡ nothing → going St ≡ flowOne s room w i St
 idle-flow {S} {room} {St} k s i w e = flow-nothing s room i St (standing (k .mesh) .quads) ∙ ap (λ (x : Work). flowOne s room x i St) (sym e)
-
--- hiding looks at the covering sets alone
-pub hide-same : (tested : Tested) (U W : World) (t c : ℕ) → U .covers ≡ W .covers → U .size ≡ W .size
-    → each 6 0 (λ i. hide tested U t i (neighbour (U .size) c i)) ≡ each 6 0 (λ i. hide tested W t i (neighbour (W .size) c i))
-hide-same tested U W t c e z =
-    each-same 6 0 (λ i. hide tested U t i (neighbour (U .size) c i)) (λ i. hide tested W t i (neighbour (W .size) c i))
-    (λ i a b. ap (λ (s : Size). hide tested U t i (neighbour s c i)) z ∙ one i (neighbour (W .size) c i))
-  where
-    one : (i : ℕ) (o : Option ℕ) → hide tested U t i o ≡ hide tested W t i o
-    one i none = refl
-    one i (some n) = rw e

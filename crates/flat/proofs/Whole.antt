@@ -15,7 +15,7 @@ use Rattle.rules.specs.Mesh.{Quad, Lists, decode, layout, slotted, slotOf}
 use Rattle.rules.specs.Update.{Tested, entryAt, work, Course}
 use Rattle.rules.specs.Types.{floats}
 use Rattle.rules.specs.Answers.{Verdict, fine, _then_, refuseLowest, badEntry, BAD-SIZE, SHORT-SLOTS, BAD-COUNT, BAD-ENTRY}
-use Rattle.rules.specs.Calls.{Scene, world, span, faces, room, typesVerdict, lentVerdict, bookVerdict, updateVerdict, course, Outcome, answered, courseAnswer, updateBy, updateMeshBy}
+use Rattle.rules.specs.Calls.{Scene, world, span, faces, room, typesVerdict, lentVerdict, bookVerdict, updateVerdict, course, Outcome, answered, courseAnswer, updateBy, updateMesh}
 use Rattle.rules.proofs.ListLaws.{length-table}
 use Rattle.rules.proofs.Checking.{then-fine, if-fine, lowest-fine, book-of-fine, length-decode}
 use Rattle.rules.proofs.Demands.{words-sized, limits, sound, room-for, lent-sane, entry-inside}
@@ -169,7 +169,7 @@ outcomeIn rest (full i St) = record { answer = record { number = 14; place = i; 
 -- LAW: the log run on the lists gives the outcome that the rule gives
 pub outcome-is : (tested : Tested) (S : Scene) (log : List ℕ) (B : Lists) (Q : ℕ) (v : updateVerdict S log B Q ≡ fine)
     → outcomeIn (drop (faces S) (B .slots)) (flowFrom (span S) (room S B) (λ k. work tested (world S) (entryAt log k)) 0 (length log / 12) (start tested S log B Q v))
-    ≡ updateMeshBy tested S log B Q
+    ≡ updateMesh tested S log B Q
 outcome-is tested S log B Q v =
     let c = course tested S log B Q in
     let back = with-rest (faces S) (span S) (c .highest) (c .quads) B (slots-room tested S log B Q v) in
@@ -190,7 +190,7 @@ module _ (tested : Tested) (S : Scene) (log : List ℕ) (B : Lists) (Q : ℕ) (v
   lent-logging = rw (hn, hR) (logging tested S log B Q v)
 
   pub lent-outcome : {F : Flow} → F ≡ flowFrom (span S) R (λ k. work tested (world S) (entryAt log k)) 0 (length log / 12) (record { lists = within n B; quads = Q; moved = 0 })
-      → outcomeIn (drop n (B .slots)) F ≡ updateMeshBy tested S log B Q
+      → outcomeIn (drop n (B .slots)) F ≡ updateMesh tested S log B Q
   lent-outcome {F} e =
       ap (outcomeIn (drop n (B .slots))) e
       ∙ (λ i. outcomeIn (drop (hn i) (B .slots)) (flowFrom (span S) (hR i) (λ k. work tested (world S) (entryAt log k)) 0 (length log / 12) (record { lists = within (hn i) B; quads = Q; moved = 0 })))

@@ -12,11 +12,11 @@ use Rattle.rules.specs.Lists.{each, only, member, count}
 use Rattle.rules.specs.Cells.{cells, has, quadsOf, neighbour}
 use Rattle.rules.specs.Mesh.{Quad, World, Lists, quadAt, quadsBy, meshBy, isNormalCube, typeAt, shown, layout}
 use Rattle.rules.specs.Calls.{Scene, world, span, faces, freshMesh}
-use Rattle.rules.proofs.ListLaws.{members, read-one, split}
+use Rattle.rules.proofs.ListLaws.{members, read-one, split, each-same}
 use Rattle.rules.proofs.Sets.{has-setOf, set-is, setOf-lt}
 use Rattle.rules.proofs.Demands.{words-sized}
 use Rattle.drawing.specs.Drawn.{facesDrawn, cellsDrawn, asked}
-use Rattle.drawing.proofs.Laid.{Rooms, each-same, cellQuads, asked-is, drawn-is-layout}
+use Rattle.drawing.proofs.Laid.{Rooms, cellQuads, asked-is, drawn-is-layout}
 use Rattle.culling.specs.Culling.{outerSet}
 use Rattle.culling.proofs.Sides.{setOf-cong}
 use Rattle.meshem.specs.Fresh.{sideDrawn, setAt, facesOf}

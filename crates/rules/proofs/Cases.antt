@@ -1,4 +1,4 @@
--- 01, "Meshes worked by hand": the ten cases as one table, and the program's example. Proved by computing. Assumes nothing.
+-- 01, "Meshes worked by hand": the ten cases as one table, those of them that the new mode ends as another, and the program's example. Proved by computing. Assumes nothing.
 use mathlib.Core.Path.{_≡_, refl}
 use mathlib.Core.Bool.{Bool, true, false, cond}
 use mathlib.Core.List.{List, [], _∷_, _++_}
@@ -13,7 +13,7 @@ use Rattle.rules.specs.Types.{Types}
 use Rattle.rules.specs.Cube as cube
 use Rattle.rules.specs.Cube.{Shape, cubeWords}
 use Rattle.rules.specs.Mesh.{Quad, World, Lists, meshBy, laid, slotted}
-use Rattle.rules.specs.Update.{Entry, Broken, removeAt, remove, entryAt, source, work, nothing, ops, run, needed, courseFrom}
+use Rattle.rules.specs.Update.{Entry, Broken, removeAt, remove, entryAt, Tested, source, itself, work, nothing, ops, run, needed, courseFrom}
 use Rattle.rules.specs.Answers as answers
 use Rattle.rules.specs.Answers.{fine}
 use Rattle.rules.specs.Calls.{Scene, Answer, Outcome, answered, world, wordsIn, meshGrid, updateVerdict, updateMesh}
@@ -113,8 +113,8 @@ above t = 1 ∷ 0 ∷ 0 ∷ 0 ∷ 1 ∷ t ∷ 255 ∷ 1 ∷ 255 ∷ 255 ∷ 255 
 abbrev below : Outcome
 below = meshGrid (scene 1 2 1) [] (1 ∷ 0 ∷ []) true (lent 12 2)
 
-abbrev withAbove : ℕ → Outcome
-withAbove t = updateMesh (scene 1 2 1) (above t) (below .lists) (quadsIn below)
+abbrev withAbove : Tested → ℕ → Outcome
+withAbove tested t = updateMesh tested (scene 1 2 1) (above t) (below .lists) (quadsIn below)
 
 abbrev keys : List Quad → List ℕ
 keys [] = []
@@ -143,16 +143,16 @@ unfoldable pub removalCases : List (List ℕ)
 removalCases = keys (removeAt 4 ten) ∷ keys (removeAt 3 ten) ∷ []
 
 -- 7. h=2, cube below, a cube type covering only Bottom Added above; fresh. 8. Covering only Top
-unfoldable pub mended : ℕ → List ℕ
-mended t = quadsIn (withAbove t) ∷ quadsIn (fresh 1 2 1 [] (1 ∷ t ∷ []) true) ∷ []
+unfoldable pub mended : Tested → ℕ → List ℕ
+mended tested t = quadsIn (withAbove tested t) ∷ quadsIn (fresh 1 2 1 [] (1 ∷ t ∷ []) true) ∷ []
 
 -- 9. Added Null: as many quads as before (that nothing changes: `null-changes-nothing`)
 unfoldable pub addedNull : List ℕ
-addedNull = quadsIn (withAbove 0) ∷ []
+addedNull = quadsIn (withAbove source 0) ∷ []
 
 -- what the cases work out
 unfoldable pub cases : List (List ℕ)
-cases = freshCases ++ (removalCases ++ (mended 3 ∷ mended 4 ∷ addedNull ∷ (linkWord 5 0 ∷ []) ∷ []))
+cases = freshCases ++ (removalCases ++ (mended source 3 ∷ mended source 4 ∷ addedNull ∷ (linkWord 5 0 ∷ []) ∷ []))
 
 fresh-are : freshCases ≡ (6 ∷ []) ∷ (10 ∷ 12 ∷ []) ∷ (8 ∷ []) ∷ (54 ∷ []) ∷ (5 ∷ []) ∷ []
 unfolding freshCases answers._then_ answers.refuseIf answers.badLimits answers.BAD-TYPES answers.badCounts lowestFrom answers.badType answers.BAD-NUMBER answers.notACube types.isCube every types.classed types.classOf types.classAt types.classOn ieee.eq ieee.ofBits ieee.lt answers.roomOf meshBy each neighbour
@@ -162,11 +162,11 @@ removals-are : removalCases ≡ (0 ∷ 1 ∷ 2 ∷ 3 ∷ 5 ∷ 6 ∷ 7 ∷ 8 ∷
 unfolding removalCases removeAt each
 removals-are = refl
 
-mended-bottom : mended 3 ≡ 11 ∷ 10 ∷ []
+mended-bottom : mended source 3 ≡ 11 ∷ 10 ∷ []
 unfolding mended answers._then_ answers.refuseIf answers.badLimits answers.BAD-TYPES answers.badCounts lowestFrom answers.badType answers.BAD-NUMBER answers.notACube types.isCube every types.classed types.classOf types.classAt types.classOn ieee.eq ieee.ofBits ieee.lt answers.roomOf meshBy each neighbour count laid slotted answers.badLink answers.BAD-LINKS same answers.badEntry answers.BAD-ENTRY courseFrom entryAt needed ops remove removeAt types.quadWords
 mended-bottom = refl
 
-mended-top : mended 4 ≡ 10 ∷ 11 ∷ []
+mended-top : mended source 4 ≡ 10 ∷ 11 ∷ []
 unfolding mended answers._then_ answers.refuseIf answers.badLimits answers.BAD-TYPES answers.badCounts lowestFrom answers.badType answers.BAD-NUMBER answers.notACube types.isCube every types.classed types.classOf types.classAt types.classOn ieee.eq ieee.ofBits ieee.lt answers.roomOf meshBy each neighbour count laid slotted answers.badLink answers.BAD-LINKS same answers.badEntry answers.BAD-ENTRY courseFrom entryAt needed ops remove removeAt types.quadWords
 mended-top = refl
 
@@ -184,7 +184,7 @@ null-idle zero h = refl
 null-idle (suc k) h = absurd (omega arith)
 
 -- the ninth: number, place, Q, `moved` and the four lists are as before
-pub null-changes-nothing : withAbove 0 ≡ record { answer = answered (quadsIn below) 0; lists = below .lists }
+pub null-changes-nothing : withAbove source 0 ≡ record { answer = answered (quadsIn below) 0; lists = below .lists }
 null-changes-nothing = idle source (scene 1 2 1) (above 0) (below .lists) (quadsIn below) null-unrefused null-idle
 
 -- the ten cases of 01, one after the other; the sixth has two rows
@@ -202,6 +202,14 @@ pub ten-cases : cases
     ∷ []
 unfolding cases
 ten-cases = rw (fresh-are, removals-are, mended-bottom, mended-top, null-is)
+
+-- the seventh and the eighth in the new mode (02, Q-2): as many quads as fresh
+pub slab-cases : mended itself 3 ∷ mended itself 4 ∷ []
+    ≡ (10 ∷ 10 ∷ [])
+    ∷ (11 ∷ 11 ∷ [])
+    ∷ []
+unfolding mended answers._then_ answers.refuseIf answers.badLimits answers.BAD-TYPES answers.badCounts lowestFrom answers.badType answers.BAD-NUMBER answers.notACube types.isCube every types.classed types.classOf types.classAt types.classOn ieee.eq ieee.ofBits ieee.lt answers.roomOf meshBy each neighbour count laid slotted answers.badLink answers.BAD-LINKS same answers.badEntry answers.BAD-ENTRY courseFrom entryAt needed ops remove removeAt types.quadWords
+slab-cases = refl
 
 -- ---- a quad's words: the cube's vertices 0, 1, 3, 2 of Top, one cell along x
 

@@ -12,7 +12,7 @@ use borrow.Author.Tests.{leb-true, leb-false, le-leb}
 use Rattle.rules.specs.Lists.{each, only}
 use Rattle.rules.specs.Cells.{cells, opposite, neighbour, keyOf}
 use Rattle.rules.specs.Mesh.{Quad, World, isNormalCube, covering, meshBy, quadsBy, quadAt, typeAt, at, there, placeOf}
-use Rattle.rules.specs.Update.{Change, Broken, Added, CullFaces, AddFaces, Entry, givenAt, blank, draw, shifts, removeAt, remove, movedBy, moved, Op, put, cut, step, run, moves, highest, Work, Tested, quadOf, sides, quads, hide, reveal, all, isOpen, withGiven, nothing, added, broken, workBy, work, cuts, puts, ops, needed, Course, courseFrom, emptyType, gridBy, gridAfter, gridLog, Told, TrueBy, Honest, MendsBy, Mends}
+use Rattle.rules.specs.Update.{Change, Broken, Added, CullFaces, AddFaces, Entry, givenAt, blank, draw, shifts, removeAt, remove, movedBy, moved, Op, put, cut, step, run, moves, highest, Work, Tested, quadOf, sides, quads, hide, reveal, all, isOpen, withGiven, nothing, added, broken, workBy, work, cuts, puts, ops, needed, Course, courseFrom, emptyType, gridBy, gridAfter, gridLog, Told, TrueBy, Honest, MendsBy, Mends, AddsAlike}
 use Rattle.rules.proofs.ListLaws.{All, all-append, all-take, all-drop, all-at, all-each, all-only, split}
 use Rattle.rules.proofs.Neighbours.{beside, opposite-lt}
 use Rattle.rules.proofs.Quads.{Once, placed, moved-le, length-removeAt, run-append, run-once, absent}
@@ -254,22 +254,32 @@ pub length-log : (W : World) (g : List ℕ) (es : List Entry) → length (gridLo
 length-log W g [] = refl
 length-log W g (e ∷ es) = length-log W (gridAfter W g e) es ∙ length-after W g e (e .change)
 
+-- a course by works that are alike is the same
+pub course-alike : (room : ℕ) (a b : ℕ → Work) (i n : ℕ) (m : List Quad) (v p : ℕ) → ((j : ℕ) → j < i + n → a j ≡ b j)
+    → courseFrom room a i n m v p ≡ courseFrom room b i n m v p
+unfolding courseFrom
+course-alike room a b i zero m v p h = refl
+course-alike room a b i (suc n) m v p h =
+    let e = h i (omega arith) in
+    rw e (ap (λ (c : Course). cond (leb (needed (b i) m) room) c (record { full = some i; quads = m; moved = v; highest = p }))
+    (course-alike room a b (suc i) n (run (ops (b i)) m) (v + moves (ops (b i)) m) (highest p (ops (b i)) m) (λ j l. h j (omega arith))))
+
 -- LAW: a mesh that shows what culling shows, shows it of the new grid after an honest log of demand 3 that comes through
 pub mends-log : (W : World) → Sound W → (tested : Tested) (room : ℕ) (entry : ℕ → Entry) (i k : ℕ) (g : List ℕ) (m : List Quad) (v p : ℕ)
     → length g ≡ cells (W .size) → Shows W [] g m
-    → Honest W g (each k i (λ j. entry j ∷ [])) → Mends tested W g (each k i (λ j. entry j ∷ []))
-    → (courseFrom room (λ j. work tested W (entry j)) i k m v p) .full ≡ none
+    → Honest W g (each k i (λ j. entry j ∷ [])) → Mends W g (each k i (λ j. entry j ∷ []))
+    → AddsAlike tested W (each k i (λ j. entry j ∷ [])) → (courseFrom room (λ j. work tested W (entry j)) i k m v p) .full ≡ none
     → Shows W [] (gridLog W (each k i (λ j. entry j ∷ [])) g) ((courseFrom room (λ j. work tested W (entry j)) i k m v p) .quads)
 unfolding courseFrom each
-mends-log W s tested room entry i zero g m v p hg sh ho me fu = sh
-mends-log W s tested room entry i (suc k) g m v p hg sh ho me fu =
+mends-log W s tested room entry i zero g m v p hg sh ho me al fu = sh
+mends-log W s tested room entry i (suc k) g m v p hg sh ho me al fu =
     split (λ t. (cond t after here) .full ≡ none
     → Shows W [] (gridLog W (each k (suc i) (λ j. entry j ∷ [])) (gridAfter W g (entry i))) ((cond t after here) .quads))
     (leb (needed (work tested W (entry i)) m) room)
     (λ e q. mends-log W s tested room entry (suc i) k (gridAfter W g (entry i)) (run (ops (work tested W (entry i))) m)
     (v + moves (ops (work tested W (entry i))) m) (highest p (ops (work tested W (entry i))) m)
     (length-after W g (entry i) ((entry i) .change) ∙ hg)
-    (mends-entry W s tested g hg m sh (entry i) (ho .0) ((entry i) .change) (ho .1) (me .0)) (ho .2) (me .1) q)
+    (mends-entry W s tested g hg m sh (entry i) (ho .0) ((entry i) .change) (ho .1) (me .0) (al .0)) (ho .2) (me .1) (al .1) q)
     (λ e q. absurd (some-none (sym q))) fu
   where
     after : Course

@@ -16,10 +16,10 @@ use Rattle.rules.specs.Lists.{each, table, row}
 use Rattle.rules.specs.Cells.{Size, cells, keyOf}
 use Rattle.rules.specs.Types.{Types, floats, quadWord, quadWords, cubeOf}
 use Rattle.rules.specs.Mesh.{Quad, World, Lists, drawn, culled, decode, layout}
-use Rattle.rules.specs.Update.{Change, Broken, Added, CullFaces, AddFaces, Entry, entryAt, Tested, work, Course, courseFrom, blank, u32At, emptyType, gridBy, gridAfter, gridLog, Told, TrueBy, Honest, Mends}
+use Rattle.rules.specs.Update.{Change, Broken, Added, CullFaces, AddFaces, Entry, entryAt, Tested, work, Course, courseFrom, blank, u32At, emptyType, gridBy, gridAfter, gridLog, Told, TrueBy, Honest, Mends, AddsAlike}
 use Rattle.rules.specs.Answers.{Verdict, fine, refuse, _then_, refuseIf, refuseLowest, outOf, badLimits, BAD-SIZE, BAD-GRID, badCounts, badType, BAD-TYPES, BAD-NUMBER, NOT-A-CUBE, BAD-OUTER, BAD-CELL, SHORT-SLOTS, roomOf, BAD-COUNT, BAD-LINKS, BAD-TRIANGLES, badEntry, BAD-ENTRY, NO-ROOM, WRONG-SET, WRONG-VERTEX}
 use Rattle.rules.specs.Check.{linked, Right}
-use Rattle.rules.specs.Calls.{Answer, answered, refused, Scene, wordsIn, world, span, faces, room, typesVerdict, Outcome, freshMesh, meshVerdict, meshBy, meshGrid, lentVerdict, updateVerdict, entriesOf, course, courseAnswer, updateBy, updateMeshBy, openVerdict, bookVerdict, faceVerdict, checkVerdict, checkBy, checkMesh}
+use Rattle.rules.specs.Calls.{Answer, answered, refused, Scene, wordsIn, world, span, faces, room, typesVerdict, Outcome, freshMesh, meshVerdict, meshBy, meshGrid, lentVerdict, updateVerdict, entriesOf, course, courseAnswer, updateBy, updateMesh, openVerdict, bookVerdict, faceVerdict, checkVerdict, checkBy, checkMesh}
 use Rattle.rules.proofs.ListLaws.{All, all-of, split, or-false, not-true, length-table, length-each}
 use Rattle.rules.proofs.Quads.{Once}
 use Rattle.rules.proofs.Laying.{Fits, length-vertices, length-triangles, length-links, length-slots, once-of-distinct, decode-layout}
@@ -292,10 +292,10 @@ module _ (tested : Tested) (S : Scene) (g log : List ℕ) (B : Lists) (Q : ℕ) 
       let f = zero-fine UPDATE refl (updateVerdict S log B Q) (update-numbers S log B Q) (ap (λ (x : Verdict). (checkBy x) .number) v ∙ e) in
       let z : _≡_ {A = ℕ} 0 1 = cc in absurd (omega arith)
 
-  mended : checkVerdict S [] g B Q ≡ fine → Honest (world S) g (entriesOf log) → Mends tested (world S) g (entriesOf log)
-      → updateVerdict S log B Q ≡ fine → c .full ≡ none
+  mended : checkVerdict S [] g B Q ≡ fine → Honest (world S) g (entriesOf log) → Mends (world S) g (entriesOf log)
+      → AddsAlike tested (world S) (entriesOf log) → updateVerdict S log B Q ≡ fine → c .full ≡ none
       → checkVerdict S [] grid (layout (faces S) (span S) (c .highest) (c .quads) B) (length (c .quads)) ≡ fine
-  mended ec ho me eu fu =
+  mended ec ho me al eu fu =
       let o = then-fine (openVerdict S [] g B Q) _ ec in
       let bf = then-fine (bookVerdict S B Q) (faceVerdict S [] g B Q) (o .1) in
       let a = then-fine (BAD-SIZE (S .size)) _ (o .0) in
@@ -325,15 +325,15 @@ module _ (tested : Tested) (S : Scene) (g log : List ℕ) (B : Lists) (Q : ℕ) 
       (λ j x y. fits-new (world S) snd (span S) (words-sized S) tested (entryAt log j)
       (entry-inside (cells (S .size)) (length (S .types .kinds)) log en j (omega arith)) ((entryAt log j) .change))
       (lent-sane S B Q (a .0) (h .0) (h .1) (bf .0)))
-      (mends-log (world S) snd tested (room S B) (entryAt log) 0 (length log / 12) g (decode (span S) Q B) 0 Q hg sh ho me fu)
+      (mends-log (world S) snd tested (room S B) (entryAt log) 0 (length log / 12) g (decode (span S) Q B) 0 Q hg sh ho me al fu)
 
   -- if a mesh passes with no outer face named, it passes for the new grid after any unrefused, honest log of Added and Broken alone
-  -- that fills only empty cells with cubes that cover the side tested as the side itself
-  pub mended-accepted : (checkMesh S [] g B Q) .number ≡ 0 → Honest (world S) g (entriesOf log) → Mends tested (world S) g (entriesOf log)
-      → (updateMeshBy tested S log B Q) .answer .number ≡ 0
-      → checkMesh S [] (gridLog (world S) (entriesOf log) g) ((updateMeshBy tested S log B Q) .lists) ((updateMeshBy tested S log B Q) .answer .quads)
+  -- that fills only empty cells, and with cubes that cover the side tested as the side itself: in the new mode with any (`itself-alike`)
+  pub mended-accepted : (checkMesh S [] g B Q) .number ≡ 0 → Honest (world S) g (entriesOf log) → Mends (world S) g (entriesOf log)
+      → AddsAlike tested (world S) (entriesOf log) → (updateMesh tested S log B Q) .answer .number ≡ 0
+      → checkMesh S [] (gridLog (world S) (entriesOf log) g) ((updateMesh tested S log B Q) .lists) ((updateMesh tested S log B Q) .answer .quads)
       ≡ answered 0 0
-  mended-accepted ec ho me eu =
+  mended-accepted ec ho me al eu =
       let t = through (updateVerdict S log B Q) refl eu in
-      let m = mended (accepted S [] g B Q ec) ho me (t .0) (t .1) in
+      let m = mended (accepted S [] g B Q ec) ho me al (t .0) (t .1) in
       rw (t .0, t .1) (ap checkBy m)

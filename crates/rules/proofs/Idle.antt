@@ -18,7 +18,7 @@ use Rattle.rules.specs.Update.{Tested, Work, nothing, ops, needed, work,
 use Rattle.rules.specs.Answers.{fine, slotAt, SHORT-SLOTS, BAD-COUNT, BAD-SIZE, _then_, BAD-ENTRY}
 use Rattle.rules.specs.Types.{floats}
 use Rattle.rules.specs.Check.{linked}
-use Rattle.rules.specs.Calls.{Answer, answered, Scene, world, span, faces, room, Outcome, bookVerdict, lentVerdict, typesVerdict, updateVerdict, course, courseAnswer, updateBy, updateMeshBy}
+use Rattle.rules.specs.Calls.{Answer, answered, Scene, world, span, faces, room, Outcome, bookVerdict, lentVerdict, typesVerdict, updateVerdict, course, courseAnswer, updateBy, updateMesh}
 use Rattle.rules.proofs.ListLaws.{table-is, length-table}
 use Rattle.rules.proofs.Laying.{keyAt, row-one, link-of-key}
 use Rattle.rules.proofs.Index.{Named, full-le}
@@ -119,7 +119,7 @@ idle-course room work i (suc k) h m v p l =
 -- LAW: where each entry does nothing, as Added of a kind that is no NormalCube does, nothing changes
 pub idle : (tested : Tested) (S : Scene) (log : List ℕ) (B : Lists) (Q : ℕ) → updateVerdict S log B Q ≡ fine
     → ((k : ℕ) → k < length log / 12 → work tested (world S) (entryAt log k) ≡ nothing)
-    → updateMeshBy tested S log B Q ≡ record { answer = answered Q 0; lists = B }
+    → updateMesh tested S log B Q ≡ record { answer = answered Q 0; lists = B }
 idle tested S log B Q v h =
     let a = then-fine (BAD-SIZE (S .size)) _ v .1 in
     let b = then-fine (typesVerdict S) _ a .1 in

@@ -11,6 +11,7 @@ pub mod Slotting
 pub mod Index
 pub mod Checking
 pub mod Courses
+pub mod Modes
 pub mod Refusals
 pub mod Demands
 pub mod Idle

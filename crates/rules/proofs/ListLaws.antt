@@ -37,7 +37,12 @@ pub or-false : (a b : Bool) → (a || b) ≡ false → (a ≡ false) × (b ≡ f
 or-false true b e = absurd (true≢false e)
 or-false false b e = (refl, e)
 
--- ---- each: a reading of a list that takes one list after the other piece by piece
+-- ---- each: pieces that are the same, and a reading of a list that takes one list after the other piece by piece
+pub each-same {ℓ} : {A : Type ℓ} (n i : ℕ) (p q : ℕ → List A) → ((k : ℕ) → i ≤ k → k < i + n → p k ≡ q k) → each n i p ≡ each n i q
+unfolding each
+each-same zero i p q h = refl
+each-same (suc n) i p q h = rw (h i (omega arith) (omega arith), each-same n (suc i) p q (λ k a b. h k (omega arith) (omega arith)))
+
 pub record Reads {ℓ} (A : Type ℓ) (M : Type 0) : Type ℓ where
   pub read : List A → M
   pub none : M

@@ -15,7 +15,7 @@ use borrow.Author.Tests.{eq-eqb, ne-eqb, eqb-true}
 use Rattle.rules.specs.Lists.{each, only, member}
 use Rattle.rules.specs.Cells.{cells, opposite, neighbour, keyOf}
 use Rattle.rules.specs.Mesh.{Quad, World, typeAt, isNormalCube, covering, shown, drawn, quadAt, quadsBy, meshBy, culled, at}
-use Rattle.rules.specs.Update.{Change, Broken, Added, CullFaces, AddFaces, Entry, givenAt, outside, run, Work, Tested, quadOf, sides, quads, hide, reveal, all, isOpen, added, broken, workBy, work, cuts, puts, ops, isEmpty, emptyType, gridBy, gridAfter, standing, Told, TrueBy, Fills, MendsBy}
+use Rattle.rules.specs.Update.{Change, Broken, Added, CullFaces, AddFaces, Entry, givenAt, outside, run, Work, Tested, quadOf, sides, quads, hide, reveal, all, isOpen, added, broken, workBy, work, cuts, puts, ops, isEmpty, emptyType, gridBy, gridAfter, standing, Told, TrueBy, Fills, MendsBy, Alike, AlikeBy}
 use Rattle.rules.proofs.ListLaws.{Reads, read-none, read-one, members, and-true, lowest-bad, split}
 use Rattle.rules.proofs.Neighbours.{Beside, beside, opposite-twice, opposite-lt}
 use Rattle.rules.proofs.Quads.{quadsAt, Once, orElse, orElse-nil, at-cuts, at-puts, run-append}
@@ -338,9 +338,9 @@ module _ (W : World) (s : Sound W) (g : List ℕ) (hg : length g ≡ cells (W .s
       due-out W s [] g n f (omega arith) ∙ sym (due-out W s [] (set g (e .cell) t) n f (omega (arith, length-set g (e .cell) t)))
 
   -- Added, over the side that is tested
-  pub added-due : (tested : Tested) → Fills tested W g e
+  pub added-due : (tested : Tested) → Fills W g e → Alike tested W (e .type)
       → worked (added tested W e) (keyOf n f) (due W [] g n f) ≡ due W [] (set g (e .cell) (e .type)) n f
-  added-due tested h = go (view W s g hg (e .cell) (told .inGrid) n f hf)
+  added-due tested h alike = go (view W s g hg (e .cell) (told .inGrid) n f hf)
     where
       t : ℕ
       t = e .type
@@ -368,7 +368,7 @@ module _ (W : World) (s : Sound W) (g : List ℕ) (hg : length g ≡ cells (W .s
             hides-one W s g hg (e .cell) (told .inGrid) n f hf tested (e .type) b,
             sides-far W (e .type) (e .cell) n f hf all d,
             quads-far W (e .type) (e .cell) n f hf (isOpen W e) d,
-            h .alike (opposite f) (opposite-lt f hf),
+            alike (opposite f) (opposite-lt f hf),
             q,
             getD-set-other g (e .cell) n (e .type) 255 d,
             after-own W s g hg (e .cell) (told .inGrid) n f hf (e .type),
@@ -450,11 +450,11 @@ module _ (W : World) (s : Sound W) (tested : Tested) (g : List ℕ) (hg : length
   by-faces w g′ few h n f hf =
       at-work w (keyOf n f) m (shows-once W [] g m shows (keyOf n f)) (few n f hf) ∙ rw (shows n f hf) (h n f hf)
 
-  pub mends-entry : (k : Change) → TrueBy W g e k → MendsBy tested W g e k → Shows W [] (gridBy W g e k) (run (ops (workBy tested W e k)) m)
-  mends-entry Broken h t =
+  pub mends-entry : (k : Change) → TrueBy W g e k → MendsBy W g e k → AlikeBy tested W e k → Shows W [] (gridBy W g e k) (run (ops (workBy tested W e k)) m)
+  mends-entry Broken h t alike =
       by-faces (broken W e) (set g (e .cell) (emptyType W)) (λ n f hf. broken-new W s g hg e told n f hf) (λ n f hf. broken-due W s g hg e told n f hf h)
-  mends-entry Added h t =
+  mends-entry Added h t alike =
       rw (t .cube)
-      (by-faces (added tested W e) (set g (e .cell) (e .type)) (λ n f hf. added-new W s g hg e told n f hf tested) (λ n f hf. added-due W s g hg e told n f hf tested t))
-  mends-entry CullFaces h t = absurd t
-  mends-entry AddFaces h t = absurd t
+      (by-faces (added tested W e) (set g (e .cell) (e .type)) (λ n f hf. added-new W s g hg e told n f hf tested) (λ n f hf. added-due W s g hg e told n f hf tested t (alike (t .cube))))
+  mends-entry CullFaces h t alike = absurd t
+  mends-entry AddFaces h t alike = absurd t

@@ -11,7 +11,7 @@ use Rattle.rules.specs.Cube.{Shape}
 use Rattle.rules.specs.Mesh.{Quad, Lists}
 use Rattle.rules.specs.Update.{Tested, Course}
 use Rattle.rules.specs.Answers.{Verdict, fine, refuse, _then_, refuseIf, BAD-NUMBER, BAD-TEXTURE, BAD-TYPES, BAD-LINKS, BAD-ENTRY}
-use Rattle.rules.specs.Calls.{Answer, CubeOutcome, cubeVerdict, cubeBy, generateVoxelMesh, Scene, typesVerdict, Outcome, meshVerdict, meshBy, meshGrid, freshMesh, updateVerdict, course, updateBy, updateMeshBy, bookVerdict, checkVerdict, checkBy, checkMesh}
+use Rattle.rules.specs.Calls.{Answer, CubeOutcome, cubeVerdict, cubeBy, generateVoxelMesh, Scene, typesVerdict, Outcome, meshVerdict, meshBy, meshGrid, freshMesh, updateVerdict, course, updateBy, updateMesh, bookVerdict, checkVerdict, checkBy, checkMesh}
 
 -- ---- one numbered refusal
 
@@ -103,8 +103,8 @@ mesh-refused S outer g culling B h = go (meshVerdict S outer g culling B) h
 
 -- only an update out of room, 14, keeps the entries before the one it stopped at
 pub update-refused : (tested : Tested) (S : Scene) (log : List ℕ) (B : Lists) (Q : ℕ)
-    → (updateMeshBy tested S log B Q) .answer .number ≢ 0 → (updateMeshBy tested S log B Q) .answer .number ≢ 14
-    → (updateMeshBy tested S log B Q) .lists ≡ B
+    → (updateMesh tested S log B Q) .answer .number ≢ 0 → (updateMesh tested S log B Q) .answer .number ≢ 14
+    → (updateMesh tested S log B Q) .lists ≡ B
 update-refused tested S log B Q h k = go (updateVerdict S log B Q) h k
   where
     c : Course

@@ -1,4 +1,4 @@
--- Demand 3's second half says something: a log of two entries meets all that it asks. Assumes nothing.
+-- Demand 3's second half says something: in each mode a log of two entries meets all that it asks. Assumes nothing.
 use mathlib.Core.Path.{_≡_, refl}
 use mathlib.Core.Bool.{Bool, true, false}
 use mathlib.Core.List.{List, [], _∷_, _++_}
@@ -11,10 +11,11 @@ use Rattle.rules.specs.Lists.{each, every, count, lowestFrom, same}
 use Rattle.rules.specs.Cells.{neighbour, opposite}
 use Rattle.rules.specs.Types as types
 use Rattle.rules.specs.Mesh.{Lists, meshBy, laid, slotted, covering}
-use Rattle.rules.specs.Update.{Entry, Broken, Added, givenAt, standing, entryAt, removeAt, remove, ops, needed, courseFrom, emptyType, source, gridLog, Told, Honest, Mends}
+use Rattle.rules.specs.Update.{Entry, Broken, Added, givenAt, standing, entryAt, removeAt, remove, ops, needed, courseFrom, emptyType, source, itself, gridLog, Told, Honest, Mends, AddsAlike}
 use Rattle.rules.specs.Answers as answers
-use Rattle.rules.specs.Calls.{Scene, Answer, Outcome, answered, world, entriesOf, meshGrid, updateMeshBy, checkMesh}
+use Rattle.rules.specs.Calls.{Scene, Answer, Outcome, answered, world, entriesOf, meshGrid, updateMesh, checkMesh}
 use Rattle.rules.proofs.Cases.{scene, lent}
+use Rattle.rules.proofs.Modes.{itself-alike}
 use Rattle.rules.proofs.Demands.{fresh-accepted, mended-accepted}
 
 -- grid 1,1: cell 0 is dug, then filled again
@@ -33,7 +34,7 @@ abbrev fresh : Outcome
 fresh = meshGrid S [] grid true (lent 12 2)
 
 abbrev after : Outcome
-after = updateMeshBy source S log (fresh .lists) (fresh .answer .quads)
+after = updateMesh source S log (fresh .lists) (fresh .answer .quads)
 
 six : (P : ℕ → Type 0) → P 0 → P 1 → P 2 → P 3 → P 4 → P 5 → (f : ℕ) → f < 6 → P f
 six P a b c d e f zero h = a
@@ -52,12 +53,16 @@ honest = (
   (record { inGrid = lit< tt; listed = lit< tt; neighbours = six _ refl refl refl refl refl refl }, tt, tt),
 )
 
-mends : Mends source (world S) grid (entriesOf log)
+mends : Mends (world S) grid (entriesOf log)
 unfolding each entryAt emptyType lowestFrom
 mends = (
   tt,
-  (record { cube = refl; wasListed = lit< tt; wasEmpty = refl; alike = six _ refl refl refl refl refl refl }, tt),
+  (record { cube = refl; wasListed = lit< tt; wasEmpty = refl }, tt),
 )
+
+alike : AddsAlike source (world S) (entriesOf log)
+unfolding each entryAt
+alike = (tt, (λ c. six _ refl refl refl refl refl refl, tt))
 
 meshed : fresh .answer .number ≡ 0
 unfolding answers._then_ answers.refuseIf answers.badLimits answers.BAD-TYPES answers.badCounts lowestFrom answers.badType answers.BAD-NUMBER answers.notACube types.isCube every types.classed types.classOf types.classAt types.classOn ieee.eq ieee.ofBits ieee.lt answers.roomOf meshBy each neighbour
@@ -69,4 +74,48 @@ unrefused = refl
 
 -- the fresh mesh passes, the log is honest and not refused, and so the mended mesh passes
 pub witness : checkMesh S [] (gridLog (world S) (entriesOf log) grid) (after .lists) (after .answer .quads) ≡ answered 0 0
-witness = mended-accepted source S grid log (fresh .lists) (fresh .answer .quads) (rw (fresh-accepted S [] grid (lent 12 2) meshed)) honest mends unrefused
+witness = mended-accepted source S grid log (fresh .lists) (fresh .answer .quads) (rw (fresh-accepted S [] grid (lent 12 2) meshed)) honest mends alike unrefused
+
+-- ---- the new mode: a slab that covers only Bottom is laid on a cube, then the cube under it is dug
+
+abbrev ground : List ℕ
+ground = 1 ∷ 0 ∷ []
+
+abbrev G : Scene
+G = scene 1 2 1
+
+abbrev slabLog : List ℕ
+slabLog =
+    1 ∷ 0 ∷ 0 ∷ 0 ∷ 1 ∷ 3 ∷ 255 ∷ 1 ∷ 255 ∷ 255 ∷ 255 ∷ 255
+    ∷ 0 ∷ 0 ∷ 0 ∷ 0 ∷ 0 ∷ 1 ∷ 3 ∷ 255 ∷ 255 ∷ 255 ∷ 255 ∷ 255 ∷ []
+
+abbrev bare : Outcome
+bare = meshGrid G [] ground true (lent 12 2)
+
+abbrev laidOn : Outcome
+laidOn = updateMesh itself G slabLog (bare .lists) (bare .answer .quads)
+
+slab-honest : Honest (world G) ground (entriesOf slabLog)
+unfolding each entryAt neighbour emptyType lowestFrom
+slab-honest = (
+  record { inGrid = lit< tt; listed = lit< tt; neighbours = six _ refl refl refl refl refl refl },
+  tt,
+  (record { inGrid = lit< tt; listed = lit< tt; neighbours = six _ refl refl refl refl refl refl }, (refl, lit< tt), tt),
+)
+
+slab-mends : Mends (world G) ground (entriesOf slabLog)
+unfolding each entryAt
+slab-mends = (record { cube = refl; wasListed = lit< tt; wasEmpty = refl }, (tt, tt))
+
+bare-meshed : bare .answer .number ≡ 0
+unfolding answers._then_ answers.refuseIf answers.badLimits answers.BAD-TYPES answers.badCounts lowestFrom answers.badType answers.BAD-NUMBER answers.notACube types.isCube every types.classed types.classOf types.classAt types.classOn ieee.eq ieee.ofBits ieee.lt answers.roomOf meshBy each neighbour
+bare-meshed = refl
+
+slab-unrefused : laidOn .answer .number ≡ 0
+unfolding answers._then_ answers.refuseIf answers.badLimits answers.BAD-TYPES answers.badCounts lowestFrom answers.badType answers.BAD-NUMBER answers.notACube types.isCube every types.classed types.classOf types.classAt types.classOn ieee.eq ieee.ofBits ieee.lt answers.roomOf meshBy each neighbour count laid slotted answers.badLink answers.BAD-LINKS same answers.badEntry answers.BAD-ENTRY courseFrom entryAt needed ops remove removeAt types.quadWords
+slab-unrefused = refl
+
+pub slab-witness : checkMesh G [] (gridLog (world G) (entriesOf slabLog) ground) (laidOn .lists) (laidOn .answer .quads) ≡ answered 0 0
+slab-witness =
+    mended-accepted itself G ground slabLog (bare .lists) (bare .answer .quads) (rw (fresh-accepted G [] ground (lent 12 2) bare-meshed))
+    slab-honest slab-mends (itself-alike (world G) (entriesOf slabLog)) slab-unrefused

@@ -10,7 +10,7 @@ use Rattle.rules.specs.Cells.{Size, Triple, cells, coordinates}
 use Rattle.rules.specs.Types.{Types, floats, cubeOf, quadWords}
 use Rattle.rules.specs.Cube.{Shape, floatsOf, cubeWords}
 use Rattle.rules.specs.Mesh.{Quad, World, Lists, culled, naive, layout, decode}
-use Rattle.rules.specs.Update.{Entry, entryAt, Tested, source, work, Course, courseFrom}
+use Rattle.rules.specs.Update.{Entry, entryAt, Tested, work, Course, courseFrom}
 use Rattle.rules.specs.Answers.{Verdict, fine, refuse, _then_, BAD-SIZE, BAD-GRID, BAD-TYPES, BAD-NUMBER, BAD-ATLAS, NOT-A-CUBE, BAD-OUTER, BAD-TEXTURE, BAD-CELL, SHORT-SLOTS, SHORT-CUBE, roomOf, BAD-COUNT, BAD-LINKS, BAD-TRIANGLES, BAD-ENTRY, NO-ROOM, WRONG-SET, WRONG-VERTEX}
 
 -- what a call answers: 0, or a refusal's number and place; Q and `moved`
@@ -119,11 +119,8 @@ abbrev pub updateBy : Verdict → Scene → Course → Lists → Outcome
 updateBy fine S c B = record { answer = courseAnswer c (c .full); lists = layout (faces S) (span S) (c .highest) (c .quads) B }
 updateBy (refuse n p) S c B = record { answer = refused n p; lists = B }
 
-abbrev pub updateMeshBy : Tested → Scene → List ℕ → Lists → ℕ → Outcome
-updateMeshBy tested S log B Q = updateBy (updateVerdict S log B Q) S (course tested S log B Q) B
-
-abbrev pub updateMesh : Scene → List ℕ → Lists → ℕ → Outcome
-updateMesh S log B Q = updateMeshBy source S log B Q
+abbrev pub updateMesh : Tested → Scene → List ℕ → Lists → ℕ → Outcome
+updateMesh tested S log B Q = updateBy (updateVerdict S log B Q) S (course tested S log B Q) B
 
 -- ---- Check: 2, 3, 4, 6 to 12, 15, 16
 

@@ -9,7 +9,7 @@ use Rattle.rules.specs.Cells.{Size, Triple, cells, has}
 use Rattle.rules.specs.Types.{Types}
 use Rattle.rules.specs.Cube.{Shape, floatsOf}
 use Rattle.rules.specs.Mesh.{Lists, Quad, decode}
-use Rattle.rules.specs.Update.{u32At}
+use Rattle.rules.specs.Update.{u32At, source}
 use Rattle.rules.specs.Answers.{Verdict, fine, refuse, refuseIf}
 use Rattle.rules.specs.Calls.{Answer, refused, CubeOutcome, generateVoxelMesh, Scene, Outcome, meshGrid, updateMesh, span, faces}
 
@@ -126,9 +126,9 @@ roomIn file =
       slots = replicate (6 * cells (sizeIn file)) 0;
     }
 
--- the mesh, then the update, unless the mesh refuses
+-- the mesh, then the update, unless the mesh refuses; the file has no place for the mode, which is the source's
 abbrev pub updateAfter : Scene → List ℕ → Outcome → ℕ → Outcome
-updateAfter S log o zero = updateMesh S log (o .lists) (o .answer .quads)
+updateAfter S log o zero = updateMesh source S log (o .lists) (o .answer .quads)
 updateAfter S log o (suc n) = o
 
 abbrev pub worked : List ℕ → Scene → Outcome

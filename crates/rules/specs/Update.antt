@@ -111,12 +111,17 @@ pub record Work : Type 0 where
   pub new : List Quad
   pub facing : List ℕ
 
--- the side of an Added voxel that decides whether the neighbour at face i loses its facing quad; the source tests the opposite of i
+-- the side of an Added voxel that decides whether the neighbour at face i loses its facing quad
 abbrev pub Tested : Type 0
 Tested = ℕ → ℕ
 
+-- the opposite of i (source)
 abbrev pub source : Tested
 source = opposite
+
+-- i itself (02, Q-2)
+abbrev pub itself : Tested
+itself i = i
 
 abbrev pub quadOf : World → ℕ → ℕ → ℕ → Quad
 quadOf W t c f = record { key = keyOf c f; words = W .wordsOf t f c }
@@ -248,19 +253,32 @@ abbrev pub Honest : World → List ℕ → List Entry → Type 0
 Honest W g [] = Unit {0}
 Honest W g (e ∷ es) = Told W g e × TrueBy W g e (e .change) × Honest W (gridAfter W g e) es
 
--- demand 3's logs: an Added entry puts a cube into an empty cell, and covers the side that is tested as the side itself
-pub record Fills (tested : Tested) (W : World) (g : List ℕ) (e : Entry) : Type 0 where
+-- demand 3's logs: an Added entry puts a cube into an empty cell
+pub record Fills (W : World) (g : List ℕ) (e : Entry) : Type 0 where
   pub cube : isNormalCube W (e .type) ≡ true
   pub wasListed : typeAt g (e .cell) < length (W .kinds)
   pub wasEmpty : isEmpty W (typeAt g (e .cell)) ≡ true
-  pub alike : (f : ℕ) → f < 6 → covering W (e .type) (tested f) ≡ covering W (e .type) f
 
-abbrev pub MendsBy : Tested → World → List ℕ → Entry → Change → Type 0
-MendsBy tested W g e Broken = Unit {0}
-MendsBy tested W g e Added = Fills tested W g e
-MendsBy tested W g e CullFaces = ⊥
-MendsBy tested W g e AddFaces = ⊥
+abbrev pub MendsBy : World → List ℕ → Entry → Change → Type 0
+MendsBy W g e Broken = Unit {0}
+MendsBy W g e Added = Fills W g e
+MendsBy W g e CullFaces = ⊥
+MendsBy W g e AddFaces = ⊥
 
-abbrev pub Mends : Tested → World → List ℕ → List Entry → Type 0
-Mends tested W g [] = Unit {0}
-Mends tested W g (e ∷ es) = MendsBy tested W g e (e .change) × Mends tested W (gridAfter W g e) es
+abbrev pub Mends : World → List ℕ → List Entry → Type 0
+Mends W g [] = Unit {0}
+Mends W g (e ∷ es) = MendsBy W g e (e .change) × Mends W (gridAfter W g e) es
+
+-- what the source's mode asks besides: each cube that is Added covers the side that is tested as the side itself
+abbrev pub Alike : Tested → World → ℕ → Type 0
+Alike tested W t = (f : ℕ) → f < 6 → covering W t (tested f) ≡ covering W t f
+
+abbrev pub AlikeBy : Tested → World → Entry → Change → Type 0
+AlikeBy tested W e Broken = Unit {0}
+AlikeBy tested W e Added = isNormalCube W (e .type) ≡ true → Alike tested W (e .type)
+AlikeBy tested W e CullFaces = Unit {0}
+AlikeBy tested W e AddFaces = Unit {0}
+
+abbrev pub AddsAlike : Tested → World → List Entry → Type 0
+AddsAlike tested W [] = Unit {0}
+AddsAlike tested W (e ∷ es) = AlikeBy tested W e (e .change) × AddsAlike tested W es

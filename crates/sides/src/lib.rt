@@ -48,9 +48,11 @@ pub fn is_covering(covers: &[u8], voxel: u8, face: Face) -> bool
     has(covers[t], face)
 }
 
-// Which side of an added voxel decides whether the neighbour at a face loses its facing quad.
+// Which side of an added voxel decides whether the neighbour at a face loses its facing quad: the opposite of the face, as the source has it, or
+// the face itself.
 pub enum Tested {
     Opposite,
+    Itself,
 }
 
 impl Tested {
@@ -59,6 +61,7 @@ impl Tested {
     {
         match self {
             Tested::Opposite => face.opposite(),
+            Tested::Itself => face,
         }
     }
 }

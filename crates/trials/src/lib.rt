@@ -5,7 +5,7 @@
 // A base: 0; width, height, length; whether coloured; d; centre (0 to 10); the lengths of eight lists, which are grid, kinds, sets, registry,
 // vertices, triangles, links, slots (11 to 18); then these lists, a word for each byte of the first three. The last four hold a mesh and spare room.
 //
-// A trial: 1; the call, which is 0 meshing by Naive, 1 by Culling, 2 an update, 3 a check; 1 if it goes on from what the trial before left, else it
+// A trial: 1; the call, which is 0 meshing by Naive, 1 by Culling, 2 an update by the opposite side, 3 a check, 4 an update by the side itself; 1 if it goes on from what the trial before left, else it
 // starts from the base; the quads given (0 to 3); how much is lent of each of the eight lists (4 to 11); the numbers of bytes of outer list and log
 // (12, 13); what must be answered, which is number, place, quads, moved, each 0 where the answer has none (14 to 17); the number of words that
 // patch the base before the call (18); then outer list and log, four bytes a word, each from a word's start; these patches; and up to the
@@ -20,6 +20,7 @@ use floats::Triple;
 use meshem::Meshed;
 use meshem::MeshingAlgorithm;
 use meshem::mesh_grid;
+use sides::Tested;
 use update::Updated;
 use update::update_mesh;
 use util::Dimensions;
@@ -399,6 +400,14 @@ fn are_as_expected(
         & starts_with(slots, &image[to_slots..end])
 }
 
+fn tested_by(call: u32) -> Tested {
+    if call == 2 {
+        Tested::Opposite
+    } else {
+        Tested::Itself
+    }
+}
+
 fn answer(
     trial: &[u32],
     scene: Scene,
@@ -417,7 +426,7 @@ fn answer(
 {
     let call = trial[1];
     let quads = size(trial[3]);
-    if call == 2 {
+    if call == 2 || call == 4 {
         return told_by_update(update_mesh(
             vertices,
             triangles,
@@ -427,6 +436,7 @@ fn answer(
             kinds,
             covers,
             registry,
+            tested_by(call),
             log,
             quads,
         ));

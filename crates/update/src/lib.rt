@@ -134,7 +134,7 @@ pub enum Updated {
     Refused(Refusal, usize, Count),
 }
 
-// Mends the mesh in place, entry by entry of the log.
+// Mends the mesh in place, entry by entry of the log, by the side tested.
 pub fn update_mesh(
     vertices: &mut [u32],
     triangles: &mut [u32],
@@ -144,10 +144,11 @@ pub fn update_mesh(
     kinds: &[u8],
     covers: &[u8],
     cubes: &[u32],
+    tested: Tested,
     log: &[u8],
     quads: usize,
 ) -> Updated
-    ensures { λ r. ⌜ outcomeOf r (listsOf (now (vertices .exit)) (now (triangles .exit)) (now (links .exit)) (now (slots .exit))) ≡ updateMesh (sceneOf scene (now (kinds .entry)) (now (covers .entry)) (now (cubes .entry))) (now (log .entry)) (listsOf (now (vertices .entry)) (now (triangles .entry)) (now (links .entry)) (now (slots .entry))) quads ⌝ }
+    ensures { λ r. ⌜ outcomeOf r (listsOf (now (vertices .exit)) (now (triangles .exit)) (now (links .exit)) (now (slots .exit))) ≡ updateMesh (testedBy tested) (sceneOf scene (now (kinds .entry)) (now (covers .entry)) (now (cubes .entry))) (now (log .entry)) (listsOf (now (vertices .entry)) (now (triangles .entry)) (now (links .entry)) (now (slots .entry))) quads ⌝ }
 {
     let verdict = update_verdict(
         scene,
@@ -177,7 +178,7 @@ pub fn update_mesh(
         kinds,
         covers,
         cubes,
-        Tested::Opposite,
+        tested,
         log,
         room,
         quads,

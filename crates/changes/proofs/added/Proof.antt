@@ -19,9 +19,10 @@ use Rattle.flat.specs.Flat.{State, flatRun}
 use Rattle.flat.specs.Courses.{flatNeeded, going, flowOne}
 use Rattle.mending.specs.States.{stateOf}
 use Rattle.flat.specs.Holding.{Ready}
+use Rattle.rules.proofs.Modes.{hides-same}
 use Rattle.flat.proofs.Facings.{shaped}
 use Rattle.flat.proofs.Entering.{entry-ground, flow-on, flow-full, run-work, ready-own, ready-new, ready-facing}
-use Rattle.flat.proofs.Changes.{whole-cell, run-as, ready-as, ground-after, given-quads, Asks, added-asks, change-ready, idle-flow, hide-same}
+use Rattle.flat.proofs.Changes.{whole-cell, run-as, ready-as, ground-after, given-quads, Asks, added-asks, change-ready, idle-flow}
 use borrow.Author.Needs.{needs}
 use Rattle.changes.proofs.added.Statement.{statement}
 use Rattle.changes.proofs.added.Tie as tie
@@ -96,7 +97,8 @@ facing-keys : (t : tie.Start) →
     ≡ work t .facing
 facing-keys t =
     let a = t .args in
-    hide-same (testedBy (a .tested)) (world (sceneOf (a .scene) [] (a .covers .now) [])) (world (scene t)) (a .entry .voxel) (a .entry .cell .0) refl refl
+    hides-same (testedBy (a .tested)) (testedBy (a .tested)) (world (sceneOf (a .scene) [] (a .covers .now) [])) (world (scene t)) (a .entry .voxel)
+    (a .entry .cell .0) (λ i h. refl) refl
 
 is-normal-cube-requires : tie.Need-is-normal-cube-requires
 is-normal-cube-requires c κs = search needs

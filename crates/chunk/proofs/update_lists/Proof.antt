@@ -1,6 +1,7 @@
 -- `chunk::update_lists` meets its contract. Assumes nothing.
 use mathlib.Core.Path.{_∙_}
 use denote.Ref.{now}
+use Rattle.rules.specs.Update.{source}
 use Rattle.rules.specs.Calls.{updateMesh}
 use Rattle.rules.specs.Mesh.{listsOf}
 use Rattle.chunk.proofs.Reading.{scene-read}
@@ -42,7 +43,7 @@ returns c =
     let scene = scene-read (now (a .file)) (read .read-work .result) (coloured .flag .result) (read .read-work .ensures) (coloured .flag .ensures)
     (now (a .kinds)) (now (a .covers)) (now (a .cubes)) in
     let lists = listsOf (now (a .vertices)) (now (a .triangles)) (now (a .links)) (now (a .slots)) in
-    called .meshem-update-mesh .ensures ∙ (λ i. updateMesh (scene i) (log .log-of .ensures i) lists (a .count))
+    called .meshem-update-mesh .ensures ∙ (λ i. updateMesh source (scene i) (log .log-of .ensures i) lists (a .count))
 
 pub update-lists-spec : {M : Type 1} → statement M
 update-lists-spec =

@@ -5,6 +5,7 @@ use Rattle.rules.specs.Mesh.{Lists, listsOf}
 use Rattle.rules.specs.Answers.{fine}
 use Rattle.rules.specs.Calls.{Scene, checkVerdict}
 use Rattle.admit.specs.Scenes.{sceneOf}
+use Rattle.sides.specs.Tests.{testedBy}
 use Rattle.answers.proofs.Chains.{stops, passes}
 use Rattle.demands.proofs.Composed.{updates, mended, refused, promised}
 use borrow.Author.Needs.{needs}
@@ -51,7 +52,7 @@ returns : tie.Need-returns
 returns c =
     let k = c .before .before in
     let t = start k in
-    promised (scene t) (t .args .grid .now) (t .args .log .now) (t .args .left .now) (lists t) (t .args .quads)
+    promised (t .args .tested) (scene t) (t .args .grid .now) (t .args .log .now) (t .args .left .now) (lists t) (t .args .quads)
     (stops _ _ _ (k .check-mesh .ensures) (sym (c .before .is-refusal .ensures) ∙ c .if1 .taken))
 
 update-mesh-requires : tie.Need-update-mesh-requires
@@ -84,8 +85,8 @@ returns-2 c =
     let u = told .before .before .before .before .before .before .before .before .before .before .before in
     let o = u .before .before .before .before .before in
     let t = start (o .before .before) in
-    promised (scene t) (t .args .grid .now) (t .args .log .now) (t .args .left .now) (lists t) (t .args .quads)
-    (mended (scene t) (t .args .grid .now) (t .args .log .now) (t .args .left .now) (lists t) (t .args .quads) (exit u)
+    promised (t .args .tested) (scene t) (t .args .grid .now) (t .args .log .now) (t .args .left .now) (lists t) (t .args .quads)
+    (mended (testedBy (t .args .tested)) (scene t) (t .args .grid .now) (t .args .log .now) (t .args .left .now) (lists t) (t .args .quads) (exit u)
     (told .before .mended .given .0 .0) (first-fine o)
     (updates (exit u) (told .before .mended .given .1) (u .update-mesh .ensures)) (c .check-mesh2 .ensures))
 
@@ -106,8 +107,8 @@ returns-3 c =
     let u = c .before .before .before .before .before .before .before .before .before .before .before in
     let o = u .before .before .before .before .before in
     let t = start (o .before .before) in
-    promised (scene t) (t .args .grid .now) (t .args .log .now) (t .args .left .now) (lists t) (t .args .quads)
-    (refused (scene t) (t .args .grid .now) (t .args .log .now) (t .args .left .now) (lists t) (t .args .quads) (exit u)
+    promised (t .args .tested) (scene t) (t .args .grid .now) (t .args .log .now) (t .args .left .now) (lists t) (t .args .quads)
+    (refused (testedBy (t .args .tested)) (scene t) (t .args .grid .now) (t .args .log .now) (t .args .left .now) (lists t) (t .args .quads) (exit u)
     (c .before .mended2 .given .0 .0) (c .before .mended2 .given .0 .1 .0) (c .before .mended2 .given .0 .1 .1 .0) (first-fine o)
     (updates (exit u) (c .before .mended2 .given .1) (u .update-mesh .ensures)))
 

@@ -11,6 +11,9 @@ use Rattle.exports.proofs.meshem_update_mesh.Tie as tie
 scene-of-requires : tie.Need-scene-of-requires
 scene-of-requires c κs = search needs
 
+tested-of-requires : tie.Need-tested-of-requires
+tested-of-requires c κs = search needs
+
 update-mesh-requires : tie.Need-update-mesh-requires
 update-mesh-requires c κs = search needs
 
@@ -32,17 +35,19 @@ same-length-4 c = search needs
 returns : tie.Need-returns
 returns c =
     let m = c .before .before .before .before .before .before .before .before .before in
-    let s = m .before .before .before .before .before in
+    let side = m .before .before .before .before .before in
+    let s = side .before in
     let a = s .before .before .before .before .before .before .before .before .before .args in
     let scene = s .scene-of .ensures (now (a .kinds)) (now (a .covers)) (now (a .cubes)) in
     let lists = listsOf (now (a .vertices)) (now (a .triangles)) (now (a .links)) (now (a .slots)) in
-    mesh-told (c .told-by-update .ensures) (m .update-mesh .ensures ∙ (λ i. updateMesh (scene i) (now (a .log)) lists (a .count)))
+    mesh-told (c .told-by-update .ensures) (m .update-mesh .ensures ∙ (λ i. updateMesh (side .tested-of .ensures i) (scene i) (now (a .log)) lists (a .count)))
 
 pub meshem-update-mesh-spec : {M : Type 1} → statement M
 meshem-update-mesh-spec =
     tie.close
     (tie.spec
     scene-of-requires
+    tested-of-requires
     update-mesh-requires
     told-by-update-requires
     same-length

@@ -3,13 +3,14 @@ use mathlib.Core.Path.{_≡_, refl, sym, ap, _∙_}
 use Prim.Native.Nat.{ℕ, _*_}
 use lib.Seq.{length-take-le}
 use Rattle.rules.specs.Mesh.{Lists, listsOf}
-use Rattle.rules.specs.Update.{source}
+use Rattle.rules.specs.Update.{Tested}
 use Rattle.rules.specs.Answers as rules
 use Rattle.rules.specs.Answers.{fine}
 use Rattle.rules.specs.Calls.{Scene, faces, room, updateVerdict, updateBy, course}
 use Rattle.answers.specs.Verdicts.{verdictOf}
 use Rattle.admit.specs.Scenes.{sceneOf}
 use Rattle.admit.proofs.Admitting.{sized}
+use Rattle.sides.specs.Tests.{testedBy}
 use Rattle.changes.specs.declared.Ran.{Ran}
 use Rattle.changes.specs.Ran.{ranOf}
 use Rattle.flat.proofs.Whole.{size-fine, lent-ends, lent-logging, lent-outcome}
@@ -19,6 +20,9 @@ use Rattle.update.proofs.update_mesh.Tie as tie
 
 abbrev scene : tie.Start → Scene
 scene t = let a = t .args in sceneOf (a .scene) (a .kinds .now) (a .covers .now) (a .cubes .now)
+
+abbrev side : tie.Start → Tested
+side t = testedBy (t .args .tested)
 
 abbrev lists : tie.Start → Lists
 lists t = let a = t .args in listsOf (a .vertices .now) (a .triangles .now) (a .links .now) (a .slots .now)
@@ -54,7 +58,7 @@ returns : tie.Need-returns
 returns c =
     let t = c .before .before .before .before .before .before .before .before .before .before .before .before .before .before .before .before in
     let a = t .args in
-    sym (ap (λ (v : rules.Verdict). updateBy v (scene t) (course source (scene t) (a .log .now) (lists t) (a .quads)) (lists t))
+    sym (ap (λ (v : rules.Verdict). updateBy v (scene t) (course (side t) (scene t) (a .log .now) (lists t) (a .quads)) (lists t))
     (sym (c .before .before .before .update-verdict .ensures) ∙ ap verdictOf (c .before .verdict .given .1)))
 
 enum-told : tie.Need-enum-told
@@ -63,7 +67,7 @@ enum-told c = search needs
 cell-count-requires : tie.Need-cell-count-requires
 cell-count-requires c κs =
     let t = c .before .before .before .before .before .before .before .before .before .before .before .before .before .before .before .before in
-    sized (scene t) (size-fine source (scene t) (t .args .log .now) (lists t) (t .args .quads) (accepted (c .before))) .sides
+    sized (scene t) (size-fine (side t) (scene t) (t .args .log .now) (lists t) (t .args .quads) (accepted (c .before))) .sides
 
 cast-six : tie.Need-cast-six
 cast-six c = search needs
@@ -77,17 +81,17 @@ room-of-requires c κs = search needs
 slice-relend-prefix-run-log : tie.Need-slice-relend-prefix-run-log
 slice-relend-prefix-run-log c =
     let t = c .before .before .before .before .before .before .before .before .before .before .before .before .before .before .before .before .before .before .before .before .before in
-    lent-ends source (scene t) (t .args .log .now) (lists t) (t .args .quads) (accepted (c .before .before .before .before .before .before)) (six (c .before .before .before .before)) (found (c .before .before .before))
+    lent-ends (side t) (scene t) (t .args .log .now) (lists t) (t .args .quads) (accepted (c .before .before .before .before .before .before)) (six (c .before .before .before .before)) (found (c .before .before .before))
 
 slice-aggregate-run-log : tie.Need-slice-aggregate-run-log
 slice-aggregate-run-log c =
     let t = c .before .before .before .before .before .before .before .before .before .before .before .before .before .before .before .before .before .before .before .before .before .before in
-    sym (length-take-le _ (t .args .slots .now) (lent-ends source (scene t) (t .args .log .now) (lists t) (t .args .quads) (accepted (c .before .before .before .before .before .before .before)) (six (c .before .before .before .before .before)) (found (c .before .before .before .before))))
+    sym (length-take-le _ (t .args .slots .now) (lent-ends (side t) (scene t) (t .args .log .now) (lists t) (t .args .quads) (accepted (c .before .before .before .before .before .before .before)) (six (c .before .before .before .before .before)) (found (c .before .before .before .before))))
 
 run-log-requires : tie.Need-run-log-requires
 run-log-requires c κs =
     let t = c .before .before .before .before .before .before .before .before .before .before .before .before .before .before .before .before .before .before .before .before .before .before .before in
-    lent-logging source (scene t) (t .args .log .now) (lists t) (t .args .quads) (accepted (c .before .before .before .before .before .before .before .before)) (six (c .before .before .before .before .before .before)) (found (c .before .before .before .before .before))
+    lent-logging (side t) (scene t) (t .args .log .now) (lists t) (t .args .quads) (accepted (c .before .before .before .before .before .before .before .before)) (six (c .before .before .before .before .before .before)) (found (c .before .before .before .before .before))
 
 enum-known-ran : tie.Need-enum-known-ran
 enum-known-ran c = search needs
@@ -113,7 +117,7 @@ returns-2 c =
     let roomed = went .before .before .before .before .before .before in
     let t = roomed .before .before .before .before .before .before .before .before .before .before .before .before .before .before .before .before .before .before in
     let r = went .run-log in
-    lent-outcome source (scene t) (t .args .log .now) (lists t) (t .args .quads) (accepted (roomed .before .before .before)) (six (roomed .before)) (found roomed)
+    lent-outcome (side t) (scene t) (t .args .log .now) (lists t) (t .args .quads) (accepted (roomed .before .before .before)) (six (roomed .before)) (found roomed)
     (ap (λ (x : Ran). ranOf x (listsOf (r .last .0) (r .last .1 .0) (r .last .1 .1 .0) (r .last .1 .1 .1 .0)) (r .last .1 .1 .1 .1 .1 .1 .1 .1 .1 .1 .1 .1 .0)) (sym (c .before .ran .given .1)) ∙ r .ensures)
 
 same-length-9 : tie.Need-same-length-9
@@ -134,7 +138,7 @@ returns-3 c =
     let roomed = went .before .before .before .before .before .before in
     let t = roomed .before .before .before .before .before .before .before .before .before .before .before .before .before .before .before .before .before .before in
     let r = went .run-log in
-    lent-outcome source (scene t) (t .args .log .now) (lists t) (t .args .quads) (accepted (roomed .before .before .before)) (six (roomed .before)) (found roomed)
+    lent-outcome (side t) (scene t) (t .args .log .now) (lists t) (t .args .quads) (accepted (roomed .before .before .before)) (six (roomed .before)) (found roomed)
     (ap (λ (x : Ran). ranOf x (listsOf (r .last .0) (r .last .1 .0) (r .last .1 .1 .0) (r .last .1 .1 .1 .0)) (r .last .1 .1 .1 .1 .1 .1 .1 .1 .1 .1 .1 .1 .0)) (sym (c .before .ran2 .given .1)) ∙ r .ensures)
 
 pub update-mesh-spec : {M : Type 1} → statement M

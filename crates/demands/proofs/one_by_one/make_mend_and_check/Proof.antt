@@ -50,7 +50,7 @@ returns c =
     let told = call .before .before .before .before .before in
     let m = told .before .before .before .before .before .before .before .before .before .before .before in
     let t = start m in
-    chained (scene t) (t .args .grid .now) (t .args .log .now) (t .args .left .now) (lists t) _
+    chained (t .args .tested) (scene t) (t .args .grid .now) (t .args .log .now) (t .args .left .now) (lists t) _
     (told .before .made .given .0 .0) (meshes (told .before .made .given .1) (m .mesh-grid .ensures))
     (call .mend-each-and-check .ensures)
 
@@ -70,7 +70,7 @@ returns-2 : tie.Need-returns-2
 returns-2 c =
     let m = c .before .before .before .before .before .before .before .before .before .before .before in
     let t = start m in
-    unmade (scene t) (t .args .grid .now) (t .args .log .now) (t .args .left .now) (lists t) _
+    unmade (t .args .tested) (scene t) (t .args .grid .now) (t .args .log .now) (t .args .left .now) (lists t) _
     (c .before .made2 .given .0 .0) (c .before .made2 .given .0 .1 .0)
     (meshes (c .before .made2 .given .1) (m .mesh-grid .ensures))
 

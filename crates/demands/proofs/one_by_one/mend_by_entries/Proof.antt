@@ -5,9 +5,11 @@ use Prim.Native.Nat.{ℕ, _-_, _*_, _/_}
 use native.Mathlib.Omega.{arith}
 use lib.ListN.{length}
 use Rattle.rules.specs.Mesh.{Lists, listsOf}
+use Rattle.rules.specs.Update.{Tested}
 use Rattle.rules.specs.Calls.{Scene, updateMesh}
 use Rattle.vav.proofs.Laws.{part-lent}
 use Rattle.admit.specs.Scenes.{sceneOf}
+use Rattle.sides.specs.Tests.{testedBy}
 use Rattle.update.specs.Outcome.{outcomeOf}
 use Rattle.demands.specs.OneByOne.{entryLog}
 use Rattle.demands.proofs.Composed.{updates}
@@ -17,12 +19,12 @@ use Rattle.demands.proofs.one_by_one.mend_by_entries.Statement.{stateme
 use Rattle.demands.proofs.one_by_one.mend_by_entries.Tie as tie
 
 abbrev Inv-loop : tie.InvT-loop
-Inv-loop vertices₀ triangles₀ links₀ slots₀ scene kinds covers cubes log quads entries left₀ k₀ vertices triangles links slots left k =
-    Calling (sceneOf scene kinds covers cubes) log (length log / 12) (listsOf vertices₀ triangles₀ links₀ slots₀) left₀ k
+Inv-loop vertices₀ triangles₀ links₀ slots₀ scene kinds covers cubes tested log quads entries left₀ k₀ vertices triangles links slots left k =
+    Calling (testedBy tested) (sceneOf scene kinds covers cubes) log (length log / 12) (listsOf vertices₀ triangles₀ links₀ slots₀) left₀ k
     (listsOf vertices triangles links slots) left
 
 abbrev μ-loop : tie.MeasureT-loop
-μ-loop vertices₀ triangles₀ links₀ slots₀ scene kinds covers cubes log quads entries left₀ k₀ vertices triangles links slots left k =
+μ-loop vertices₀ triangles₀ links₀ slots₀ scene kinds covers cubes tested log quads entries left₀ k₀ vertices triangles links slots left k =
     length log / 12 - k
 
 abbrev test : tie.After-update-mesh Inv-loop μ-loop → tie.In-loop Inv-loop μ-loop
@@ -33,6 +35,9 @@ start i = i .before .before .before .before .before .before .before .before .bef
 
 abbrev scene : tie.Start Inv-loop μ-loop → Scene
 scene t = let a = t .args in sceneOf (a .scene) (a .kinds .now) (a .covers .now) (a .cubes .now)
+
+abbrev side : tie.Start Inv-loop μ-loop → Tested
+side t = testedBy (t .args .tested)
 
 abbrev lists : tie.Start Inv-loop μ-loop → Lists
 lists t = let a = t .args in listsOf (a .vertices .now) (a .triangles .now) (a .links .now) (a .slots .now)
@@ -45,18 +50,18 @@ exit u = let l = u .update-mesh .last in listsOf (l .0) (l .1 .0) (l .1 .1 .0) (
 
 called : (u : tie.After-update-mesh Inv-loop μ-loop) → let i = test u in
     outcomeOf (u .update-mesh .result) (exit u)
-    ≡ updateMesh (scene (start i)) (entryLog (start i .args .log .now) (i .before .loop .k)) (here i) (i .before .loop .left)
+    ≡ updateMesh (side (start i)) (scene (start i)) (entryLog (start i .args .log .now) (i .before .loop .k)) (here i) (i .before .loop .left)
 called u =
     let i = test u in
     let l = i .before .loop in
     let log = start i .args .log .now in
     u .update-mesh .ensures
-    ∙ ap (λ (one : List ℕ). updateMesh (scene (start i)) one (here i) (l .left)) (part-lent (12 * l .k) 12 log)
+    ∙ ap (λ (one : List ℕ). updateMesh (side (start i)) (scene (start i)) one (here i) (l .left)) (part-lent (12 * l .k) 12 log)
 
 loop-holds : tie.Need-loop-holds Inv-loop μ-loop
 loop-holds c =
     let t = c .before .before .before .before .before .before .before .before in
-    starts (scene t) (t .args .log .now) (length (t .args .log .now) / 12) (lists t) (t .args .quads)
+    starts (side t) (scene t) (t .args .log .now) (length (t .args .log .now) / 12) (lists t) (t .args .quads)
 
 mul-at : tie.Need-mul-at Inv-loop μ-loop
 mul-at c = search needs
@@ -100,14 +105,14 @@ returns c =
     let i = test u in
     let t = start i in
     let l = i .before .loop in
-    refuses (scene t) (t .args .log .now) (length (t .args .log .now) / 12) (lists t) (t .args .quads) (l .k) (here i) (l .left) (exit u)
+    refuses (side t) (scene t) (t .args .log .now) (length (t .args .log .now) / 12) (lists t) (t .args .quads) (l .k) (here i) (l .left) (exit u)
     (c .before .mended2 .given .0 .0) (c .before .mended2 .given .0 .1 .0) (c .before .mended2 .given .0 .1 .1 .0)
     (i .loop-test .taken) (l .inv) (updates (exit u) (c .before .mended2 .given .1) (called u))
 
 add-k : tie.Need-add-k Inv-loop μ-loop
 add-k c =
     let i = test (c .before .before .before .before .before .before .before .before .before .before .before) in
-    omega (arith, i .loop-test .taken, start i .good .1 .1 .1 .1 .1 .1 .1 .1 .0 .0)
+    omega (arith, i .loop-test .taken, start i .good .1 .1 .1 .1 .1 .1 .1 .1 .1 .0 .0)
 
 loop-less : tie.Need-loop-less Inv-loop μ-loop
 loop-less c = let h = test (c .before .before .before .before .before .before .before .before .before .before .before) .loop-test .taken in omega arith
@@ -118,7 +123,7 @@ loop-again c =
     let i = test u in
     let t = start i in
     let l = i .before .loop in
-    goes-on (scene t) (t .args .log .now) (length (t .args .log .now) / 12) (lists t) (t .args .quads) (l .k) (here i) (l .left) (exit u)
+    goes-on (side t) (scene t) (t .args .log .now) (length (t .args .log .now) / 12) (lists t) (t .args .quads) (l .k) (here i) (l .left) (exit u)
     (c .before .mended .given .0 .0) (i .loop-test .taken) (l .inv)
     (let k = u .update-mesh .kept in record { vertices = k .0; triangles = k .1 .0; links = k .1 .1 .0; slots = k .1 .1 .1 .0 })
     (updates (exit u) (c .before .mended .given .1) (called u))
@@ -139,7 +144,7 @@ returns-2 : tie.Need-returns-2 Inv-loop μ-loop
 returns-2 c =
     let t = c .before .before .before .before .before .before .before .before .before .before in
     let l = c .before .loop in
-    ends (scene t) (t .args .log .now) (length (t .args .log .now) / 12) (lists t) (t .args .quads) (l .k)
+    ends (side t) (scene t) (t .args .log .now) (length (t .args .log .now) / 12) (lists t) (t .args .quads) (l .k)
     (listsOf (l .vertices) (l .triangles) (l .links) (l .slots)) (l .left)
     (let h = c .loop-test .left in omega arith) (l .inv)
 

@@ -1,0 +1,79 @@
+-- The two modes of an update: the side that Added tests is the opposite (source) or the side itself (02, Q-2). Assumes nothing.
+use mathlib.Core.Path.{_≡_, refl, ap, _∙_}
+use mathlib.Core.Bool.{true, cond}
+use mathlib.Core.List.{List, [], _∷_}
+use mathlib.Core.Option.{Option, none, some}
+use Prim.Native.Nat.{ℕ, zero, suc, _+_, _/_, _≤_, _<_}
+use native.Mathlib.Omega.{arith}
+use native.Mathlib.Decide.{ℕ-discrete}
+use lib.ListN.{length}
+use Rattle.rules.specs.Lists.{each}
+use Rattle.rules.specs.Cells.{Size, neighbour}
+use Rattle.rules.specs.Mesh.{World, Lists, isNormalCube, covering, decode}
+use Rattle.rules.specs.Update.{Change, Broken, Added, CullFaces, AddFaces, Entry, entryAt, Tested, itself, hide, nothing, added, workBy, work, Course, Alike, AlikeBy, AddsAlike}
+use Rattle.rules.specs.Calls.{Scene, world, span, room, entriesOf, updateVerdict, updateBy, updateMesh}
+use Rattle.rules.proofs.ListLaws.{split, each-same}
+use Rattle.rules.proofs.Courses.{course-alike}
+
+-- ---- what a log's cubes cover
+
+-- an entry asks nothing where every cube covers alike
+alike-by : (tested : Tested) (W : World) → ((t : ℕ) → isNormalCube W t ≡ true → Alike tested W t) → (e : Entry) (k : Change) → AlikeBy tested W e k
+alike-by tested W cubes e Broken = tt
+alike-by tested W cubes e Added = cubes (e .type)
+alike-by tested W cubes e CullFaces = tt
+alike-by tested W cubes e AddFaces = tt
+
+-- LAW: where every cube of the table covers alike, those that a log adds do
+pub table-alike : (tested : Tested) (W : World) → ((t : ℕ) → isNormalCube W t ≡ true → Alike tested W t) → (es : List Entry) → AddsAlike tested W es
+table-alike tested W cubes [] = tt
+table-alike tested W cubes (e ∷ es) = (alike-by tested W cubes e (e .change), table-alike tested W cubes es)
+
+-- LAW: any cube covers the side itself as the side itself, so the new mode asks nothing of covers
+pub itself-alike : (W : World) (es : List Entry) → AddsAlike itself W es
+itself-alike W = table-alike itself W (λ t c f h. refl)
+
+-- the entries one by one
+alike-at : (tested : Tested) (W : World) (entry : ℕ → Entry) (i n : ℕ) → AddsAlike tested W (each n i (λ j. entry j ∷ []))
+    → (j : ℕ) → i ≤ j → j < i + n → AlikeBy tested W (entry j) ((entry j) .change)
+unfolding each
+alike-at tested W entry i zero h j a b = absurd (omega arith)
+alike-at tested W entry i (suc n) h j a b = go (ℕ-discrete j i) (alike-at tested W entry (suc i) n (h .1) j)
+  where
+    go : Dec (j ≡ i) → (suc i ≤ j → j < suc i + n → AlikeBy tested W (entry j) ((entry j) .change)) → AlikeBy tested W (entry j) ((entry j) .change)
+    go (yes e) later = rw e (h .0)
+    go (no d) later = later (omega arith) (omega arith)
+
+-- ---- what a log does
+
+-- hiding looks at the sides covered alone
+pub hides-same : (a b : Tested) (U W : World) (t c : ℕ) → ((i : ℕ) → i < 6 → covering U t (a i) ≡ covering W t (b i)) → U .size ≡ W .size
+    → each 6 0 (λ i. hide a U t i (neighbour (U .size) c i)) ≡ each 6 0 (λ i. hide b W t i (neighbour (W .size) c i))
+hides-same a b U W t c covered size =
+    each-same 6 0 (λ i. hide a U t i (neighbour (U .size) c i)) (λ i. hide b W t i (neighbour (W .size) c i))
+    (λ i x h. ap (λ (s : Size). hide a U t i (neighbour s c i)) size ∙ one i h (neighbour (W .size) c i))
+  where
+    one : (i : ℕ) → i < 6 → (o : Option ℕ) → hide a U t i o ≡ hide b W t i o
+    one i h none = refl
+    one i h (some n) = rw (covered i h)
+
+added-alike : (tested : Tested) (W : World) (e : Entry) → Alike tested W (e .type) → added tested W e ≡ added itself W e
+added-alike tested W e alike = rw (hides-same tested itself W W (e .type) (e .cell) alike refl)
+
+work-alike : (tested : Tested) (W : World) (e : Entry) (k : Change) → AlikeBy tested W e k → workBy tested W e k ≡ workBy itself W e k
+work-alike tested W e Broken h = refl
+work-alike tested W e Added h =
+    split (λ t. isNormalCube W (e .type) ≡ t → cond t (added tested W e) nothing ≡ cond t (added itself W e) nothing) (isNormalCube W (e .type))
+    (λ x c. added-alike tested W e (h c)) (λ x c. refl) refl
+work-alike tested W e CullFaces h = refl
+work-alike tested W e AddFaces h = refl
+
+-- LAW: for cubes that cover the side that is tested as the side itself, both modes give the same answer and the same lists, after any log
+pub modes-agree : (tested : Tested) (S : Scene) (log : List ℕ) (B : Lists) (Q : ℕ) → AddsAlike tested (world S) (entriesOf log)
+    → updateMesh tested S log B Q ≡ updateMesh itself S log B Q
+modes-agree tested S log B Q h =
+    ap (λ (c : Course). updateBy (updateVerdict S log B Q) S c B)
+    (course-alike (room S B) (λ k. work tested (world S) (entryAt log k)) (λ k. work itself (world S) (entryAt log k)) 0 (length log / 12)
+    (decode (span S) Q B) 0 Q
+    (λ j l. work-alike tested (world S) (entryAt log j) ((entryAt log j) .change)
+    (alike-at tested (world S) (entryAt log) 0 (length log / 12) h j (omega arith) l)))
