@@ -152,10 +152,10 @@ fn algorithm_of(n: u32) -> MeshingAlgorithm
 fn tested_of(n: u32) -> Tested
     ensures { λ r. ⌜ testedBy r ≡ testedFrom n ⌝ }
 {
-    if n == 0 {
-        Tested::Opposite
-    } else {
+    if n != 0 {
         Tested::Itself
+    } else {
+        Tested::Opposite
     }
 }
 

@@ -16,8 +16,7 @@ use Rattle.rules.specs.Mesh.{Quad, World, Lists, meshBy, laid, slotted}
 use Rattle.rules.specs.Update.{Entry, Broken, removeAt, remove, entryAt, Tested, source, itself, work, nothing, ops, run, needed, courseFrom}
 use Rattle.rules.specs.Answers as answers
 use Rattle.rules.specs.Answers.{fine}
-use Rattle.rules.specs.Calls.{Scene, Answer, Outcome, answered, world, wordsIn, meshGrid, updateVerdict, updateMesh}
-use Rattle.rules.proofs.Idle.{idle}
+use Rattle.rules.specs.Calls.{Scene, Answer, Outcome, world, wordsIn, meshGrid, updateVerdict, updateMesh}
 use Rattle.rules.specs.Program.{printed, badFile, digits, buildFrom}
 
 -- 0.0, 1.0, and three of one
@@ -103,17 +102,17 @@ lent n c =
 abbrev fresh : ℕ → ℕ → ℕ → List ℕ → List ℕ → Bool → Outcome
 fresh w h l outer g culling = meshGrid (scene w h l) outer g culling (lent 54 27)
 
-abbrev quadsIn : Outcome → ℕ
+abbrev pub quadsIn : Outcome → ℕ
 quadsIn o = o .answer .quads
 
 -- Added above a cube, h = 2: cell 1, a type, beside a voxel of type 1 below
-abbrev above : ℕ → List ℕ
+abbrev pub above : ℕ → List ℕ
 above t = 1 ∷ 0 ∷ 0 ∷ 0 ∷ 1 ∷ t ∷ 255 ∷ 1 ∷ 255 ∷ 255 ∷ 255 ∷ 255 ∷ []
 
-abbrev below : Outcome
+abbrev pub below : Outcome
 below = meshGrid (scene 1 2 1) [] (1 ∷ 0 ∷ []) true (lent 12 2)
 
-abbrev withAbove : Tested → ℕ → Outcome
+abbrev pub withAbove : Tested → ℕ → Outcome
 withAbove tested t = updateMesh tested (scene 1 2 1) (above t) (below .lists) (quadsIn below)
 
 abbrev keys : List Quad → List ℕ
@@ -146,7 +145,7 @@ removalCases = keys (removeAt 4 ten) ∷ keys (removeAt 3 ten) ∷ []
 unfoldable pub mended : Tested → ℕ → List ℕ
 mended tested t = quadsIn (withAbove tested t) ∷ quadsIn (fresh 1 2 1 [] (1 ∷ t ∷ []) true) ∷ []
 
--- 9. Added Null: as many quads as before (that nothing changes: `null-changes-nothing`)
+-- 9. Added Null: as many quads as before (that nothing changes: `null-changes-nothing`, Idle)
 unfoldable pub addedNull : List ℕ
 addedNull = quadsIn (withAbove source 0) ∷ []
 
@@ -174,18 +173,15 @@ null-is : addedNull ≡ 6 ∷ []
 unfolding addedNull answers._then_ answers.refuseIf answers.badLimits answers.BAD-TYPES answers.badCounts lowestFrom answers.badType answers.BAD-NUMBER answers.notACube types.isCube every types.classed types.classOf types.classAt types.classOn ieee.eq ieee.ofBits ieee.lt answers.roomOf meshBy each neighbour count laid slotted answers.badLink answers.BAD-LINKS same answers.badEntry answers.BAD-ENTRY courseFrom entryAt needed ops remove removeAt types.quadWords
 null-is = refl
 
-null-unrefused : updateVerdict (scene 1 2 1) (above 0) (below .lists) (quadsIn below) ≡ fine
+-- the ninth is not refused, and its entry does nothing
+pub null-unrefused : updateVerdict (scene 1 2 1) (above 0) (below .lists) (quadsIn below) ≡ fine
 unfolding answers._then_ answers.refuseIf answers.badLimits answers.BAD-TYPES answers.badCounts lowestFrom answers.badType answers.BAD-NUMBER answers.notACube types.isCube every types.classed types.classOf types.classAt types.classOn ieee.eq ieee.ofBits ieee.lt answers.roomOf meshBy each neighbour count laid slotted answers.badLink answers.BAD-LINKS same answers.badEntry answers.BAD-ENTRY courseFrom entryAt needed ops remove removeAt types.quadWords
 null-unrefused = refl
 
-null-idle : (k : ℕ) → k < 1 → work source (world (scene 1 2 1)) (entryAt (above 0) k) ≡ nothing
+pub null-idle : (k : ℕ) → k < 1 → work source (world (scene 1 2 1)) (entryAt (above 0) k) ≡ nothing
 unfolding entryAt
 null-idle zero h = refl
 null-idle (suc k) h = absurd (omega arith)
-
--- the ninth: number, place, Q, `moved` and the four lists are as before
-pub null-changes-nothing : withAbove source 0 ≡ record { answer = answered (quadsIn below) 0; lists = below .lists }
-null-changes-nothing = idle source (scene 1 2 1) (above 0) (below .lists) (quadsIn below) null-unrefused null-idle
 
 -- the ten cases of 01, one after the other; the sixth has two rows
 pub ten-cases : cases

@@ -14,11 +14,12 @@ use borrow.Author.Tests.{ltb-false, le-leb}
 use Rattle.rules.specs.Lists.{table, row}
 use Rattle.rules.specs.Cells.{cells, codeIn, cellIn, firstVertex, linkOf}
 use Rattle.rules.specs.Mesh.{Quad, Lists, NONE, there, placeOf, rows, laid, slotOf, slotted, layout, pattern, decoded, decode}
-use Rattle.rules.specs.Update.{Tested, Work, nothing, ops, needed, work, entryAt, blank, Course, courseFrom}
+use Rattle.rules.specs.Update.{Tested, source, Work, nothing, ops, needed, work, entryAt, blank, Course, courseFrom}
 use Rattle.rules.specs.Answers.{fine, slotAt, SHORT-SLOTS, BAD-COUNT, BAD-SIZE, _then_, BAD-ENTRY}
 use Rattle.rules.specs.Types.{floats}
 use Rattle.rules.specs.Check.{linked}
 use Rattle.rules.specs.Calls.{Answer, answered, Scene, world, span, faces, room, Outcome, bookVerdict, lentVerdict, typesVerdict, updateVerdict, course, courseAnswer, updateBy, updateMesh}
+use Rattle.rules.proofs.Cases.{scene, quadsIn, above, below, withAbove, null-unrefused, null-idle}
 use Rattle.rules.proofs.ListLaws.{table-is, length-table}
 use Rattle.rules.proofs.Laying.{keyAt, row-one, link-of-key}
 use Rattle.rules.proofs.Index.{Named, full-le}
@@ -133,3 +134,7 @@ idle tested S log B Q v h =
     let stands = layout-stands (cells (S .size)) (span S) B Q slots book (room-for S B Q counted .links) in
     let run = idle-course (room S B) (λ k. work tested (world S) (entryAt log k)) 0 (length log / 12) (λ k a b. h k (omega arith)) (decode (span S) Q B) 0 Q (omega arith) in
     rw (v, run) (λ i. record { answer = answered (len i) 0; lists = stands i })
+
+-- ---- case 9 of 01, Added Null: number, place, Q, `moved` and the four lists are as before
+pub null-changes-nothing : withAbove source 0 ≡ record { answer = answered (quadsIn below) 0; lists = below .lists }
+null-changes-nothing = idle source (scene 1 2 1) (above 0) (below .lists) (quadsIn below) null-unrefused null-idle

@@ -1,4 +1,5 @@
--- The laws, leaves first.
+-- What 01 works by hand, by computing; then the laws, leaves first.
+pub mod Cases
 pub mod ListLaws
 pub mod Rows
 pub mod Searches
@@ -15,5 +16,4 @@ pub mod Modes
 pub mod Refusals
 pub mod Demands
 pub mod Idle
-pub mod Cases
 pub mod Witness

@@ -7,10 +7,10 @@ use Rattle.exports.proofs.tested_of.Statement.{statement}
 use Rattle.exports.proofs.tested_of.Tie as tie
 
 returns : tie.Need-returns
-returns c = sym (ap (λ (b : Bool). cond (not b) itself source) (eq-eqb _ _ (c .if1 .taken)))
+returns c = sym (ap (λ (b : Bool). cond (not b) itself source) (ne-eqb _ _ (c .if1 .taken)))
 
 returns-2 : tie.Need-returns-2
-returns-2 c = sym (ap (λ (b : Bool). cond (not b) itself source) (ne-eqb _ _ (c .if1 .left)))
+returns-2 c = sym (ap (λ (b : Bool). cond (not b) itself source) (eq-eqb _ _ (c .if1 .left)))
 
 pub tested-of-spec : {M : Type 1} → statement M
 tested-of-spec = tie.close (tie.spec returns returns-2)
