@@ -168,7 +168,15 @@ const ODD: u8 = 6;
 fn worked_grids(file: &mut File) {
     file.registry(&paper_types(1.0));
     let mut put = |dims: [u32; 3], outer: &[u8], grid: &[u8], naive: bool, log: &[Vec<u8>]| {
-        let case = Case { dims, outer: outer.to_vec(), grid: grid.to_vec(), types: paper_types(1.0), naive, log: log.concat(), ..Case::default() };
+        let case = Case {
+            dims,
+            outer: outer.to_vec(),
+            grid: grid.to_vec(),
+            types: paper_types(1.0),
+            naive,
+            log: log.concat(),
+            ..Case::default()
+        };
         assert!(file.grid(&case, MOST_WORDS));
     };
     let beside = [OUT, OUT, CUBE, OUT, OUT, OUT];
@@ -244,7 +252,8 @@ fn small_grids(file: &mut File, random: &mut Random, types: &Types, grids: u32) 
     while file.grids < last {
         let dims = [(); 3].map(|()| 1 + random.pick(&[0, 0, 1, 1, 2]));
         let grid = random.grid(dims.iter().product::<u32>() as usize, types.kinds.len());
-        let mut case = Case { dims, outer: random.outer(), grid, types: types.clone(), naive: random.one_in(5), ..Case::default() };
+        let mut case =
+            Case { dims, outer: random.outer(), grid, types: types.clone(), naive: random.one_in(5), ..Case::default() };
         let entries = 1 + random.below(8);
         let candour = random.pick(&[Candour::Honest, Candour::Foolish, Candour::Mixed]);
         case.log = random.log(&case, entries, candour);
