@@ -1,4 +1,5 @@
 //! What Meshem names of Bevy, and no more. A mesh keeps its attributes ordered by id and never looks into their rows.
+#![allow(clippy::len_without_is_empty, clippy::new_without_default)]
 
 pub mod prelude {
     pub use crate::math::Vec3;
