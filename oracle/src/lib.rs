@@ -2,6 +2,9 @@
 
 pub mod calls;
 pub mod cases;
+pub mod compare;
+pub mod faults;
 #[cfg(feature = "library")]
 pub mod library;
+pub mod room;
 pub mod rust;
