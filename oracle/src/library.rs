@@ -2,11 +2,14 @@
 
 use crate::calls::{Answer, Calls};
 use crate::cases::Case;
-use crate::rust::{CubeParameters, Words};
+use crate::rust::{CubeParameters, Words, ENTRY};
+use plain::Tested;
 
 #[rustfmt::skip]
 #[link(name = "exports", kind = "static", modifiers = "-bundle")]
 extern "C" {
+    fn meshem_abi() -> u32;
+
     fn meshem_generate_voxel_mesh(
         dx: u32, dy: u32, dz: u32,
         atlas_width: u32, atlas_height: u32,
@@ -61,6 +64,25 @@ extern "C" {
 }
 
 pub struct Library;
+
+/// The level of the C interface that is called here. A library of level 1 lacks `meshem_abi`, and does not link.
+const LEVEL: u32 = 2;
+
+pub fn assert_level() {
+    assert_eq!(unsafe { meshem_abi() }, LEVEL, "the level of the library's C interface");
+}
+
+/// Words for the side itself: any but 0 is one.
+const ITSELF: [u32; 6] = [1, 2, 0x100, 0x1_0000, 0x8000_0000, u32::MAX];
+
+/// The side tested as a word. The first entry of the log picks the word for the side itself.
+fn tested_word(case: &Case) -> u32 {
+    let picked = case.log.iter().take(ENTRY).map(|&byte| byte as usize).sum::<usize>() % ITSELF.len();
+    match case.tested {
+        Tested::Opposite => 0,
+        Tested::Itself => ITSELF[picked],
+    }
+}
 
 /// What the outputs hold before a call: the call has to write each.
 const UNWRITTEN: u64 = 0xDEAD_DEAD_DEAD_DEAD;
@@ -118,7 +140,7 @@ impl Calls for Library {
                 count,
                 case.dims[0], case.dims[1], case.dims[2],
                 case.log.as_ptr(), case.log.len(),
-                case.tested as u32,
+                tested_word(case),
                 t.kinds.as_ptr(), t.kinds.len(), t.covers.as_ptr(), t.covers.len(),
                 t.cubes.as_ptr(), t.cubes.len(), t.coloured as u32,
                 t.d[0], t.d[1], t.d[2], t.centre[0], t.centre[1], t.centre[2],

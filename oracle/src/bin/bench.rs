@@ -9,7 +9,7 @@
 
 use oracle::calls::Calls;
 use oracle::cases::{coordinates, cube_of, entry, neighbour, Case, Random};
-use oracle::library::Library;
+use oracle::library::{assert_level, Library};
 use oracle::rust::{self, cube, floats, Registry, Types, Words, ENTRY, OUTSIDE};
 use std::hint::black_box;
 use std::time::{Duration, Instant};
@@ -19,6 +19,7 @@ const MOST_ROUNDS: usize = 201;
 const RUNS: usize = 4;
 
 fn main() {
+    assert_level();
     let mut arguments = std::env::args().skip(1).map(|argument| argument.parse().expect("a number"));
     let (seconds, seed) = (arguments.next().unwrap_or(110), arguments.next().unwrap_or(1));
     let bench = Bench { share: Duration::from_secs(seconds) / ROWS };

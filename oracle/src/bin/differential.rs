@@ -10,7 +10,7 @@
 use oracle::cases::{simpler, Case, Random};
 use oracle::compare::{compare, compare_cube, compare_faults, compare_limit, Compared, Tally};
 use oracle::faults::{limits, Faulty};
-use oracle::library::Library;
+use oracle::library::{assert_level, Library};
 use oracle::rust::{CubeParameters, ENTRY};
 use std::panic::{catch_unwind, AssertUnwindSafe};
 use std::time::Instant;
@@ -20,6 +20,7 @@ const LARGE: [[u32; 3]; 7] =
     [[1024, 1, 1], [1, 1024, 1], [1, 1, 1024], [32, 32, 32], [16, 256, 16], [1024, 32, 32], [32, 1024, 32]];
 
 fn main() {
+    assert_level();
     let mut arguments = std::env::args().skip(1).map(|argument| argument.parse().expect("a number"));
     let (cases, seed) = (arguments.next().unwrap_or(40_000), arguments.next().unwrap_or(1));
     let mut random = Random(seed);
