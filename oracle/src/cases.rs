@@ -264,11 +264,9 @@ impl Random {
     /// An entry true of the grid, which it then changes.
     fn honest(&mut self, cell: usize, case: &Case, grid: &mut [u8]) -> Vec<u8> {
         let t = &case.types;
-        let empty = (0..t.kinds.len()).find(|&voxel| t.kinds[voxel] == 0 && t.covers[voxel] == 0);
-        let neighbours: Vec<u8> =
-            (0..6).map(|face| neighbour(case.dims, cell, face).map_or(OUTSIDE, |other| grid[other])).collect();
-        let (change, voxel, after) = match empty {
-            Some(empty) if self.one_in(2) => (0, grid[cell], empty as u8),
+        let neighbours = beside(case.dims, cell, grid);
+        let (change, voxel, after) = match t.lowest_empty() {
+            Some(empty) if self.one_in(2) => (0, grid[cell], empty),
             _ => {
                 let voxel = self.below(t.kinds.len()) as u8;
                 (1, voxel, voxel)
@@ -302,11 +300,26 @@ fn cell_at([width, height, length]: [u32; 3], [x, y, z]: [u32; 3]) -> Option<usi
 }
 
 /// The cell on a side, for writing honest entries.
-pub fn neighbour(dims: [u32; 3], cell: usize, face: usize) -> Option<usize> {
+fn neighbour(dims: [u32; 3], cell: usize, face: usize) -> Option<usize> {
     let mut at = coordinates(dims, cell);
     let along = &mut at[[1, 0, 2][face / 2]];
     *along = if face % 2 == 0 { *along + 1 } else { along.wrapping_sub(1) };
     cell_at(dims, at)
+}
+
+/// The voxels on the six sides of a cell.
+pub fn beside(dims: [u32; 3], cell: usize, grid: &[u8]) -> Vec<u8> {
+    (0..6).map(|face| neighbour(dims, cell, face).map_or(OUTSIDE, |other| grid[other])).collect()
+}
+
+fn cell_of(entry: &[u8]) -> usize {
+    u32::from_le_bytes(entry[..4].try_into().unwrap()) as usize
+}
+
+/// The cubes that the log adds.
+pub fn added_cubes(case: &Case) -> impl Iterator<Item = u8> + '_ {
+    let added = case.log.chunks_exact(ENTRY).filter(|entry| entry[4] == 1).map(|entry| entry[5]);
+    added.filter(|&voxel| case.types.is_cube(voxel))
 }
 
 /// The case without one layer of its grid, if its log names no cell there.
@@ -316,7 +329,7 @@ fn without_layer(case: &Case, axis: usize, layer: u32) -> Option<Case> {
     let kept = |cell: &usize| coordinates(case.dims, *cell)[axis] != layer;
     small.grid = (0..case.grid.len()).filter(kept).map(|cell| case.grid[cell]).collect();
     for entry in small.log.chunks_exact_mut(ENTRY) {
-        let cell = u32::from_le_bytes(entry[..4].try_into().unwrap()) as usize;
+        let cell = cell_of(entry);
         let mut at = coordinates(case.dims, cell);
         if at[axis] == layer {
             return None;

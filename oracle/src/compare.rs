@@ -1,10 +1,14 @@
 //! The library beside the Rust and beside the plain reading. What stands for the library is given, so that a wrong one can be too.
 
 use crate::calls::{Answer, Calls, Plain};
-use crate::cases::Case;
+use crate::cases::{added_cubes, Case};
 use crate::faults::Faulty;
 use crate::room::{front, laid, room_for, room_of, SPARE};
 use crate::rust::{self, CubeParameters, Registry, Words, ENTRY};
+use plain::{Tested, NO_ROOM};
+
+/// The source's mode, and the new one.
+pub const MODES: [Tested; 2] = [Tested::Opposite, Tested::Itself];
 
 /// What has been compared with the Rust, and with the plain reading.
 #[derive(Default)]
@@ -17,9 +21,38 @@ pub struct Tally {
     pub words: u64,
     pub plain_calls: u64,
     pub refusals: [u64; 17],
+    /// In the order of `MODES`.
+    pub updates: [Updates; 2],
+    /// Logs that add cubes, all of which cover opposite sides alike.
+    pub same_in_both: u64,
 }
 
-pub type Compared = Result<(), String>;
+/// Updates compared with the plain reading, in one mode.
+#[derive(Default)]
+pub struct Updates {
+    pub calls: u64,
+    pub refused: u64,
+    pub no_room: u64,
+    pub log_entries: u64,
+    pub quads: u64,
+}
+
+impl Tally {
+    fn call(&mut self, answer: Answer) {
+        self.plain_calls += 1;
+        self.refusals[answer.number as usize] += 1;
+    }
+
+    fn update(&mut self, tested: Tested, answer: Answer) {
+        self.call(answer);
+        let updates = &mut self.updates[tested as usize];
+        updates.calls += 1;
+        updates.refused += (answer.number != 0) as u64;
+        updates.no_room += (answer.number == NO_ROOM) as u64;
+    }
+}
+
+pub type Compared<T = ()> = Result<T, String>;
 
 fn agree<T: PartialEq + std::fmt::Debug>(what: &str, library: T, other: T) -> Compared {
     if library == other {
@@ -45,109 +78,169 @@ fn agree_words(what: &str, library: &Words, other: &Words) -> Compared {
     agree_list(&format!("{what}: float"), &library.vertices, &other.vertices)
 }
 
-pub fn compare_cube(library: &dyn Calls, parameters: &CubeParameters, tally: &mut Tally) -> Compared {
-    let expected = rust::cube(parameters);
-    let mut out = vec![SPARE; expected.len() + 3];
-    agree("cube", library.generate_voxel_mesh(parameters, &mut out), Answer::default())?;
-    agree_list("cube, float", &out[..expected.len()], &expected)?;
-    agree_list("cube, spare", &out[expected.len()..], &[SPARE; 3])?;
-    tally.cubes += 1;
-    tally.words += expected.len() as u64;
-    Ok(())
+/// What an update answers, and what it leaves in the room.
+type End = (Answer, Words);
+
+fn agree_ends(what: &str, library: &End, other: &End) -> Compared {
+    agree(what, library.0, other.0)?;
+    agree_words(what, &library.1, &other.1)
 }
 
-/// The library's mesh and the Rust's.
-fn agree_mesh(what: &str, case: &Case, answer: Answer, room: &Words, expected: &Words, tally: &mut Tally) -> Compared {
-    agree(&format!("{what}: refusal"), (answer.number, answer.place), (0, 0))?;
-    agree(&format!("{what}: quads"), answer.quads, expected.links.len() as u64)?;
-    agree_words(what, &front(room, expected.links.len(), case), expected)?;
-    tally.quads += answer.quads;
-    tally.index_entries += expected.slots.len() as u64;
-    tally.words += [&expected.vertices, &expected.triangles, &expected.links].map(|list| list.len() as u64).iter().sum::<u64>();
-    Ok(())
+/// How many of the log's entries an update did.
+fn entries_done(case: &Case, answer: Answer) -> usize {
+    match answer.number {
+        0 => case.log.len() / ENTRY,
+        NO_ROOM => answer.place as usize,
+        _ => 0,
+    }
 }
 
-pub fn compare(library: &dyn Calls, case: &Case, tally: &mut Tally) -> Compared {
-    let registry = Registry::of(&case.types);
-    let mut meshed = rust::mesh(case.dims, &case.outer, &case.grid, &registry, case.naive);
-    let fresh = meshed.words();
-    let empty = room_of(case, fresh.links.len());
-    let mut room = empty.clone();
-    let answer = library.mesh_grid(case, &mut room);
-    agree_mesh("mesh", case, answer, &room, &fresh, tally)?;
-    agree_words("mesh, with spare room", &room, &laid(&fresh, empty.clone()))?;
-    tally.grids += 1;
+pub struct Comparison<'a> {
+    library: &'a dyn Calls,
+    pub tally: Tally,
+}
 
-    let checked = library.check_mesh(case, &room, answer.quads);
-    agree("check", checked, Plain.check_mesh(case, &room, answer.quads))?;
-    if !case.naive {
-        agree("check of a mesh that the Rust culled", checked, Answer::default())?;
+impl<'a> Comparison<'a> {
+    pub fn of(library: &'a dyn Calls) -> Self {
+        Comparison { library, tally: Tally::default() }
     }
 
-    meshed.update(&registry, &case.log);
-    let expected = meshed.words();
-    let start = laid(&fresh, empty);
-    let mut room = start.clone();
-    let answer = library.update_mesh(case, &mut room, fresh.links.len() as u64);
-    agree_mesh("update", case, answer, &room, &expected, tally)?;
-    tally.log_entries += (case.log.len() / ENTRY) as u64;
-
-    let (first, then) = case.log.split_at(case.log.len() / ENTRY / 2 * ENTRY);
-    let [first, then] = [first, then].map(|log| Case { log: log.to_vec(), ..case.clone() });
-    let mut parts = start.clone();
-    let halfway = library.update_mesh(&first, &mut parts, fresh.links.len() as u64);
-    let finally = library.update_mesh(&then, &mut parts, halfway.quads);
-    agree_mesh("update in two calls", case, finally, &parts, &expected, &mut Tally::default())?;
-    agree("update in two calls, `moved`", halfway.moved + finally.moved, answer.moved)?;
-    agree_words("update in two calls, with spare room", &parts, &room)?;
-
-    let mut plain_room = start;
-    let plain_answer = Plain.update_mesh(case, &mut plain_room, fresh.links.len() as u64);
-    agree("update, with `moved`", answer, plain_answer)?;
-    agree_words("update, with spare room", &room, &plain_room)?;
-    agree("check after the log", library.check_mesh(case, &room, answer.quads), Plain.check_mesh(case, &room, answer.quads))?;
-    tally.plain_calls += 3;
-    Ok(())
-}
-
-/// Inputs made wrong, or short of room: the four calls beside the plain reading, every buffer whole.
-pub fn compare_faults(library: &dyn Calls, parameters: &CubeParameters, case: &Case, seed: u64, tally: &mut Tally) -> Compared {
-    let Faulty { parameters, out, case, room, count } = Faulty::of(parameters, case, seed);
-    let mut answers = vec![];
-
-    let (mut ours, mut plain) = (out.clone(), out);
-    answers.push(library.generate_voxel_mesh(&parameters, &mut ours));
-    agree("faulty cube", answers[0], Plain.generate_voxel_mesh(&parameters, &mut plain))?;
-    agree_list("faulty cube, word", &ours, &plain)?;
-
-    let (mut ours, mut plain) = (room.clone(), room.clone());
-    answers.push(library.mesh_grid(&case, &mut ours));
-    agree("faulty mesh", answers[1], Plain.mesh_grid(&case, &mut plain))?;
-    agree_words("faulty mesh", &ours, &plain)?;
-
-    let (mut ours, mut plain) = (room.clone(), room.clone());
-    answers.push(library.update_mesh(&case, &mut ours, count));
-    agree("faulty update", answers[2], Plain.update_mesh(&case, &mut plain, count))?;
-    agree_words("faulty update", &ours, &plain)?;
-
-    answers.push(library.check_mesh(&case, &room, count));
-    agree("faulty check", answers[3], Plain.check_mesh(&case, &room, count))?;
-    for answer in &answers {
-        tally.refusals[answer.number as usize] += 1;
+    /// A cube's floats, beside the Rust.
+    pub fn cube(&mut self, parameters: &CubeParameters) -> Compared {
+        let expected = rust::cube(parameters);
+        let mut out = vec![SPARE; expected.len() + 3];
+        agree("cube", self.library.generate_voxel_mesh(parameters, &mut out), Answer::default())?;
+        agree_list("cube, float", &out[..expected.len()], &expected)?;
+        agree_list("cube, spare", &out[expected.len()..], &[SPARE; 3])?;
+        self.tally.cubes += 1;
+        self.tally.words += expected.len() as u64;
+        Ok(())
     }
-    tally.plain_calls += 4;
-    Ok(())
-}
 
-/// The update at a limit, beside the plain reading; the mesh is that of one cube.
-pub fn compare_limit(library: &dyn Calls, case: &Case, tally: &mut Tally) -> Compared {
-    let mesh = rust::mesh([1; 3], &[], &case.grid, &Registry::of(&case.types), false).words();
-    let start = laid(&mesh, room_for(6, case));
-    let (mut ours, mut plain) = (start.clone(), start);
-    let answer = library.update_mesh(case, &mut ours, 6);
-    agree("update", answer, Plain.update_mesh(case, &mut plain, 6))?;
-    agree_words("update", &ours, &plain)?;
-    tally.refusals[answer.number as usize] += 1;
-    tally.plain_calls += 1;
-    Ok(())
+    /// A fresh mesh and the source's mode of the update beside the Rust; the check and both modes beside the plain reading.
+    pub fn case(&mut self, case: &Case) -> Compared {
+        let registry = Registry::of(&case.types);
+        let mut meshed = rust::mesh(case.dims, &case.outer, &case.grid, &registry, case.naive);
+        let fresh = meshed.words();
+        let empty = room_of(case, fresh.links.len());
+        let mut room = empty.clone();
+        let answer = self.library.mesh_grid(case, &mut room);
+        self.with_the_rust("mesh", case, answer, &room, &fresh)?;
+        agree_words("mesh, with spare room", &room, &laid(&fresh, empty.clone()))?;
+        self.tally.grids += 1;
+
+        let checked = self.check("check", case, &room, answer.quads)?;
+        if !case.naive {
+            agree("check of a mesh that the Rust culled", checked, Answer::default())?;
+        }
+
+        let ends = self.both_modes(case, &laid(&fresh, empty), answer.quads)?;
+        let [(answer, room), _] = &ends;
+        meshed.update(&registry, &case.log);
+        self.with_the_rust("update", case, *answer, room, &meshed.words())?;
+        self.tally.log_entries += (case.log.len() / ENTRY) as u64;
+        for (tested, (answer, room)) in MODES.iter().zip(&ends) {
+            self.check(&format!("check after the log, {tested:?} tested"), case, room, answer.quads)?;
+        }
+        Ok(())
+    }
+
+    /// The library's mesh and the Rust's.
+    fn with_the_rust(&mut self, what: &str, case: &Case, answer: Answer, room: &Words, expected: &Words) -> Compared {
+        agree(&format!("{what}: refusal"), (answer.number, answer.place), (0, 0))?;
+        agree(&format!("{what}: quads"), answer.quads, expected.links.len() as u64)?;
+        agree_words(what, &front(room, expected.links.len(), case), expected)?;
+        let lists = [&expected.vertices, &expected.triangles, &expected.links];
+        self.tally.quads += answer.quads;
+        self.tally.index_entries += expected.slots.len() as u64;
+        self.tally.words += lists.iter().map(|list| list.len() as u64).sum::<u64>();
+        Ok(())
+    }
+
+    fn check(&mut self, what: &str, case: &Case, mesh: &Words, count: u64) -> Compared<Answer> {
+        let answer = self.library.check_mesh(case, mesh, count);
+        agree(what, answer, Plain.check_mesh(case, mesh, count))?;
+        self.tally.call(answer);
+        Ok(answer)
+    }
+
+    /// The log in both modes; cubes that cover opposite sides alike have to give the same in both.
+    fn both_modes(&mut self, case: &Case, start: &Words, count: u64) -> Compared<[End; 2]> {
+        let [source, new] = MODES.map(|tested| self.log(&Case { tested, ..case.clone() }, start, count));
+        let ends = [source?, new?];
+        if added_cubes(case).all(|cube| case.types.covers_alike(cube)) {
+            agree_ends("update, the source's mode and the new one", &ends[0], &ends[1])?;
+            self.tally.same_in_both += added_cubes(case).next().is_some() as u64;
+        }
+        Ok(ends)
+    }
+
+    /// The log in the case's mode, in one call and in two.
+    fn log(&mut self, case: &Case, start: &Words, count: u64) -> Compared<End> {
+        let what = format!("update, {:?} tested", case.tested);
+        let end = self.update(&what, case, start, count)?;
+        let (first, then) = case.log.split_at(case.log.len() / ENTRY / 2 * ENTRY);
+        agree_ends(&format!("{what}, in two calls"), &self.in_calls(case, [first, then], start, count), &end)?;
+        let updates = &mut self.tally.updates[case.tested as usize];
+        updates.log_entries += entries_done(case, end.0) as u64;
+        updates.quads += end.0.quads;
+        Ok(end)
+    }
+
+    /// The update in the case's mode beside the plain reading, every list whole.
+    fn update(&mut self, what: &str, case: &Case, start: &Words, count: u64) -> Compared<End> {
+        let (mut ours, mut plain) = (start.clone(), start.clone());
+        let answer = self.library.update_mesh(case, &mut ours, count);
+        let end = (answer, ours);
+        agree_ends(what, &end, &(Plain.update_mesh(case, &mut plain, count), plain))?;
+        self.tally.update(case.tested, answer);
+        Ok(end)
+    }
+
+    /// A call for each part of a log, up to the first without room, told as one call with the whole log would be.
+    fn in_calls<'p>(&self, case: &Case, parts: impl IntoIterator<Item = &'p [u8]>, start: &Words, count: u64) -> End {
+        let mut room = start.clone();
+        let mut told = Answer { quads: count, ..Answer::default() };
+        let mut call = case.clone();
+        let mut entries = 0;
+        for part in parts {
+            call.log = part.to_vec();
+            let answer = self.library.update_mesh(&call, &mut room, told.quads);
+            told = Answer { moved: told.moved + answer.moved, ..answer };
+            if answer.number != 0 {
+                told.place += entries;
+                break;
+            }
+            entries += (part.len() / ENTRY) as u64;
+        }
+        (told, room)
+    }
+
+    /// Inputs made wrong, or short of room: the four calls beside the plain reading, every buffer whole.
+    pub fn faults(&mut self, parameters: &CubeParameters, case: &Case, seed: u64) -> Compared {
+        let Faulty { parameters, out, case, room, count } = Faulty::of(parameters, case, seed);
+
+        let (mut ours, mut plain) = (out.clone(), out);
+        let answer = self.library.generate_voxel_mesh(&parameters, &mut ours);
+        agree("faulty cube", answer, Plain.generate_voxel_mesh(&parameters, &mut plain))?;
+        agree_list("faulty cube, word", &ours, &plain)?;
+        self.tally.call(answer);
+
+        let (mut ours, mut plain) = (room.clone(), room.clone());
+        let answer = self.library.mesh_grid(&case, &mut ours);
+        agree("faulty mesh", answer, Plain.mesh_grid(&case, &mut plain))?;
+        agree_words("faulty mesh", &ours, &plain)?;
+        self.tally.call(answer);
+
+        self.update("faulty update", &case, &room, count)?;
+        self.check("faulty check", &case, &room, count)?;
+        Ok(())
+    }
+
+    /// The update at a limit, beside the plain reading; the mesh is that of one cube.
+    pub fn limit(&mut self, case: &Case) -> Compared {
+        let mesh = rust::mesh([1; 3], &[], &case.grid, &Registry::of(&case.types), false).words();
+        self.update("update", case, &laid(&mesh, room_for(6, case)), 6)?;
+        Ok(())
+    }
 }

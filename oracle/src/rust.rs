@@ -39,6 +39,27 @@ pub struct Types {
     pub centre: [u32; 3],
 }
 
+impl Types {
+    pub fn is_cube(&self, voxel: u8) -> bool {
+        self.kinds[voxel as usize] == 1
+    }
+
+    /// A Null that covers nothing.
+    pub fn is_empty(&self, voxel: u8) -> bool {
+        self.kinds[voxel as usize] == 0 && self.covers[voxel as usize] == 0
+    }
+
+    pub fn lowest_empty(&self) -> Option<u8> {
+        (0..self.kinds.len() as u8).find(|&voxel| self.is_empty(voxel))
+    }
+
+    /// Whether it covers both or neither of every two opposite sides.
+    pub fn covers_alike(&self, voxel: u8) -> bool {
+        let set = self.covers[voxel as usize];
+        (set ^ set >> 1) & 0b01_0101 == 0
+    }
+}
+
 /// A mesh as document 01 lays it out: per quad its vertices, triangle words and link; per cell six slots.
 #[derive(Clone, Debug, Default, PartialEq)]
 pub struct Words {

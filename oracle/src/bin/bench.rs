@@ -8,9 +8,9 @@
 //! the two answers are compared word for word. The last table holds the figures to their goals.
 
 use oracle::calls::Calls;
-use oracle::cases::{coordinates, cube_of, entry, neighbour, Case, Random};
+use oracle::cases::{beside, coordinates, cube_of, entry, Case, Random};
 use oracle::library::{assert_level, Library};
-use oracle::rust::{self, cube, floats, Registry, Types, Words, ENTRY, OUTSIDE};
+use oracle::rust::{self, cube, floats, Registry, Types, Words, ENTRY};
 use std::hint::black_box;
 use std::time::{Duration, Instant};
 
@@ -362,10 +362,10 @@ fn edits(random: &mut Random, case: &Case, entries: usize) -> Vec<u8> {
     let mut log = vec![];
     for _ in 0..entries {
         let cell = random.below(grid.len());
-        let beside: Vec<u8> = (0..6).map(|face| neighbour(case.dims, cell, face).map_or(OUTSIDE, |other| grid[other])).collect();
+        let neighbours = beside(case.dims, cell, &grid);
         let (change, voxel, after) = if grid[cell] == 0 { (1, 1, 1) } else { (0, grid[cell], 0) };
         grid[cell] = after;
-        log.extend(entry(cell, change, voxel, &beside));
+        log.extend(entry(cell, change, voxel, &neighbours));
     }
     log
 }

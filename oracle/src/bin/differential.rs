@@ -2,16 +2,16 @@
 //!
 //!     differential [CASES [SEED]]
 //!
-//! Against the Rust: a cube's floats; a fresh mesh; a mesh that the Rust built after a log, honest or foolish. Every quad, float
-//! bit, triangle word and index entry is compared, and a panic of the Rust counts as a disagreement. Against the plain reading,
-//! where the Rust says nothing: `moved`, zeroed and spare places, the check, and refusals, with every buffer whole. A case that
-//! fails is shrunk and printed; ten failing cases end the run.
+//! Against the Rust: a cube's floats; a fresh mesh; a mesh that the Rust built after a log, honest or foolish, in the source's mode of
+//! the update. Every quad, float bit, triangle word and index entry is compared, and a panic of the Rust counts as a disagreement.
+//! Against the plain reading, where the Rust says nothing: `moved`, zeroed and spare places, the new mode of the update, the check, and
+//! refusals, with every buffer whole. A case that fails is shrunk and printed; ten failing cases end the run.
 
 use oracle::cases::{simpler, Case, Random};
-use oracle::compare::{compare, compare_cube, compare_faults, compare_limit, Compared, Tally};
+use oracle::compare::{Compared, Comparison, Tally, Updates, MODES};
 use oracle::faults::{limits, Faulty};
 use oracle::library::{assert_level, Library};
-use oracle::rust::{CubeParameters, ENTRY};
+use oracle::rust::ENTRY;
 use std::panic::{catch_unwind, AssertUnwindSafe};
 use std::time::Instant;
 
@@ -23,50 +23,79 @@ fn main() {
     assert_level();
     let mut arguments = std::env::args().skip(1).map(|argument| argument.parse().expect("a number"));
     let (cases, seed) = (arguments.next().unwrap_or(40_000), arguments.next().unwrap_or(1));
-    let mut random = Random(seed);
-    let mut tally = Tally::default();
-    let mut disagreements = 0;
     let start = Instant::now();
     std::panic::set_hook(Box::new(|_| {}));
+    let mut run = Run::of(seed);
     for number in 0..cases {
-        let (parameters, case, fault) = (random.cube(), random.case(), random.word() as u64);
-        if let Err(difference) = whole(|| compare_cube(&Library, &parameters, &mut tally)) {
-            disagreements += 1;
-            println!("case {number}: {difference}\n{parameters:x?}");
-        }
-        if let Err(difference) = whole(|| compare(&Library, &case, &mut tally)) {
-            disagreements += 1;
-            report(number, &difference, shrunk(case.clone(), |c| whole(|| compare(&Library, c, &mut Tally::default())).is_err()));
-        }
-        if let Err(difference) = whole(|| compare_faults(&Library, &parameters, &case, fault, &mut tally)) {
-            disagreements += 1;
-            let fails = |c: &Case| whole(|| compare_faults(&Library, &parameters, c, fault, &mut Tally::default())).is_err();
-            report_fault(number, &difference, &parameters, shrunk(case, fails), fault);
-        }
-        if disagreements >= 10 {
+        run.one(number);
+        if run.disagreements >= 10 {
             println!("stopped after ten disagreements, at case {number}");
             break;
         }
     }
-    for dims in LARGE {
-        let case = random.landscape(dims);
-        if let Err(difference) = whole(|| compare(&Library, &case, &mut tally)) {
-            disagreements += 1;
-            println!("landscape {dims:?}: {difference}");
-        }
-    }
-    for (what, case) in limits() {
-        if let Err(difference) = whole(|| compare_limit(&Library, &case, &mut tally)) {
-            disagreements += 1;
-            println!("{what}: {difference}");
-        }
-    }
-    let Tally { cubes, grids, log_entries, quads, index_entries, words, plain_calls, refusals } = tally;
+    run.large();
+    run.limits();
     println!("seed {seed}, {cases} cases, {:.1} s", start.elapsed().as_secs_f64());
-    println!("with the Rust: {cubes} cubes, {grids} grids, {log_entries} log entries; {quads} quads, {index_entries} index entries, {words} words");
-    println!("with 01 read plainly: {plain_calls} calls, refusals 2 to 16: {:?}", &refusals[2..]);
-    println!("disagreements: {disagreements}");
-    std::process::exit((disagreements != 0) as i32);
+    print_tally(&run.comparison.tally);
+    println!("disagreements: {}", run.disagreements);
+    std::process::exit((run.disagreements != 0) as i32);
+}
+
+struct Run {
+    random: Random,
+    /// Draws what came with the new mode, so that a seed still gives the cases it gave before.
+    later: Random,
+    comparison: Comparison<'static>,
+    disagreements: u64,
+}
+
+impl Run {
+    fn of(seed: u64) -> Run {
+        Run { random: Random(seed), later: Random(!seed), comparison: Comparison::of(&Library), disagreements: 0 }
+    }
+
+    /// One case of each kind.
+    fn one(&mut self, number: u64) {
+        let (parameters, case, fault) = (self.random.cube(), self.random.case(), self.random.word() as u64);
+        let faulty = Case { tested: self.later.pick(&MODES), ..case.clone() };
+        if let Err(difference) = whole(|| self.comparison.cube(&parameters)) {
+            self.disagreements += 1;
+            println!("case {number}: {difference}\n{parameters:x?}");
+        }
+        if let Err(difference) = whole(|| self.comparison.case(&case)) {
+            self.disagreements += 1;
+            println!("case {number}: {difference}");
+            print(&shrunk(case, |c| anew(|comparison| comparison.case(c))));
+        }
+        if let Err(difference) = whole(|| self.comparison.faults(&parameters, &faulty, fault)) {
+            self.disagreements += 1;
+            println!("case {number}, made wrong by {fault}: {difference}");
+            let shrunk = shrunk(faulty, |c| anew(|comparison| comparison.faults(&parameters, c, fault)));
+            print_faulty(&Faulty::of(&parameters, &shrunk, fault), &difference);
+        }
+    }
+
+    fn large(&mut self) {
+        for dims in LARGE {
+            let case = self.random.landscape(dims);
+            if let Err(difference) = whole(|| self.comparison.case(&case)) {
+                self.disagreements += 1;
+                println!("landscape {dims:?}: {difference}");
+            }
+        }
+    }
+
+    fn limits(&mut self) {
+        for (what, mut case) in limits() {
+            for tested in MODES {
+                case.tested = tested;
+                if let Err(difference) = whole(|| self.comparison.limit(&case)) {
+                    self.disagreements += 1;
+                    println!("{what}, {tested:?} tested: {difference}");
+                }
+            }
+        }
+    }
 }
 
 /// A panic is a difference like another.
@@ -77,42 +106,52 @@ fn whole(compare: impl FnOnce() -> Compared) -> Compared {
     })
 }
 
-fn shrunk(mut case: Case, fails: impl Fn(&Case) -> bool) -> Case {
-    while let Some(simple) = simpler(&case).into_iter().find(|simple| fails(simple)) {
+/// A comparison that no tally counts.
+fn anew(compare: impl FnOnce(&mut Comparison) -> Compared) -> Compared {
+    whole(|| compare(&mut Comparison::of(&Library)))
+}
+
+/// The simplest case found that still fails; how is printed.
+fn shrunk(mut case: Case, compare: impl Fn(&Case) -> Compared) -> Case {
+    while let Some(simple) = simpler(&case).into_iter().find(|simple| compare(simple).is_err()) {
         case = simple;
+    }
+    if let Err(small) = compare(&case) {
+        println!("  shrunk: {small}");
     }
     case
 }
 
-fn report(number: u64, difference: &str, case: Case) {
-    println!("case {number}: {difference}");
-    if let Err(small) = whole(|| compare(&Library, &case, &mut Tally::default())) {
-        println!("  shrunk: {small}");
-    }
-    print(&case);
-}
-
-fn report_fault(number: u64, difference: &str, parameters: &CubeParameters, case: Case, fault: u64) {
-    println!("case {number}, made wrong by {fault}: {difference}");
-    if let Err(small) = whole(|| compare_faults(&Library, parameters, &case, fault, &mut Tally::default())) {
-        println!("  shrunk: {small}");
-    }
-    let Faulty { parameters, out, case, room, count } = Faulty::of(parameters, &case, fault);
+fn print_faulty(faulty: &Faulty, difference: &str) {
+    let Faulty { parameters, out, case, room, count } = faulty;
     if difference.starts_with("faulty cube") {
         println!("  room {} {parameters:x?}", out.len());
         return;
     }
-    print(&case);
+    print(case);
+    println!("  the side tested: {:?}", case.tested);
     println!("  count {count}, room {} floats, {} triangle words", room.vertices.len(), room.triangles.len());
     println!("  links {:x?}\n  slots {:x?}", room.links, room.slots);
 }
 
+/// The case but for the side tested: where both are, the difference names the one at fault.
 fn print(case: &Case) {
-    let Case { dims, outer, grid, types, naive, log, tested } = case;
-    println!("  w,h,l {dims:?} outer {outer:?} naive {naive} grid {grid:?}, the side tested: {tested:?}");
+    let Case { dims, outer, grid, types, naive, log, tested: _ } = case;
+    println!("  w,h,l {dims:?} outer {outer:?} naive {naive} grid {grid:?}");
     println!("  kinds {:?} covers {:?} coloured {}", types.kinds, types.covers, types.coloured);
     println!("  d {:x?} centre {:x?}", types.d, types.centre);
     for entry in log.chunks(ENTRY) {
         println!("  entry {entry:?}");
     }
+}
+
+fn print_tally(tally: &Tally) {
+    let Tally { cubes, grids, log_entries, quads, index_entries, words, plain_calls, refusals, updates, same_in_both } = tally;
+    println!("with the Rust: {cubes} cubes, {grids} grids, {log_entries} log entries; {quads} quads, {index_entries} index entries, {words} words");
+    println!("with 01 read plainly: {plain_calls} calls, refusals 2 to 16: {:?}", &refusals[2..]);
+    for (tested, updates) in ["the opposite side", "the side itself"].iter().zip(updates) {
+        let Updates { calls, refused, no_room, log_entries, quads } = updates;
+        println!("of them updates, {tested} tested: {calls} calls, {refused} refused ({no_room} NO_ROOM); {log_entries} log entries, {quads} quads");
+    }
+    println!("logs of cubes that cover opposite sides alike: {same_in_both}, the same in both modes");
 }
