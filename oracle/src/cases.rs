@@ -39,6 +39,13 @@ pub enum Candour {
     Mixed,
 }
 
+/// What the Added entries of a mendable log add: any cubes, or those that cover opposite sides alike.
+#[derive(Clone, Copy, PartialEq)]
+pub enum Added {
+    AnyCubes,
+    AlikeCubes,
+}
+
 /// SplitMix64.
 pub struct Random(pub u64);
 
@@ -135,17 +142,45 @@ impl Random {
         }
     }
 
-    /// Up to `most` types of every kind, which together pass 01's tests. Every second registry has cubes that no cube call wrote.
+    /// A slab's side set for the most part: one side, any, opposite sides alike.
+    fn slab_set(&mut self) -> u8 {
+        match self.below(3) {
+            0 => 1 << self.below(6),
+            1 => self.below(64) as u8,
+            _ => self.pick(&[0, 3, 12, 15, 48, 51, 60, 63]),
+        }
+    }
+
+    /// Up to `most` types of every kind, which together pass 01's tests.
     pub fn types(&mut self, most: usize) -> Types {
         let count = 1 + self.below(most);
+        self.types_of(count, |random, number| {
+            let kind = if number == 0 { random.pick(&[0, 0, 1]) } else { random.pick(&[1, 1, 1, 0, 2]) };
+            (kind, random.set())
+        })
+    }
+
+    /// An empty type, and slabs for the most part.
+    fn slab_types(&mut self) -> Types {
+        let count = 3 + self.below(7);
+        let empty = self.below(count);
+        self.types_of(count, |random, number| match number == empty {
+            true => (0, 0),
+            false => (random.pick(&[1, 1, 1, 1, 1, 0, 2]), random.slab_set()),
+        })
+    }
+
+    /// Types of the kinds and side sets given. Every second registry has cubes that no cube call wrote.
+    fn types_of(&mut self, count: usize, kind_and_set: impl Fn(&mut Random, usize) -> (u8, u8)) -> Types {
         let coloured = self.one_in(3);
         loop {
             let centre = [(); 3].map(|()| self.small_centre());
             let d = [(); 3].map(|()| self.small_edge());
             let mut types = Types { coloured, d, centre, ..Types::default() };
             for number in 0..count {
-                types.kinds.push(if number == 0 { self.pick(&[0, 0, 1]) } else { self.pick(&[1, 1, 1, 0, 2]) });
-                types.covers.push(self.set());
+                let (kind, set) = kind_and_set(self, number);
+                types.kinds.push(kind);
+                types.covers.push(set);
                 types.cubes.extend(cube(&CubeParameters { d, centre, coloured, ..self.cube() }));
             }
             if self.one_in(2) {
@@ -231,6 +266,17 @@ impl Random {
         case
     }
 
+    /// A case that demand 3 speaks of: culled with no outer face named, and a log that it mends.
+    pub fn mendable(&mut self, added: Added) -> Case {
+        let (dims, types) = (self.dims(), self.slab_types());
+        let grid = self.grid(dims.iter().product::<u32>() as usize, types.kinds.len());
+        let mut case = Case { dims, grid, types, ..Case::default() };
+        let most = if self.one_in(16) { 300 } else { self.pick(&[4, 12, 40]) };
+        let entries = 1 + self.below(most);
+        case.log = self.mendable_log(&case, entries, added);
+        case
+    }
+
     /// Hilly ground of document 01's types, as large as the limits allow, with a log.
     pub fn landscape(&mut self, dims: [u32; 3]) -> Case {
         let [width, height, length] = dims;
@@ -274,6 +320,26 @@ impl Random {
         };
         grid[cell] = after;
         entry(cell, change, voxel, &neighbours)
+    }
+
+    /// An honest log that puts cubes into empty cells and breaks what stands in others, now and then nothing.
+    fn mendable_log(&mut self, case: &Case, entries: usize, added: Added) -> Vec<u8> {
+        let t = &case.types;
+        let empty = t.lowest_empty().expect("an empty type");
+        let fit = |cube: &u8| t.is_cube(*cube) && (added == Added::AnyCubes || t.covers_alike(*cube));
+        let cubes: Vec<u8> = (0..t.kinds.len() as u8).filter(fit).collect();
+        let mut grid = case.grid.clone();
+        let near = 1 + self.below(grid.len());
+        let mut log = vec![];
+        for _ in 0..entries {
+            let cell = self.below(near);
+            let neighbours = beside(case.dims, cell, &grid);
+            let fills = t.is_empty(grid[cell]) && !cubes.is_empty() && !self.one_in(8);
+            let (change, voxel) = if fills { (1, self.pick(&cubes)) } else { (0, grid[cell]) };
+            log.extend(entry(cell, change, voxel, &neighbours));
+            grid[cell] = if fills { voxel } else { empty };
+        }
+        log
     }
 
     /// An entry in range that need not be true of anything.
@@ -322,6 +388,26 @@ pub fn added_cubes(case: &Case) -> impl Iterator<Item = u8> + '_ {
     added.filter(|&voxel| case.types.is_cube(voxel))
 }
 
+/// The case with its log made true of its grid, and the grid that the log leaves, if all it does is to break and to put cubes into
+/// empty cells. These are the logs of demand 3's new mode; the source's asks for cubes that cover opposite sides alike.
+pub fn mended(case: &Case) -> Option<(Case, Vec<u8>)> {
+    let t = &case.types;
+    let (mut honest, mut grid) = (case.clone(), case.grid.clone());
+    for entry in honest.log.chunks_exact_mut(ENTRY) {
+        let cell = cell_of(entry);
+        entry[6..].copy_from_slice(&beside(case.dims, cell, &grid));
+        grid[cell] = match entry[4] {
+            0 => {
+                entry[5] = grid[cell];
+                t.lowest_empty()?
+            }
+            1 if t.is_cube(entry[5]) && t.is_empty(grid[cell]) => entry[5],
+            _ => return None,
+        };
+    }
+    Some((honest, grid))
+}
+
 /// The case without one layer of its grid, if its log names no cell there.
 fn without_layer(case: &Case, axis: usize, layer: u32) -> Option<Case> {
     let mut small = case.clone();
@@ -357,6 +443,7 @@ pub fn simpler(case: &Case) -> Vec<Case> {
     }
     add(&|c| c.outer.clear());
     add(&|c| c.naive = false);
+    add(&|c| c.tested = Tested::Opposite);
     add(&|c| c.grid.fill(0));
     for cell in 0..case.grid.len() {
         add(&|c| c.grid[cell] = 0);
@@ -379,4 +466,10 @@ pub fn simpler(case: &Case) -> Vec<Case> {
         });
     }
     list
+}
+
+/// The same for a log that demand 3 speaks of: what is left of it is made true again.
+pub fn simpler_to_mend(case: &Case) -> Vec<Case> {
+    let honest = simpler(case).into_iter().filter_map(|simple| Some(mended(&simple)?.0));
+    honest.filter(|simple| simple != case).collect()
 }

@@ -1,11 +1,11 @@
 //! The library beside the Rust and beside the plain reading. What stands for the library is given, so that a wrong one can be too.
 
 use crate::calls::{Answer, Calls, Plain};
-use crate::cases::{added_cubes, Case};
+use crate::cases::{added_cubes, mended, Case};
 use crate::faults::Faulty;
 use crate::room::{front, laid, room_for, room_of, SPARE};
 use crate::rust::{self, CubeParameters, Registry, Words, ENTRY};
-use plain::{Tested, NO_ROOM};
+use plain::{Tested, NO_ROOM, WRONG_SET};
 
 /// The source's mode, and the new one.
 pub const MODES: [Tested; 2] = [Tested::Opposite, Tested::Itself];
@@ -25,6 +25,9 @@ pub struct Tally {
     pub updates: [Updates; 2],
     /// Logs that add cubes, all of which cover opposite sides alike.
     pub same_in_both: u64,
+    /// Honest logs of other cubes put into empty cells, and those of them that the source's mode leaves wrong.
+    pub not_alike: u64,
+    pub left_wrong: u64,
 }
 
 /// Updates compared with the plain reading, in one mode.
@@ -35,6 +38,8 @@ pub struct Updates {
     pub no_room: u64,
     pub log_entries: u64,
     pub quads: u64,
+    /// Logs after which the mesh passed the check, as demand 3 says.
+    pub mended: u64,
 }
 
 impl Tally {
@@ -93,6 +98,11 @@ fn entries_done(case: &Case, answer: Answer) -> usize {
         NO_ROOM => answer.place as usize,
         _ => 0,
     }
+}
+
+/// Whether all cubes that the log adds cover opposite sides alike.
+fn adds_alike(case: &Case) -> bool {
+    added_cubes(case).all(|cube| case.types.covers_alike(cube))
 }
 
 pub struct Comparison<'a> {
@@ -168,7 +178,7 @@ impl<'a> Comparison<'a> {
     fn both_modes(&mut self, case: &Case, start: &Words, count: u64) -> Compared<[End; 2]> {
         let [source, new] = MODES.map(|tested| self.log(&Case { tested, ..case.clone() }, start, count));
         let ends = [source?, new?];
-        if added_cubes(case).all(|cube| case.types.covers_alike(cube)) {
+        if adds_alike(case) {
             agree_ends("update, the source's mode and the new one", &ends[0], &ends[1])?;
             self.tally.same_in_both += added_cubes(case).next().is_some() as u64;
         }
@@ -214,6 +224,41 @@ impl<'a> Comparison<'a> {
             entries += (part.len() / ENTRY) as u64;
         }
         (told, room)
+    }
+
+    /// Demand 3: after a log that it speaks of, the mesh passes for the grid that the log leaves. There is room for `spare` quads more, or
+    /// for all that the grid can have. Where an entry finds none, those before it are the log.
+    pub fn mended(&mut self, case: &Case, spare: usize) -> Compared {
+        let mesh = rust::mesh(case.dims, &case.outer, &case.grid, &Registry::of(&case.types), case.naive).words();
+        let quads = mesh.links.len();
+        let start = laid(&mesh, room_for(quads.saturating_add(spare).min(6 * case.grid.len()), case));
+        let ends = self.both_modes(case, &start, quads as u64)?;
+        for (tested, end) in MODES.into_iter().zip(&ends) {
+            let mut case = Case { tested, ..case.clone() };
+            let by_entry = self.in_calls(&case, case.log.chunks_exact(ENTRY), &start, quads as u64);
+            agree_ends(&format!("update, {tested:?} tested, a call for each entry"), &by_entry, end)?;
+            case.log.truncate(entries_done(&case, end.0) * ENTRY);
+            self.left(&case, end)?;
+        }
+        Ok(())
+    }
+
+    /// The check of what a log left. Only the source's mode, with cubes that don't cover opposite sides alike, may leave a wrong set.
+    fn left(&mut self, case: &Case, (answer, room): &End) -> Compared {
+        let what = format!("check of a mended mesh, {:?} tested", case.tested);
+        let (honest, grid) = mended(case).ok_or("a log that demand 3 does not speak of")?;
+        agree("the log made honest", &case.log, &honest.log)?;
+        let number = self.check(&what, &Case { grid, ..honest }, room, answer.quads)?.number;
+        let mends = case.tested == Tested::Itself || adds_alike(case);
+        if mends || number != WRONG_SET {
+            agree(&what, number, 0)?;
+        }
+        if !case.log.is_empty() {
+            self.tally.updates[case.tested as usize].mended += mends as u64;
+            self.tally.not_alike += !mends as u64;
+            self.tally.left_wrong += (number == WRONG_SET) as u64;
+        }
+        Ok(())
     }
 
     /// Inputs made wrong, or short of room: the four calls beside the plain reading, every buffer whole.

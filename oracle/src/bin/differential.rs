@@ -5,9 +5,11 @@
 //! Against the Rust: a cube's floats; a fresh mesh; a mesh that the Rust built after a log, honest or foolish, in the source's mode of
 //! the update. Every quad, float bit, triangle word and index entry is compared, and a panic of the Rust counts as a disagreement.
 //! Against the plain reading, where the Rust says nothing: `moved`, zeroed and spare places, the new mode of the update, the check, and
-//! refusals, with every buffer whole. A case that fails is shrunk and printed; ten failing cases end the run.
+//! refusals, with every buffer whole. And demand 3, tried: the mesh passes the check after an honest log of cubes put into empty cells;
+//! in the source's mode they have to cover opposite sides alike. A case that fails is shrunk and printed; ten failing cases end the run.
+//! A run of a thousand cases that never met something it is there for has failed too.
 
-use oracle::cases::{simpler, Case, Random};
+use oracle::cases::{simpler, simpler_to_mend, Added, Case, Random};
 use oracle::compare::{Compared, Comparison, Tally, Updates, MODES};
 use oracle::faults::{limits, Faulty};
 use oracle::library::{assert_level, Library};
@@ -35,6 +37,9 @@ fn main() {
     }
     run.large();
     run.limits();
+    if cases >= 1000 {
+        run.met_all();
+    }
     println!("seed {seed}, {cases} cases, {:.1} s", start.elapsed().as_secs_f64());
     print_tally(&run.comparison.tally);
     println!("disagreements: {}", run.disagreements);
@@ -65,13 +70,26 @@ impl Run {
         if let Err(difference) = whole(|| self.comparison.case(&case)) {
             self.disagreements += 1;
             println!("case {number}: {difference}");
-            print(&shrunk(case, |c| anew(|comparison| comparison.case(c))));
+            print(&shrunk(case, simpler, |c| anew(|comparison| comparison.case(c))));
         }
         if let Err(difference) = whole(|| self.comparison.faults(&parameters, &faulty, fault)) {
             self.disagreements += 1;
             println!("case {number}, made wrong by {fault}: {difference}");
-            let shrunk = shrunk(faulty, |c| anew(|comparison| comparison.faults(&parameters, c, fault)));
+            let shrunk = shrunk(faulty, simpler, |c| anew(|comparison| comparison.faults(&parameters, c, fault)));
             print_faulty(&Faulty::of(&parameters, &shrunk, fault), &difference);
+        }
+        for added in [Added::AnyCubes, Added::AlikeCubes] {
+            self.mendable(number, added);
+        }
+    }
+
+    fn mendable(&mut self, number: u64, added: Added) {
+        let case = self.later.mendable(added);
+        let spare = self.later.pick(&[0, 4, 16, usize::MAX, usize::MAX, usize::MAX]);
+        if let Err(difference) = whole(|| self.comparison.mended(&case, spare)) {
+            self.disagreements += 1;
+            println!("case {number}, to be mended in room for {spare} quads more: {difference}");
+            print(&shrunk(case, simpler_to_mend, |c| anew(|comparison| comparison.mended(c, spare))));
         }
     }
 
@@ -82,6 +100,22 @@ impl Run {
                 self.disagreements += 1;
                 println!("landscape {dims:?}: {difference}");
             }
+        }
+    }
+
+    /// What never came up in a run is a disagreement: nothing was tried.
+    fn met_all(&mut self) {
+        let Tally { updates, same_in_both, left_wrong, .. } = &self.comparison.tally;
+        let by_mode = |count: fn(&Updates) -> u64| updates.iter().map(count).min().unwrap();
+        let met = [
+            ("a log that the source's mode leaves wrong", *left_wrong),
+            ("a log that gives the same in both modes", *same_in_both),
+            ("a mended mesh in each mode", by_mode(|updates| updates.mended)),
+            ("NO_ROOM in each mode", by_mode(|updates| updates.no_room)),
+        ];
+        for (what, _) in met.iter().filter(|(_, times)| *times == 0) {
+            self.disagreements += 1;
+            println!("never met: {what}");
         }
     }
 
@@ -112,7 +146,7 @@ fn anew(compare: impl FnOnce(&mut Comparison) -> Compared) -> Compared {
 }
 
 /// The simplest case found that still fails; how is printed.
-fn shrunk(mut case: Case, compare: impl Fn(&Case) -> Compared) -> Case {
+fn shrunk(mut case: Case, simpler: impl Fn(&Case) -> Vec<Case>, compare: impl Fn(&Case) -> Compared) -> Case {
     while let Some(simple) = simpler(&case).into_iter().find(|simple| compare(simple).is_err()) {
         case = simple;
     }
@@ -146,12 +180,17 @@ fn print(case: &Case) {
 }
 
 fn print_tally(tally: &Tally) {
-    let Tally { cubes, grids, log_entries, quads, index_entries, words, plain_calls, refusals, updates, same_in_both } = tally;
+    let Tally { cubes, grids, log_entries, quads, index_entries, words, plain_calls, refusals, .. } = tally;
     println!("with the Rust: {cubes} cubes, {grids} grids, {log_entries} log entries; {quads} quads, {index_entries} index entries, {words} words");
     println!("with 01 read plainly: {plain_calls} calls, refusals 2 to 16: {:?}", &refusals[2..]);
-    for (tested, updates) in ["the opposite side", "the side itself"].iter().zip(updates) {
-        let Updates { calls, refused, no_room, log_entries, quads } = updates;
-        println!("of them updates, {tested} tested: {calls} calls, {refused} refused ({no_room} NO_ROOM); {log_entries} log entries, {quads} quads");
+    for (tested, updates) in MODES.iter().zip(&tally.updates) {
+        let Updates { calls, refused, no_room, log_entries, quads, .. } = updates;
+        println!("of them updates, {tested:?} tested: {calls} calls, {refused} refused ({no_room} NO_ROOM); {log_entries} log entries, {quads} quads");
     }
-    println!("logs of cubes that cover opposite sides alike: {same_in_both}, the same in both modes");
+    for (tested, updates) in MODES.iter().zip(&tally.updates) {
+        println!("mended as demand 3 says, {tested:?} tested: {} logs, all pass the check", updates.mended);
+    }
+    let Tally { same_in_both, not_alike, left_wrong, .. } = tally;
+    println!("cubes that cover opposite sides alike: {same_in_both} logs, the same in both modes");
+    println!("other cubes: {not_alike} honest logs, {left_wrong} left wrong by the source's mode");
 }

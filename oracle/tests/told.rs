@@ -1,0 +1,109 @@
+//! The comparison can fail: readings that are wrong on purpose stand for the library, and each has to be told.
+
+use oracle::calls::{Answer, Calls, Plain};
+use oracle::cases::{entry, paper_types, Added, Case, Random};
+use oracle::compare::{Comparison, MODES};
+use oracle::rust::{CubeParameters, Words};
+use plain::Tested;
+
+struct Reading {
+    update: fn(&Case, &mut Words, u64) -> Answer,
+    check: fn(&Case, &Words, u64) -> Answer,
+}
+
+const RIGHT: Reading = Reading {
+    update: |case, room, count| Plain.update_mesh(case, room, count),
+    check: |case, mesh, count| Plain.check_mesh(case, mesh, count),
+};
+
+/// The new mode never, and always.
+const NEVER_NEW: Reading = Reading { update: |case, room, count| in_mode(Tested::Opposite, case, room, count), ..RIGHT };
+const ALWAYS_NEW: Reading = Reading { update: |case, room, count| in_mode(Tested::Itself, case, room, count), ..RIGHT };
+
+fn in_mode(tested: Tested, case: &Case, room: &mut Words, count: u64) -> Answer {
+    Plain.update_mesh(&Case { tested, ..case.clone() }, room, count)
+}
+
+impl Calls for Reading {
+    fn generate_voxel_mesh(&self, parameters: &CubeParameters, out: &mut [u32]) -> Answer {
+        Plain.generate_voxel_mesh(parameters, out)
+    }
+    fn mesh_grid(&self, case: &Case, room: &mut Words) -> Answer {
+        Plain.mesh_grid(case, room)
+    }
+    fn update_mesh(&self, case: &Case, room: &mut Words, count: u64) -> Answer {
+        (self.update)(case, room, count)
+    }
+    fn check_mesh(&self, case: &Case, mesh: &Words, count: u64) -> Answer {
+        (self.check)(case, mesh, count)
+    }
+}
+
+/// Of how many cases a disagreement is told: whole ones, faulty ones, ones to be mended.
+fn told(reading: Reading) -> [usize; 3] {
+    let mut random = Random(1);
+    let mut comparison = Comparison::of(&reading);
+    let mut told = [0; 3];
+    for _ in 0..300 {
+        let (parameters, case, fault) = (random.cube(), random.case(), random.word() as u64);
+        let faulty = Case { tested: random.pick(&MODES), ..case.clone() };
+        let mendable = random.mendable(Added::AnyCubes);
+        told[0] += comparison.case(&case).is_err() as usize;
+        told[1] += comparison.faults(&parameters, &faulty, fault).is_err() as usize;
+        told[2] += comparison.mended(&mendable, usize::MAX).is_err() as usize;
+    }
+    told
+}
+
+fn assert_told(wrong: Reading) {
+    let told = told(wrong);
+    assert!(told.iter().all(|&times| times > 0), "{told:?}");
+}
+
+#[test]
+fn nothing_is_told_of_the_right_reading() {
+    assert_eq!(told(RIGHT), [0; 3]);
+}
+
+#[test]
+fn the_wrong_mode_is_told() {
+    assert_told(NEVER_NEW);
+    assert_told(ALWAYS_NEW);
+}
+
+/// Document 01's case 7 is enough, and the mode at fault is named.
+#[test]
+fn one_slab_in_the_wrong_mode_is_told() {
+    let log = entry(1, 1, 3, &[255, 1, 255, 255, 255, 255]);
+    let slab = Case { dims: [1, 2, 1], grid: vec![1, 0], types: paper_types(1.0), log, ..Case::default() };
+    for (wrong, named) in [(NEVER_NEW, "update, Itself tested:"), (ALWAYS_NEW, "update, Opposite tested:")] {
+        let difference = Comparison::of(&wrong).case(&slab).unwrap_err();
+        assert!(difference.starts_with(named), "{difference}");
+    }
+}
+
+#[test]
+fn a_wrong_count_of_moves_is_told() {
+    let update = |case: &Case, room: &mut Words, count: u64| {
+        let answer = Plain.update_mesh(case, room, count);
+        Answer { moved: answer.moved.saturating_sub((case.tested == Tested::Itself) as u64), ..answer }
+    };
+    assert_told(Reading { update, ..RIGHT });
+}
+
+#[test]
+fn a_spare_place_that_is_touched_is_told() {
+    let update = |case: &Case, room: &mut Words, count: u64| {
+        let answer = Plain.update_mesh(case, room, count);
+        if let (Tested::Itself, Some(last)) = (case.tested, room.slots.last_mut()) {
+            *last = 0;
+        }
+        answer
+    };
+    assert_told(Reading { update, ..RIGHT });
+}
+
+#[test]
+fn a_check_that_passes_everything_is_told() {
+    assert_told(Reading { check: |_, _, _| Answer::default(), ..RIGHT });
+}
