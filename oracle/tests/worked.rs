@@ -2,7 +2,8 @@
 
 use oracle::calls::{Answer, Calls, Plain};
 use oracle::cases::{cube_of, entry, paper_types, Case};
-use oracle::rust::{self, Registry, Words};
+use oracle::rust::{self, Registry, Types, Words};
+use plain::Tested;
 
 const AIR: u8 = 0;
 const CUBE: u8 = 1;
@@ -54,6 +55,54 @@ fn the_ten_cases() {
     assert_eq!(quads(&case([1, 2, 1], &[CUBE, TOP], &[])).0, 11);
     assert_eq!(quads(&case([1, 2, 1], &[CUBE, AIR], &[entry(1, 1, AIR, &above)])), (6, 6, 0));
     assert_eq!(plain::link(5, 0), 2_684_354_565);
+}
+
+/// Quads after the log in the new mode, where the check passes for the grid that it leaves.
+fn mended(case: &Case, left: &[u8]) -> u64 {
+    let mut room = room_for(case, 6 * case.grid.len());
+    let fresh = Plain.mesh_grid(case, &mut room);
+    let updated = Plain.update_mesh(&Case { tested: Tested::Itself, ..case.clone() }, &mut room, fresh.quads);
+    let after = Case { grid: left.to_vec(), ..case.clone() };
+    assert_eq!(updated.number, 0);
+    assert_eq!(Plain.check_mesh(&after, &room, updated.quads), Answer::default());
+    updated.quads
+}
+
+/// Cases 7 and 8 in the new mode: as many quads as fresh.
+#[test]
+fn slabs() {
+    let above = [OUT, CUBE, OUT, OUT, OUT, OUT];
+    for (slab, quads_left) in [(BOTTOM, 10), (TOP, 11)] {
+        let added = case([1, 2, 1], &[CUBE, AIR], &[entry(1, 1, slab, &above)]);
+        assert_eq!(mended(&added, &[CUBE, slab]), quads_left);
+        assert_eq!(quads(&case([1, 2, 1], &[CUBE, slab], &[])).0, quads_left);
+    }
+}
+
+/// A slab that covers one side, put beside a cube at each face: the cube loses its facing quad exactly if the side is the one tested.
+#[test]
+fn the_side_tested() {
+    let types = Types {
+        kinds: vec![0, 1, 1, 1, 1, 1, 1, 1],
+        covers: vec![0, 63, 1, 2, 4, 8, 16, 32],
+        cubes: (0..8).flat_map(|_| rust::cube(&cube_of(1.0, 0))).collect(),
+        ..paper_types(1.0)
+    };
+    for face in 0..6 {
+        let mut dims = [1; 3];
+        dims[[1, 0, 2][face / 2]] = 2;
+        let cell = face % 2;
+        let mut neighbours = [OUT; 6];
+        neighbours[face] = CUBE;
+        for side in 0..6 {
+            let slab = 2 + side as u8;
+            let (mut before, mut after) = ([CUBE; 2], [CUBE; 2]);
+            (before[cell], after[cell]) = (AIR, slab);
+            let added = Case { types: types.clone(), ..case(dims, &before, &[entry(cell, 1, slab, &neighbours)]) };
+            assert_eq!(mended(&added, &after), if side == face { 10 } else { 11 });
+            assert_eq!(quads(&added).1, if side == plain::opposite(face) { 10 } else { 11 });
+        }
+    }
 }
 
 /// Case 6: of ten quads, removing quad 4 shifts five, quad 3 swaps one. Quad 4 is cell 0 Forward, quad 3 cell 0 Back.
