@@ -11,10 +11,11 @@ use oracle::calls::Calls;
 use oracle::cases::{beside, coordinates, cube_of, entry, Case, Random};
 use oracle::library::{assert_level, Library};
 use oracle::rust::{self, cube, floats, Registry, Types, Words, ENTRY};
+use plain::Tested;
 use std::hint::black_box;
 use std::time::{Duration, Instant};
 
-const ROWS: u32 = 14;
+const ROWS: u32 = 15;
 const MOST_ROUNDS: usize = 201;
 const RUNS: usize = 4;
 
@@ -135,11 +136,14 @@ fn rows(bench: &Bench, random: &mut Random) -> Vec<Row> {
     rows.push(bench.fresh("fresh, 128×128×64 terrain".into(), &terrain(random, [128, 128, 64])));
 
     let ground = terrain(random, [32; 3]);
-    for (name, entries) in [("200 edits", 200), ("5,000 edits", 5_000)] {
-        let case = Case { log: edits(random, &ground, entries), ..ground.clone() };
-        rows.push(bench.update(format!("{name} in one log"), &case, case.log.len()));
-        rows.push(bench.update(format!("{name}, one a call (each)"), &case, ENTRY));
+    let [some, many] = [200, 5_000].map(|entries| Case { log: edits(random, &ground, entries), ..ground.clone() });
+    for (name, case) in [("200 edits", &some), ("5,000 edits", &many)] {
+        rows.push(bench.update(format!("{name} in one log"), case, case.log.len()));
+        rows.push(bench.update(format!("{name}, one a call (each)"), case, ENTRY));
     }
+    // The ground covers opposite sides alike, so that the new mode too gives the Rust's mesh
+    let itself = Case { tested: Tested::Itself, ..some };
+    rows.push(bench.update("200 edits in one log, the side itself tested".into(), &itself, itself.log.len()));
     rows.push(bench.check("check, 32³ terrain".into(), &ground));
     rows.push(bench.cube());
     assert_eq!(rows.len(), ROWS as usize);
