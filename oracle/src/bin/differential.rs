@@ -17,6 +17,8 @@ use oracle::rust::ENTRY;
 use std::panic::{catch_unwind, AssertUnwindSafe};
 use std::time::Instant;
 
+const MOST_DISAGREEMENTS: u64 = 10;
+
 /// Sizes at and near the limits.
 const LARGE: [[u32; 3]; 7] =
     [[1024, 1, 1], [1, 1024, 1], [1, 1, 1024], [32, 32, 32], [16, 256, 16], [1024, 32, 32], [32, 1024, 32]];
@@ -30,14 +32,14 @@ fn main() {
     let mut run = Run::of(seed);
     for number in 0..cases {
         run.one(number);
-        if run.disagreements >= 10 {
+        if run.disagreements >= MOST_DISAGREEMENTS {
             println!("stopped after ten disagreements, at case {number}");
             break;
         }
     }
     run.large();
     run.limits();
-    if cases >= 1000 {
+    if cases >= 1000 && run.disagreements < MOST_DISAGREEMENTS {
         run.met_all();
     }
     println!("seed {seed}, {cases} cases, {:.1} s", start.elapsed().as_secs_f64());
@@ -188,7 +190,7 @@ fn print_tally(tally: &Tally) {
         println!("of them updates, {tested:?} tested: {calls} calls, {refused} refused ({no_room} NO_ROOM); {log_entries} log entries, {quads} quads");
     }
     for (tested, updates) in MODES.iter().zip(&tally.updates) {
-        println!("mended as demand 3 says, {tested:?} tested: {} logs, all pass the check", updates.mended);
+        println!("demand 3, {tested:?} tested: {} logs leave a mesh that passes the check", updates.mended);
     }
     let Tally { same_in_both, not_alike, left_wrong, .. } = tally;
     println!("cubes that cover opposite sides alike: {same_in_both} logs, the same in both modes");
