@@ -6,19 +6,19 @@ use crate::rust::{self, floats, CubeParameters, Registry, Words, ENTRY, NONE, OU
 
 const MOST_ENTRIES: usize = 16_777_216;
 
-/// One cube, and sizes or a log at the limit or one past it.
-pub fn limits() -> Vec<(String, Case)> {
+/// One cube, and sizes or a log at the limit or one past it; each log is made when it is asked for.
+pub fn limits() -> impl Iterator<Item = (String, Case)> {
     let one = Case { dims: [1; 3], grid: vec![1], types: paper_types(1.0), ..Case::default() };
     let sizes =
         [[1024, 32, 32], [1024, 32, 33], [1024, 1024, 1], [1, 1024, 1025], [65_536, 65_536, 1], [1 << 31, 2, 1], [0, 1, 1]];
     let lengths = [MOST_ENTRIES * ENTRY, MOST_ENTRIES * ENTRY + 1, (MOST_ENTRIES + 1) * ENTRY, (MOST_ENTRIES + 2) * ENTRY - 1];
     let sized = sizes.map(|dims| (format!("sizes {dims:?}"), Case { dims, ..one.clone() }));
     let idle = entry(0, 2, 0, &[OUTSIDE; 6]);
-    let logged = lengths.map(|length| {
+    let logged = lengths.into_iter().map(move |length| {
         let log = idle.iter().copied().cycle().take(length).collect();
         (format!("a log of {length} bytes"), Case { log, ..one.clone() })
     });
-    sized.into_iter().chain(logged).collect()
+    sized.into_iter().chain(logged)
 }
 
 pub struct Faulty {
