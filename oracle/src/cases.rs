@@ -389,8 +389,8 @@ pub fn added_cubes(case: &Case) -> impl Iterator<Item = u8> + '_ {
 }
 
 /// The case with its log made true of its grid, and the grid that the log leaves, if all it does is to break and to put cubes into
-/// empty cells. These are the logs of demand 3's new mode; the source's asks for cubes that cover opposite sides alike.
-pub fn mended(case: &Case) -> Option<(Case, Vec<u8>)> {
+/// empty cells. Of these logs demand 3 speaks in the new mode; in the source's the cubes have to cover opposite sides alike too.
+pub fn made_honest(case: &Case) -> Option<(Case, Vec<u8>)> {
     let t = &case.types;
     let (mut honest, mut grid) = (case.clone(), case.grid.clone());
     for entry in honest.log.chunks_exact_mut(ENTRY) {
@@ -470,6 +470,6 @@ pub fn simpler(case: &Case) -> Vec<Case> {
 
 /// The same for a log that demand 3 speaks of: what is left of it is made true again.
 pub fn simpler_to_mend(case: &Case) -> Vec<Case> {
-    let honest = simpler(case).into_iter().filter_map(|simple| Some(mended(&simple)?.0));
+    let honest = simpler(case).into_iter().filter_map(|simple| Some(made_honest(&simple)?.0));
     honest.filter(|simple| simple != case).collect()
 }

@@ -1,7 +1,7 @@
 //! The library beside the Rust and beside the plain reading. What stands for the library is given, so that a wrong one can be too.
 
 use crate::calls::{Answer, Calls, Plain};
-use crate::cases::{added_cubes, mended, Case};
+use crate::cases::{added_cubes, made_honest, Case};
 use crate::faults::Faulty;
 use crate::room::{front, laid, room_for, room_of, SPARE};
 use crate::rust::{self, CubeParameters, Registry, Words, ENTRY};
@@ -246,7 +246,7 @@ impl<'a> Comparison<'a> {
     /// The check of what a log left. Only the source's mode, with cubes that don't cover opposite sides alike, may leave a wrong set.
     fn left(&mut self, case: &Case, (answer, room): &End) -> Compared {
         let what = format!("check of a mended mesh, {:?} tested", case.tested);
-        let (honest, grid) = mended(case).ok_or("a log that demand 3 does not speak of")?;
+        let (honest, grid) = made_honest(case).ok_or("a log that demand 3 does not speak of")?;
         agree("the log made honest", &case.log, &honest.log)?;
         let number = self.check(&what, &Case { grid, ..honest }, room, answer.quads)?.number;
         let mends = case.tested == Tested::Itself || adds_alike(case);
