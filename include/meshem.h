@@ -10,7 +10,7 @@
  *
  * Within these rules each call takes every number, length and content. It returns 0 or the number of a refusal. After
  * success `place` is 0; after a refusal the counts are 0 and nothing else has changed, but for an update's
- * MESHEM_NO_ROOM, which keeps the entries before `place` and tells their counts.
+ * MESHEM_NO_ROOM, which keeps the entries before `place` and tells their counts. meshem_abi alone returns a level.
  */
 #ifndef MESHEM_H
 #define MESHEM_H
@@ -21,6 +21,13 @@
 #ifdef __cplusplus
 extern "C" {
 #endif
+
+/*
+ * The level of these declarations; meshem_abi returns the library's. Where they differ a call reads its arguments
+ * wrongly, so a program compares the two before its first call. A library of level 1 lacks meshem_abi.
+ */
+#define MESHEM_ABI 2u
+uint32_t meshem_abi(void);
 
 enum meshem_refusal {
     MESHEM_DONE = 0,
@@ -40,6 +47,16 @@ enum meshem_refusal {
     MESHEM_NO_ROOM = 14,
     MESHEM_WRONG_SET = 15,
     MESHEM_WRONG_VERTEX = 16
+};
+
+/*
+ * The side of an Added voxel that decides whether the neighbour at face i loses the quad facing it: the opposite of
+ * i, as Meshem does, or i itself, as meshem_check_mesh wants it. The two differ only for a voxel that does not cover
+ * opposite sides alike, such as a half-height slab.
+ */
+enum meshem_tested {
+    MESHEM_TESTED_OPPOSITE = 0,
+    MESHEM_TESTED_ITSELF = 1
 };
 
 /* Writes the 24 vertices of one cube at the start of `out`. */
@@ -81,6 +98,7 @@ uint32_t meshem_update_mesh(
     uint64_t count,                                     /* quads before the log */
     uint32_t width, uint32_t height, uint32_t length,
     const uint8_t *log, size_t log_len,                 /* 12 bytes an entry */
+    uint32_t tested,                                    /* 0 the opposite of i, else i itself */
     const uint8_t *kinds, size_t kinds_len,
     const uint8_t *covers, size_t covers_len,           /* side sets */
     const uint32_t *cubes, size_t cubes_len,            /* the registry's floats */
