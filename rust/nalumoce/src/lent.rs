@@ -32,7 +32,7 @@
 //! # Ok::<(), Refusal>(())
 //! ```
 
-use crate::raw::{self, Told};
+use crate::raw::{self, Tested, Told};
 use crate::{Dimensions, Face, Log, MeshingAlgorithm, Reason, Refusal, VoxelRegistry};
 use std::fmt;
 
@@ -126,7 +126,8 @@ pub fn mesh_grid(
     told.refusal().map_or(Ok(told.quads as usize), Err)
 }
 
-/// Mends a mesh of `quads` quads by a log. The places freed at its end are zeroed; other spare room stays as it was.
+/// Mends a mesh of `quads` quads by a log, as Meshem does. The places freed at its end are zeroed; other spare room stays as it was.
+/// For logs that add slabs see [`mend_mesh`].
 ///
 /// # Errors
 ///
@@ -139,7 +140,22 @@ pub fn update_mesh(
     log: &Log,
     reg: &VoxelRegistry,
 ) -> Result<Updated, UpdateError> {
-    update_by_bytes(room, quads, dims, log.as_bytes(), reg)
+    update_by_bytes(room, quads, dims, log.as_bytes(), Tested::Opposite, reg)
+}
+
+/// Mends a mesh as [`update_mesh`] does, by the same rules but for slabs: [`mend_mesh`](crate::mend_mesh) says which.
+///
+/// # Errors
+///
+/// Those of [`update_mesh`].
+pub fn mend_mesh(
+    room: &mut Room,
+    quads: usize,
+    dims: Dimensions,
+    log: &Log,
+    reg: &VoxelRegistry,
+) -> Result<Updated, UpdateError> {
+    update_by_bytes(room, quads, dims, log.as_bytes(), Tested::Itself, reg)
 }
 
 pub(crate) fn update_by_bytes(
@@ -147,9 +163,10 @@ pub(crate) fn update_by_bytes(
     quads: usize,
     dims: Dimensions,
     log: &[u8],
+    tested: Tested,
     reg: &VoxelRegistry,
 ) -> Result<Updated, UpdateError> {
-    let told = raw::update_mesh(room, quads, dims, log, reg);
+    let told = raw::update_mesh(room, quads, dims, log, tested, reg);
     let updated = |told: &Told| Updated { quads: told.quads as usize, moved: told.moved };
     match told.refusal() {
         None => Ok(updated(&told)),

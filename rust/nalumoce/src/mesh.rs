@@ -1,6 +1,7 @@
 //! Meshes that own their lists and grow as they need.
 
 use crate::lent::{self, Lists, Room, UpdateError, Updated, NO_QUAD};
+use crate::raw::Tested;
 use crate::registry::floats;
 use crate::{Dimensions, Face, Log, Reason, Refusal, VoxelChange, VoxelRegistry};
 
@@ -172,7 +173,10 @@ fn same_floats(mesh: &Mesh, reg: &VoxelRegistry) -> Result<(), Refusal> {
     fits.then_some(()).ok_or(Refusal { reason: Reason::BadTypes, place: 255 })
 }
 
-/// Mends a mesh by the changes logged, and empties the log. The lists grow if they must.
+/// Mends a mesh by the changes logged, as Meshem does, and empties the log. The lists grow if they must.
+///
+/// Added takes the neighbour's quad at a face if the voxel covers the opposite of that face. That is Meshem's rule, and wrong for
+/// slabs: [`mend_mesh`] has the right one.
 ///
 /// ```
 /// # use nalumoce::*;
@@ -204,12 +208,56 @@ fn same_floats(mesh: &Mesh, reg: &VoxelRegistry) -> Result<(), Refusal> {
 /// for a log that names what isn't there; BAD_SIZE, SHORT_ROOM or BAD_LINKS if [`MeshMD::dims`] were changed to what can't be. Mesh and
 /// log are then as they were.
 pub fn update_mesh(mesh: &mut Mesh, metadata: &mut MeshMD, reg: &VoxelRegistry) -> Result<Updated, Refusal> {
+    update_testing(Tested::Opposite, mesh, metadata, reg)
+}
+
+/// Mends a mesh by the changes logged, slabs too, and empties the log.
+///
+/// It is [`update_mesh`] but for one thing: Added takes the neighbour's quad at a face if the voxel covers that face itself. So a slab
+/// that covers its underside hides the ground beneath it, and nothing above it.
+///
+/// ```
+/// # use nalumoce::*;
+/// # let texture = Face::ALL.map(|face| (face, [0, 0]));
+/// # let cube = generate_voxel_mesh([1.0; 3], [1, 1], texture, [0.0; 3], 0.0, None, 1.0)?;
+/// # let half = generate_voxel_mesh([1.0, 0.5, 1.0], [1, 1], texture, [0.0, -0.25, 0.0], 0.0, None, 1.0)?;
+/// # let mut registry = VoxelRegistry::new([1.0; 3], [0.0; 3], false);
+/// # let air = registry.add(VoxelMesh::Null, Sides::NONE)?;
+/// # let rock = registry.add(VoxelMesh::NormalCube(&cube), Sides::ALL)?;
+/// # let slab = registry.add(VoxelMesh::NormalCube(&half), Sides::from_fn(|side| side == Face::Bottom))?;
+/// let mut grid = [rock, air];
+/// let (mut mesh, mut metadata) = mesh_grid((1, 2, 1), &[], &grid, &registry, MeshingAlgorithm::Culling)?;
+/// metadata.log(VoxelChange::Added, 1, slab, neighboring_voxels(&grid, 1, metadata.dims));
+/// grid[1] = slab;
+/// assert_eq!(mend_mesh(&mut mesh, &mut metadata, &registry)?.quads, 10); // update_mesh leaves 11
+/// check_mesh(&mesh, &metadata, &[], &grid, &registry)?;
+/// # Ok::<(), Refusal>(())
+/// ```
+///
+/// Use this one, unless you have to get Meshem's meshes quad for quad. If all that is added covers opposite sides alike, as full cubes
+/// do, the two do the same.
+///
+/// It has a name of its own, and is no setting of the metadata or the registry, so that Meshem's name does what Meshem does, and a
+/// call shows which of the two it is. A setting would have to be made again for each chunk, and one forgotten would not be noticed.
+///
+/// The library's proof: a mesh that passes [`check_mesh`] with no outer layer passes it again for the new grid, if the log is of Added
+/// and Broken alone, each entry true of the grid at its moment, and each Added puts a cube into a cell that held a Null covering
+/// nothing. Of [`update_mesh`] that is proved if the cubes added cover opposite sides alike.
+///
+/// # Errors
+///
+/// Those of [`update_mesh`].
+pub fn mend_mesh(mesh: &mut Mesh, metadata: &mut MeshMD, reg: &VoxelRegistry) -> Result<Updated, Refusal> {
+    update_testing(Tested::Itself, mesh, metadata, reg)
+}
+
+fn update_testing(tested: Tested, mesh: &mut Mesh, metadata: &mut MeshMD, reg: &VoxelRegistry) -> Result<Updated, Refusal> {
     same_floats(mesh, reg)?;
     let log = std::mem::take(&mut metadata.log);
     let (mut done, mut moved) = (0, 0);
     loop {
         let (dims, quads, rest) = (metadata.dims, mesh.quads, &log.as_bytes()[Log::ENTRY * done..]);
-        match lent::update_by_bytes(&mut room(mesh, metadata), quads, dims, rest, reg) {
+        match lent::update_by_bytes(&mut room(mesh, metadata), quads, dims, rest, tested, reg) {
             Ok(updated) => {
                 mesh.quads = updated.quads;
                 return Ok(Updated { moved: moved + updated.moved, ..updated });

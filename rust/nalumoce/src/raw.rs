@@ -5,9 +5,11 @@
 //! - What is written comes by `&mut`, the outputs too, which are fields of a [`Told`] made for the call. So it overlaps nothing.
 //! - What is only read comes by `&`. Safe code may lend one list twice, as links and as slots say, and the header allows that.
 //! - An f32 and its bits are one word, and a [`Face`] is its number.
+//! - The library is of the level of these declarations. The build compares the two, but for a machine that isn't its own; so each
+//!   call compares them too.
 
 use crate::lent::{Lists, Room};
-use crate::{Dimensions, Face, MeshingAlgorithm, Reason, Refusal, VoxelRegistry};
+use crate::{Dimensions, Face, MeshingAlgorithm, Reason, Refusal, VoxelRegistry, MESHEM_ABI};
 use std::mem::{align_of, size_of};
 
 #[rustfmt::skip]
@@ -45,6 +47,7 @@ extern "C" {
         count: u64,
         width: u32, height: u32, length: u32,
         log: *const u8, log_len: usize,
+        tested: u32,
         kinds: *const u8, kinds_len: usize, covers: *const u8, covers_len: usize,
         cubes: *const u32, cubes_len: usize, coloured: u32,
         dx: u32, dy: u32, dz: u32, cx: u32, cy: u32, cz: u32,
@@ -62,6 +65,23 @@ extern "C" {
         count: u64,
         place: *mut u64,
     ) -> u32;
+}
+
+/// The level of the library that is linked: [`MESHEM_ABI`], or the build would have stopped.
+pub fn meshem_abi() -> u32 {
+    extern "C" {
+        fn meshem_abi() -> u32;
+    }
+    unsafe { meshem_abi() }
+}
+
+/// The side of an Added voxel that decides whether the neighbour at a face loses its facing quad.
+#[derive(Clone, Copy)]
+pub(crate) enum Tested {
+    /// The opposite of the face, as Meshem does.
+    Opposite,
+    /// The face itself, as the culling rule does.
+    Itself,
 }
 
 pub(crate) struct CubeParameters<'a> {
@@ -84,6 +104,12 @@ pub(crate) struct Told {
 }
 
 impl Told {
+    /// Nothing yet, for a call to write into. A library of another level would misread what the call is given.
+    fn nothing() -> Told {
+        assert_eq!(meshem_abi(), MESHEM_ABI, "libexports.a is of another MESHEM_ABI than this crate");
+        Told::default()
+    }
+
     pub fn refusal(&self) -> Option<Refusal> {
         (self.number != 0).then(|| {
             let reason = Reason::from_number(self.number).expect("the library names 1 to 16");
@@ -116,7 +142,7 @@ fn sizes((width, height, length): Dimensions) -> [u32; 3] {
 
 #[rustfmt::skip]
 pub(crate) fn generate_voxel_mesh(p: &CubeParameters, out: &mut [f32]) -> Told {
-    let mut told = Told::default();
+    let mut told = Told::nothing();
     let out = words_mut(out);
     let [d, c] = [p.voxel_dims, p.voxel_center].map(|floats| floats.map(f32::to_bits));
     let colour = p.default_color_intensity.unwrap_or(0.0);
@@ -140,7 +166,7 @@ pub(crate) fn generate_voxel_mesh(p: &CubeParameters, out: &mut [f32]) -> Told {
 pub(crate) fn mesh_grid(
     dims: Dimensions, outer: &[Face], grid: &[u8], reg: &VoxelRegistry, algorithm: MeshingAlgorithm, room: &mut Room,
 ) -> Told {
-    let mut told = Told::default();
+    let mut told = Told::nothing();
     let [width, height, length] = sizes(dims);
     let outer = numbers(outer);
     let cubes = words(&reg.cubes);
@@ -166,8 +192,10 @@ pub(crate) fn mesh_grid(
 }
 
 #[rustfmt::skip]
-pub(crate) fn update_mesh(room: &mut Room, quads: usize, dims: Dimensions, log: &[u8], reg: &VoxelRegistry) -> Told {
-    let mut told = Told::default();
+pub(crate) fn update_mesh(
+    room: &mut Room, quads: usize, dims: Dimensions, log: &[u8], tested: Tested, reg: &VoxelRegistry,
+) -> Told {
+    let mut told = Told::nothing();
     let [width, height, length] = sizes(dims);
     let cubes = words(&reg.cubes);
     let [d, c] = [reg.voxel_dims, reg.center].map(|floats| floats.map(f32::to_bits));
@@ -179,6 +207,7 @@ pub(crate) fn update_mesh(room: &mut Room, quads: usize, dims: Dimensions, log: 
             quads as u64,
             width, height, length,
             log.as_ptr(), log.len(),
+            tested as u32,
             reg.kinds.as_ptr(), reg.kinds.len(), reg.covers.as_ptr(), reg.covers.len(),
             cubes.as_ptr(), cubes.len(), reg.coloured as u32,
             d[0], d[1], d[2], c[0], c[1], c[2],
@@ -192,7 +221,7 @@ pub(crate) fn update_mesh(room: &mut Room, quads: usize, dims: Dimensions, log: 
 pub(crate) fn check_mesh(
     dims: Dimensions, outer: &[Face], grid: &[u8], reg: &VoxelRegistry, lists: &Lists, quads: usize,
 ) -> Told {
-    let mut told = Told::default();
+    let mut told = Told::nothing();
     let [width, height, length] = sizes(dims);
     let outer = numbers(outer);
     let cubes = words(&reg.cubes);

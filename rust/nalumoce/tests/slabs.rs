@@ -1,0 +1,205 @@
+//! Voxels that don't cover opposite sides alike, and what the two updates leave of a mesh: Meshem's, and the culling rule's.
+
+use nalumoce::lent::{self, Room, UpdateError};
+use nalumoce::*;
+
+const AIR: u8 = 0;
+const ROCK: u8 = 1;
+const SLAB: u8 = 2;
+const PANEL: u8 = 3;
+
+/// A cube from one height to another above the cell's middle.
+fn cube_between(low: f32, high: f32, color: Option<f32>) -> Cube {
+    let texture = Face::ALL.map(|face| (face, [face as u32, 1]));
+    let (dims, center) = ([1.0, high - low, 1.0], [0.0, (low + high) / 2.0, 0.0]);
+    generate_voxel_mesh(dims, [6, 2], texture, center, 0.0, color, 0.25).unwrap()
+}
+
+fn only(side: Face) -> Sides {
+    Sides::from_fn(|other| other == side)
+}
+
+/// Air, rock, a slab that is the lower half and covers Bottom, and a panel that is a little over the upper half and covers Top.
+fn registry() -> VoxelRegistry {
+    let mut registry = VoxelRegistry::new([1.0; 3], [0.0; 3], false);
+    assert_eq!(registry.add(VoxelMesh::Null, Sides::NONE), Ok(AIR));
+    for (code, low, high, covers) in
+        [(ROCK, -0.5, 0.5, Sides::ALL), (SLAB, -0.5, 0.0, only(Face::Bottom)), (PANEL, -0.0625, 0.5, only(Face::Top))]
+    {
+        assert_eq!(registry.add(VoxelMesh::NormalCube(&cube_between(low, high, None)), covers), Ok(code));
+    }
+    registry
+}
+
+fn meshed(dims: Dimensions, grid: &[u8], registry: &VoxelRegistry) -> (Mesh, MeshMD) {
+    mesh_grid(dims, &[], grid, registry, MeshingAlgorithm::Culling).unwrap()
+}
+
+/// Logs a voxel for a cell, as the grid is, and puts it there.
+fn put(metadata: &mut MeshMD, grid: &mut [u8], cell: usize, voxel: u8) {
+    let around = neighboring_voxels(grid, cell, metadata.dims);
+    match voxel {
+        AIR => metadata.log(VoxelChange::Broken, cell, grid[cell], around),
+        _ => metadata.log(VoxelChange::Added, cell, voxel, around),
+    }
+    grid[cell] = voxel;
+}
+
+type Update = fn(&mut Mesh, &mut MeshMD, &VoxelRegistry) -> Result<Updated, Refusal>;
+
+#[test]
+fn the_library_is_of_this_crates_level() {
+    assert_eq!(meshem_abi(), MESHEM_ABI);
+}
+
+/// Cases 7 and 8 of document 01.
+#[test]
+fn a_slab_and_a_panel_added_above_rock() {
+    let (registry, dims) = (registry(), (1, 2, 1));
+    let above_rock = |voxel: u8, update: Update| {
+        let mut grid = [ROCK, AIR];
+        let (mut mesh, mut metadata) = meshed(dims, &grid, &registry);
+        put(&mut metadata, &mut grid, 1, voxel);
+        let quads = update(&mut mesh, &mut metadata, &registry).unwrap().quads;
+        (quads, check_mesh(&mesh, &metadata, &[], &grid, &registry))
+    };
+    let the_rocks_top = Refusal { reason: Reason::WrongSet, place: Face::Top as u64 };
+    assert_eq!(meshed(dims, &[ROCK, SLAB], &registry).0.quads(), 10);
+    assert_eq!(above_rock(SLAB, update_mesh), (11, Err(the_rocks_top)));
+    assert_eq!(above_rock(SLAB, mend_mesh), (10, Ok(())));
+    assert_eq!(meshed(dims, &[ROCK, PANEL], &registry).0.quads(), 11);
+    assert_eq!(above_rock(PANEL, update_mesh), (10, Err(the_rocks_top)));
+    assert_eq!(above_rock(PANEL, mend_mesh), (11, Ok(())));
+}
+
+#[derive(Clone, PartialEq, Debug)]
+struct Kept {
+    vertices: Vec<f32>,
+    triangles: Vec<u32>,
+    links: Vec<u32>,
+    slots: Vec<u32>,
+}
+
+impl Kept {
+    fn new(quads: usize, cells: usize) -> Kept {
+        Kept { vertices: vec![7.0; 32 * quads], triangles: vec![7; 6 * quads], links: vec![7; quads], slots: vec![7; 6 * cells] }
+    }
+    fn room(&mut self) -> Room<'_> {
+        Room { vertices: &mut self.vertices, triangles: &mut self.triangles, links: &mut self.links, slots: &mut self.slots }
+    }
+}
+
+type LentUpdate = fn(&mut Room, usize, Dimensions, &Log, &VoxelRegistry) -> Result<Updated, UpdateError>;
+
+#[test]
+fn lent_lists_are_mended_either_way_too() {
+    let (registry, dims) = (registry(), (1, 2, 1));
+    for (voxel, update, quads, right) in [
+        (SLAB, lent::update_mesh as LentUpdate, 11, false),
+        (SLAB, lent::mend_mesh, 10, true),
+        (PANEL, lent::update_mesh, 10, false),
+        (PANEL, lent::mend_mesh, 11, true),
+    ] {
+        let mut kept = Kept::new(12, 2);
+        let mut room = kept.room();
+        assert_eq!(lent::mesh_grid(dims, &[], &[ROCK, AIR], &registry, MeshingAlgorithm::Culling, &mut room), Ok(6));
+        let mut log = Log::new();
+        log.push(VoxelChange::Added, 1, voxel, neighboring_voxels(&[ROCK, AIR], 1, dims));
+        assert_eq!(update(&mut room, 6, dims, &log, &registry).unwrap().quads, quads);
+        assert_eq!(lent::check_mesh(dims, &[], &[ROCK, voxel], &registry, room.lists(), quads).is_ok(), right);
+    }
+}
+
+/// No two numbers of the call are alike, so none can stand in another's place.
+#[test]
+fn what_is_tested_is_told_apart_from_every_other_number() {
+    let (dims, center) = ((4, 3, 2), [0.5, 0.375, 2.0]);
+    for color in [None, Some(0.125)] {
+        let mut registry = VoxelRegistry::new([1.0, 0.75, 4.0], center, color.is_some());
+        let texture = Face::ALL.map(|face| (face, [face as u32, 1]));
+        let cube = |height, middle| {
+            generate_voxel_mesh([1.0, height, 4.0], [6, 2], texture, [center[0], middle, center[2]], 0.0, color, 0.25).unwrap()
+        };
+        assert_eq!(registry.add(VoxelMesh::Null, Sides::NONE), Ok(AIR));
+        assert_eq!(registry.add(VoxelMesh::NormalCube(&cube(0.75, center[1])), Sides::ALL), Ok(ROCK));
+        assert_eq!(registry.add(VoxelMesh::NormalCube(&cube(0.375, 0.1875)), only(Face::Bottom)), Ok(SLAB));
+        for (update, right) in [(update_mesh as Update, false), (mend_mesh, true)] {
+            let mut grid = [[ROCK; 8], [AIR; 8], [AIR; 8]].concat();
+            let (mut mesh, mut metadata) = meshed(dims, &grid, &registry);
+            for (cell, voxel) in [(8, SLAB), (14, SLAB), (11, ROCK), (19, SLAB), (8, AIR), (9, SLAB)] {
+                put(&mut metadata, &mut grid, cell, voxel);
+            }
+            let updated = update(&mut mesh, &mut metadata, &registry).unwrap();
+            let right_count = meshed(dims, &grid, &registry).0.quads();
+            assert_eq!(updated.quads, if right { right_count } else { right_count + 3 });
+            assert_eq!(check_mesh(&mesh, &metadata, &[], &grid, &registry).is_ok(), right);
+        }
+    }
+}
+
+struct Dice(u64);
+
+impl Dice {
+    fn below(&mut self, most: usize) -> usize {
+        self.0 = self.0.wrapping_mul(6_364_136_223_846_793_005).wrapping_add(1_442_695_040_888_963_407);
+        (self.0 >> 33) as usize % most
+    }
+    fn one_of<T: Copy>(&mut self, list: &[T]) -> T {
+        list[self.below(list.len())]
+    }
+}
+
+/// Air, and a cube for every set of sides: code 1 + set.
+fn every_set() -> VoxelRegistry {
+    let mut registry = VoxelRegistry::new([1.0; 3], [0.0; 3], false);
+    registry.add(VoxelMesh::Null, Sides::NONE).unwrap();
+    for set in 0..64 {
+        let covers = Sides::from_fn(|side| set >> side as u8 & 1 == 1);
+        registry.add(VoxelMesh::NormalCube(&cube_between(-0.5, 0.5, None)), covers).unwrap();
+    }
+    registry
+}
+
+#[test]
+fn a_true_log_of_any_cubes_is_mended() {
+    let (registry, dims, mut dice) = (every_set(), (5, 4, 3), Dice(1));
+    for _ in 0..50 {
+        let mut grid: Vec<u8> = (0..60).map(|_| dice.below(130).saturating_sub(65) as u8).collect();
+        let (mut mesh, mut metadata) = meshed(dims, &grid, &registry);
+        for _ in 0..40 {
+            let cell = dice.below(60);
+            let voxel = if grid[cell] == AIR { 1 + dice.below(64) as u8 } else { AIR };
+            put(&mut metadata, &mut grid, cell, voxel);
+        }
+        mend_mesh(&mut mesh, &mut metadata, &registry).unwrap();
+        assert_eq!(check_mesh(&mesh, &metadata, &[], &grid, &registry), Ok(()));
+    }
+}
+
+/// Of any log, true of the grid or not, whose added voxels cover 0 as 1, 2 as 3 and 4 as 5.
+#[test]
+fn what_covers_opposite_sides_alike_is_updated_alike() {
+    let (registry, dims, mut dice) = (every_set(), (5, 4, 3), Dice(2));
+    let alike: Vec<u8> = (0..64).filter(|set| set & 21 == set >> 1 & 21).map(|set| 1 + set).collect();
+    assert_eq!(alike.len(), 8);
+    for _ in 0..50 {
+        let grid: Vec<u8> = (0..60).map(|_| dice.below(65) as u8).collect();
+        let mut log = Log::new();
+        for _ in 0..40 {
+            let around = Face::ALL.map(|_| Some(dice.below(66) as u8).filter(|&voxel| voxel < 65));
+            let (change, voxel) = match dice.below(5) {
+                0 => (VoxelChange::Broken, dice.below(65) as u8),
+                1 => (VoxelChange::CullFaces, dice.below(65) as u8),
+                2 => (VoxelChange::AddFaces, dice.below(65) as u8),
+                _ => (VoxelChange::Added, dice.one_of(&alike)),
+            };
+            log.push(change, dice.below(60), voxel, around);
+        }
+        let updated = |update: LentUpdate| {
+            let mut kept = Kept::new(280, 60);
+            let quads = lent::mesh_grid(dims, &[], &grid, &registry, MeshingAlgorithm::Culling, &mut kept.room()).unwrap();
+            (update(&mut kept.room(), quads, dims, &log, &registry), kept)
+        };
+        assert_eq!(updated(lent::update_mesh), updated(lent::mend_mesh));
+    }
+}
