@@ -71,5 +71,5 @@ fn main() -> Result<(), Box<dyn Error>> {
 
 fn draw(mesh: &Mesh, metadata: &MeshMD, grid: &[u8], path: &Path) -> std::io::Result<()> {
     let colour = |quad| metadata.cell_and_face(mesh, quad).map_or(COLOURS[0], |(cell, _)| COLOURS[grid[cell] as usize]);
-    std::fs::write(path, picture::png(mesh, 24.0, colour))
+    std::fs::write(path, picture::png(mesh, 24.0, colour, &[]))
 }

@@ -20,18 +20,23 @@ pub fn obj(mesh: &Mesh) -> String {
 type Colour = [u8; 3];
 
 const BACKGROUND: Colour = [244, 244, 240];
+const MARK: Colour = [230, 0, 0];
 const MARGIN: f32 = 12.0;
 
-/// A PNG with `scale` pixels to a unit of length; `colour` is asked for each quad.
-pub fn png(mesh: &Mesh, scale: f32, colour: impl Fn(usize) -> Colour) -> Vec<u8> {
+/// A PNG with `scale` pixels to a unit of length; `colour` is asked for each quad. What looks away from the eye is not drawn, so that a
+/// missing face is a hole. The quads `marked` shine through what is before them.
+pub fn png(mesh: &Mesh, scale: f32, colour: impl Fn(usize) -> Colour, marked: &[usize]) -> Vec<u8> {
     let seen: Vec<[f32; 3]> = mesh.positions().map(|position| project(position, scale)).collect();
     let bound = |axis: usize, pick: fn(f32, f32) -> f32| seen.iter().map(|point| point[axis]).reduce(pick).unwrap_or(0.0);
     let (left, top) = (bound(0, f32::min) - MARGIN, bound(1, f32::min) - MARGIN);
     let (width, height) = (bound(0, f32::max) - left + MARGIN, bound(1, f32::max) - top + MARGIN);
     let mut image = Image::new(width.ceil() as usize, height.ceil() as usize);
-    for (quad, (corners, normals)) in seen.chunks_exact(4).zip(mesh.normals().collect::<Vec<_>>().chunks_exact(4)).enumerate() {
-        let corners = [0, 1, 2].map(|i| [corners[i][0] - left, corners[i][1] - top, corners[i][2]]);
-        image.draw(corners, shaded(colour(quad), normals[0]));
+    let corners = |quad: usize| [0, 1, 2].map(|i| 4 * quad + i).map(|i| [seen[i][0] - left, seen[i][1] - top, seen[i][2]]);
+    for (quad, normal) in mesh.normals().step_by(4).enumerate().filter(|(_, normal)| faces_the_eye(*normal)) {
+        image.draw(corners(quad), shaded(colour(quad), normal));
+    }
+    for &quad in marked {
+        image.shine(corners(quad), MARK);
     }
     image.png()
 }
@@ -39,6 +44,10 @@ pub fn png(mesh: &Mesh, scale: f32, colour: impl Fn(usize) -> Colour) -> Vec<u8>
 /// Across, down, and towards the eye.
 fn project([x, y, z]: [f32; 3], scale: f32) -> [f32; 3] {
     [(x - z) * 0.866 * scale, (x + z) * 0.5 * scale - y * scale, x + y + z]
+}
+
+fn faces_the_eye(normal: [f32; 3]) -> bool {
+    normal.into_iter().sum::<f32>() > 0.0
 }
 
 fn shaded(colour: Colour, [x, y, _]: [f32; 3]) -> Colour {
@@ -63,8 +72,26 @@ impl Image {
         Image { width, pixels: vec![BACKGROUND; width * height], nearest: vec![f32::MIN; width * height] }
     }
 
-    /// A quad by its first corner and the two beside it, a little darker along its edge.
-    fn draw(&mut self, [first, second, third]: [[f32; 3]; 3], colour: Colour) {
+    /// A quad, a little darker along its edge, where nothing nearer was drawn.
+    fn draw(&mut self, corners: [[f32; 3]; 3], colour: Colour) {
+        self.each_pixel(corners, |pixel, nearest, near, edge| {
+            if near > *nearest {
+                *pixel = if edge { colour.map(|part| part / 4 * 3) } else { colour };
+                *nearest = near;
+            }
+        });
+    }
+
+    /// A quad through whatever was drawn.
+    fn shine(&mut self, corners: [[f32; 3]; 3], colour: Colour) {
+        self.each_pixel(corners, |pixel, _, _, edge| {
+            *pixel = if edge { colour } else { [0, 1, 2].map(|part| pixel[part] / 2 + colour[part] / 2) };
+        });
+    }
+
+    /// The pixels of a quad, given by its first corner and the two beside it: each with how near the nearest drawn there is, how near
+    /// the quad is, and whether it is at the quad's edge.
+    fn each_pixel(&mut self, [first, second, third]: [[f32; 3]; 3], mut paint: impl FnMut(&mut Colour, &mut f32, f32, bool)) {
         let [a, b] = [second, third].map(|corner| [0, 1, 2].map(|axis| corner[axis] - first[axis]));
         let area = a[0] * b[1] - a[1] * b[0];
         if area.abs() < 1e-3 {
@@ -80,12 +107,10 @@ impl Image {
                 let (x, y) = (column as f32 + 0.5 - first[0], row as f32 + 0.5 - first[1]);
                 let (s, t) = ((x * b[1] - y * b[0]) / area, (a[0] * y - a[1] * x) / area);
                 let place = row * self.width + column;
-                let near = first[2] + s * a[2] + t * b[2];
                 let inside = |part: f32| (-1e-4..=1.0001).contains(&part);
-                if column < self.width && place < self.pixels.len() && inside(s) && inside(t) && near > self.nearest[place] {
+                if column < self.width && place < self.pixels.len() && inside(s) && inside(t) {
                     let edge = [s, t, 1.0 - s, 1.0 - t].into_iter().any(|part| part < 0.04);
-                    self.pixels[place] = if edge { colour.map(|part| part / 4 * 3) } else { colour };
-                    self.nearest[place] = near;
+                    paint(&mut self.pixels[place], &mut self.nearest[place], first[2] + s * a[2] + t * b[2], edge);
                 }
             }
         }
