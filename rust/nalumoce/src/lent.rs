@@ -143,7 +143,8 @@ pub fn update_mesh(
     update_by_bytes(room, quads, dims, log.as_bytes(), Tested::Opposite, reg)
 }
 
-/// Mends a mesh as [`update_mesh`] does, by the same rules but for slabs: [`mend_mesh`](crate::mend_mesh) says which.
+/// Mends a mesh of `quads` quads by a log, slabs too. [`mend_mesh`](crate::mend_mesh) says what sets it apart from [`update_mesh`], and
+/// what is proved of it.
 ///
 /// # Errors
 ///

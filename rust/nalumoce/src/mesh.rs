@@ -81,7 +81,7 @@ pub struct MeshMD {
 
 impl MeshMD {
     /// Logs a change, as in Meshem: the cell, the voxel that was broken or added there, and what stands around it by face as the
-    /// grid is at that moment ([`neighboring_voxels`](crate::neighboring_voxels)). [`update_mesh`] does it.
+    /// grid is at that moment ([`neighboring_voxels`](crate::neighboring_voxels)). [`update_mesh`] or [`mend_mesh`] does it.
     pub fn log(&mut self, voxel_change: VoxelChange, voxel_index: usize, voxel: u8, neighboring_voxels: [Option<u8>; 6]) {
         self.log.push(voxel_change, voxel_index, voxel, neighboring_voxels);
     }
@@ -208,7 +208,7 @@ fn same_floats(mesh: &Mesh, reg: &VoxelRegistry) -> Result<(), Refusal> {
 /// for a log that names what isn't there; BAD_SIZE, SHORT_ROOM or BAD_LINKS if [`MeshMD::dims`] were changed to what can't be. Mesh and
 /// log are then as they were.
 pub fn update_mesh(mesh: &mut Mesh, metadata: &mut MeshMD, reg: &VoxelRegistry) -> Result<Updated, Refusal> {
-    update_testing(Tested::Opposite, mesh, metadata, reg)
+    update_testing(mesh, metadata, Tested::Opposite, reg)
 }
 
 /// Mends a mesh by the changes logged, slabs too, and empties the log.
@@ -240,18 +240,18 @@ pub fn update_mesh(mesh: &mut Mesh, metadata: &mut MeshMD, reg: &VoxelRegistry) 
 /// It has a name of its own, and is no setting of the metadata or the registry, so that Meshem's name does what Meshem does, and a
 /// call shows which of the two it is. A setting would have to be made again for each chunk, and one forgotten would not be noticed.
 ///
-/// The library's proof: a mesh that passes [`check_mesh`] with no outer layer passes it again for the new grid, if the log is of Added
-/// and Broken alone, each entry true of the grid at its moment, and each Added puts a cube into a cell that held a Null covering
-/// nothing. Of [`update_mesh`] that is proved if the cubes added cover opposite sides alike.
+/// What is proved of the library: a mesh that passes [`check_mesh`] with no outer layer passes it again for the new grid, if the log is
+/// of Added and Broken alone, each entry true of the grid at its moment, where Added puts a cube into a cell that held a Null covering
+/// nothing, and Broken leaves one. Of [`update_mesh`] that is proved if the cubes added cover opposite sides alike.
 ///
 /// # Errors
 ///
 /// Those of [`update_mesh`].
 pub fn mend_mesh(mesh: &mut Mesh, metadata: &mut MeshMD, reg: &VoxelRegistry) -> Result<Updated, Refusal> {
-    update_testing(Tested::Itself, mesh, metadata, reg)
+    update_testing(mesh, metadata, Tested::Itself, reg)
 }
 
-fn update_testing(tested: Tested, mesh: &mut Mesh, metadata: &mut MeshMD, reg: &VoxelRegistry) -> Result<Updated, Refusal> {
+fn update_testing(mesh: &mut Mesh, metadata: &mut MeshMD, tested: Tested, reg: &VoxelRegistry) -> Result<Updated, Refusal> {
     same_floats(mesh, reg)?;
     let log = std::mem::take(&mut metadata.log);
     let (mut done, mut moved) = (0, 0);

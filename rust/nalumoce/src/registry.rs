@@ -56,6 +56,20 @@ pub(crate) const fn floats(coloured: bool) -> usize {
 /// # Ok::<(), nalumoce::Refusal>(())
 /// ```
 ///
+/// A slab is half as high, and its centre is a quarter lower, so that it reaches from the floor of its cell to the middle. It covers
+/// its underside alone.
+///
+/// ```
+/// # use nalumoce::{generate_voxel_mesh, Face, Sides, VoxelMesh, VoxelRegistry};
+/// # let texture = Face::ALL.map(|face| (face, [0, 0]));
+/// # let mut registry = VoxelRegistry::new([1.0; 3], [0.0; 3], false);
+/// let half = generate_voxel_mesh([1.0, 0.5, 1.0], [1, 1], texture, [0.0, -0.25, 0.0], 0.0, None, 1.0)?;
+/// let slab = registry.add(VoxelMesh::NormalCube(&half), Sides::from_fn(|side| side == Face::Bottom))?;
+/// # Ok::<(), nalumoce::Refusal>(())
+/// ```
+///
+/// Not every box is taken for a cube: [`VoxelRegistry::new`] says which. Logs that add slabs are for [`mend_mesh`](crate::mend_mesh).
+///
 /// # Errors
 ///
 /// BAD_NUMBER or BAD_ATLAS.
@@ -90,7 +104,7 @@ pub fn generate_voxel_mesh(
 /// What a type is drawn as.
 #[derive(Clone, Copy, Debug)]
 pub enum VoxelMesh<T> {
-    /// A full cube.
+    /// A cube, or a box that fills part of its cell, as a slab does.
     NormalCube(T),
     /// Some other mesh; it covers, but is not drawn, as in Meshem.
     CustomMesh,
@@ -121,7 +135,11 @@ pub struct VoxelRegistry {
 }
 
 impl VoxelRegistry {
-    /// No types yet; the size and centre of every voxel, and whether vertices have a colour.
+    /// No types yet; the size and centre of every cell, and whether vertices have a colour.
+    ///
+    /// The centre serves to tell a cube's sides apart. The low sides of each type's cube have to be below it, and the high sides at it or
+    /// above; else the calls refuse that type, NOT_A_CUBE. So a lower half is taken, its top being at the centre, but an upper half is
+    /// not, unless it reaches a little below the centre. For other boxes the centre can be put elsewhere: it moves no vertex.
     pub fn new(voxel_dims: [f32; 3], center: [f32; 3], coloured: bool) -> VoxelRegistry {
         VoxelRegistry { kinds: vec![], covers: vec![], cubes: vec![], coloured, voxel_dims, center }
     }

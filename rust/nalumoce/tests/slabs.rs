@@ -52,6 +52,32 @@ fn the_library_is_of_this_crates_level() {
     assert_eq!(meshem_abi(), MESHEM_ABI);
 }
 
+/// A cube's low sides have to be below the registry's centre, and its high sides not below it. It has no other use: moving it moves
+/// no vertex.
+#[test]
+fn boxes_that_are_taken_for_cubes() {
+    let meshed = |center: f32, low: f32, high: f32| {
+        let mut registry = VoxelRegistry::new([1.0; 3], [0.0, center, 0.0], false);
+        let voxel = registry.add(VoxelMesh::NormalCube(&cube_between(low, high, None)), Sides::NONE).unwrap();
+        let mesh = mesh_grid((1, 1, 1), &[], &[voxel], &registry, MeshingAlgorithm::Culling);
+        mesh.map(|(mesh, _)| mesh.vertices().to_vec()).map_err(|refusal| refusal.reason)
+    };
+    for (center, low, high, taken, what) in [
+        (0.0, -0.5, 0.0, true, "a lower half: its top is at the centre"),
+        (0.0, -0.5, -0.25, false, "a lower quarter"),
+        (-0.25, -0.5, -0.25, true, "a lower quarter, the centre as low as its top"),
+        (0.0, 0.0, 0.5, false, "an upper half: its underside is at the centre"),
+        (0.0, -0.0625, 0.5, true, "an upper half and a sixteenth"),
+        (0.25, 0.0, 0.5, true, "an upper half, the centre above its underside"),
+        (0.25, -0.5, 0.0, false, "a lower half, the centre above its top"),
+    ] {
+        assert_eq!(meshed(center, low, high).err(), (!taken).then_some(Reason::NotACube), "{what}");
+    }
+    for center in [-0.25, 0.0, 0.25] {
+        assert_eq!(meshed(center, -0.5, 0.5), meshed(0.0, -0.5, 0.5));
+    }
+}
+
 /// Cases 7 and 8 of document 01.
 #[test]
 fn a_slab_and_a_panel_added_above_rock() {
@@ -70,6 +96,20 @@ fn a_slab_and_a_panel_added_above_rock() {
     assert_eq!(meshed(dims, &[ROCK, PANEL], &registry).0.quads(), 11);
     assert_eq!(above_rock(PANEL, update_mesh), (10, Err(the_rocks_top)));
     assert_eq!(above_rock(PANEL, mend_mesh), (11, Ok(())));
+}
+
+#[test]
+fn a_mesh_that_has_to_grow_is_mended_too() {
+    let (registry, dims) = (registry(), (8, 3, 8));
+    let mut grid = [AIR; 192];
+    let (mut mesh, mut metadata) = meshed(dims, &grid, &registry);
+    for (cell, voxel) in (0..64).map(|cell| (cell, ROCK)).chain((64..128).map(|cell| (cell, SLAB))) {
+        put(&mut metadata, &mut grid, cell, voxel);
+    }
+    let updated = mend_mesh(&mut mesh, &mut metadata, &registry).unwrap();
+    // the rock's sides and underside; of each slab all but its underside
+    assert_eq!(updated.quads, 4 * 8 + 64 + 5 * 64);
+    assert_eq!(check_mesh(&mesh, &metadata, &[], &grid, &registry), Ok(()));
 }
 
 #[derive(Clone, PartialEq, Debug)]
