@@ -23,8 +23,8 @@ extern "C" {
 #endif
 
 /*
- * The level of these declarations; meshem_abi returns the library's. Where they differ a call reads its arguments
- * wrongly, so a program compares the two before its first call. A library of level 1 lacks meshem_abi.
+ * The level of these declarations; meshem_abi returns the library's. Where they differ a call may misread what it is
+ * given, so a program compares the two before its first call. A library of level 1 lacks meshem_abi.
  */
 #define MESHEM_ABI 2u
 uint32_t meshem_abi(void);
