@@ -201,7 +201,7 @@ for coloured in (False, True):
     grid[7] = 1 if grid[7] != 1 else 2
     assert add(CHECK, told[2], goes_on=True, before=[(trials.at("grid", 7), grid[7])])[0] == 15
 
-# ---- the side itself: a slab on every side of a cube; any covers, honest and foolish; cubes alike, where both modes are one
+# ---- the side itself: slabs of one side and of several amid six cubes; any covers, honest and foolish; cubes alike, where both modes are one
 def either_way(count, log, **lent):
     """The same log by both sides; answers the two answers, and whether they left the same words."""
     by_opposite, left = add(UPDATE, count, log, **lent), trials.image

@@ -147,8 +147,7 @@ impl<'a> Comparison<'a> {
         let ends = self.both_modes(case, &laid(&fresh, empty), answer.quads)?;
         let [(answer, room), _] = &ends;
         meshed.update(&registry, &case.log);
-        self.with_the_rust("update", case, *answer, room, &meshed.words())?;
-        self.tally.log_entries += (case.log.len() / ENTRY) as u64;
+        self.updated_by_the_rust(case, *answer, room, &meshed.words())?;
         for (tested, (answer, room)) in MODES.iter().zip(&ends) {
             self.check(&format!("check after the log, {tested:?} tested"), case, room, answer.quads)?;
         }
@@ -164,6 +163,13 @@ impl<'a> Comparison<'a> {
         self.tally.quads += answer.quads;
         self.tally.index_entries += expected.slots.len() as u64;
         self.tally.words += lists.iter().map(|list| list.len() as u64).sum::<u64>();
+        Ok(())
+    }
+
+    /// The log of a case in the source's mode, and the Rust's.
+    fn updated_by_the_rust(&mut self, case: &Case, answer: Answer, room: &Words, expected: &Words) -> Compared {
+        self.with_the_rust("update", case, answer, room, expected)?;
+        self.tally.log_entries += (case.log.len() / ENTRY) as u64;
         Ok(())
     }
 
@@ -226,13 +232,20 @@ impl<'a> Comparison<'a> {
         (told, room)
     }
 
-    /// Demand 3: after a log that it speaks of, the mesh passes for the grid that the log leaves. There is room for `spare` quads more, or
+    /// Demand 3: after a log that it speaks of, the mesh passes for the grid that the log leaves; the source's mode beside the Rust too. There is room for `spare` quads more, or
     /// for all that the grid can have. Where an entry finds none, those before it are the log.
     pub fn mended(&mut self, case: &Case, spare: usize) -> Compared {
-        let mesh = rust::mesh(case.dims, &case.outer, &case.grid, &Registry::of(&case.types), case.naive).words();
+        let registry = Registry::of(&case.types);
+        let mut meshed = rust::mesh(case.dims, &case.outer, &case.grid, &registry, case.naive);
+        let mesh = meshed.words();
         let quads = mesh.links.len();
         let start = laid(&mesh, room_for(quads.saturating_add(spare).min(6 * case.grid.len()), case));
         let ends = self.both_modes(case, &start, quads as u64)?;
+        let [(answer, room), _] = &ends;
+        if answer.number == 0 {
+            meshed.update(&registry, &case.log);
+            self.updated_by_the_rust(case, *answer, room, &meshed.words())?;
+        }
         for (tested, end) in MODES.into_iter().zip(&ends) {
             let mut case = Case { tested, ..case.clone() };
             let by_entry = self.in_calls(&case, case.log.chunks_exact(ENTRY), &start, quads as u64);

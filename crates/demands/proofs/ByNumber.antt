@@ -8,16 +8,16 @@ use lib.ListN.{take}
 use borrow.Author.Tests.{ne-eqb}
 use Rattle.rules.specs.Cube.{Shape}
 use Rattle.rules.specs.Mesh.{Lists}
-use Rattle.rules.specs.Update.{AddsAlike}
+use Rattle.rules.specs.Update.{source, AddsAlike}
 use Rattle.rules.specs.Answers.{fine}
 use Rattle.rules.specs.Check.{Right}
 use Rattle.rules.specs.Calls.{Answer, CubeOutcome, generateVoxelMesh, Outcome, Scene, answered, world, span, entriesOf, openVerdict, meshGrid, updateMesh, checkVerdict, checkMesh}
 use Rattle.rules.proofs.Refusals.{CHECK, check-numbers, zero-fine, cube-refused, mesh-refused, update-refused}
-use Rattle.rules.proofs.Modes.{itself-alike}
+use Rattle.rules.proofs.Modes.{itself-alike, modes-agree}
 use Rattle.rules.proofs.Demands.{accepts-exactly, fresh-accepted, mended-accepted}
 use Rattle.answers.specs.declared.Verdict.the-variants.{Fine}
 use Rattle.exports.specs.Answers.{testedFrom, answer, cubeOut, outcome}
-use Rattle.demands.specs.Chunks.{gridAfter, FillingLog, MendableLog}
+use Rattle.demands.specs.Chunks.{gridAfter, FillingLog, AlikeLog, MendableLog}
 use Rattle.demands.proofs.Answers.{out-of-room-keeps-the-entries-before}
 use Rattle.demands.proofs.Exact.{the-check-is-exact}
 
@@ -112,3 +112,9 @@ pub a-c-mesh-mended-with-slabs-passes : (tested : ℕ) (S : Scene) (log grid : L
     → TellsCheck S [] (gridAfter S log grid) exit (a .quads) number place → number ≡ 0
 a-c-mesh-mended-with-slabs-passes tested S log grid B Q before a exit number place d p h =
     c-mended tested S log grid B Q before a exit number place p h (rw (ne-eqb tested 0 d) (itself-alike (world S) (entriesOf log)))
+
+-- for cubes that cover opposite sides alike both modes give the same answer and the same lists
+pub both-c-modes-agree : (tested : ℕ) (S : Scene) (log : List ℕ) (B : Lists) (Q : ℕ) (a b : Answer) (x y : Lists) → tested ≢ 0 → AlikeLog S log
+    → TellsUpdate 0 S log B Q a x → TellsUpdate tested S log B Q b y → (a ≡ b) × (x ≡ y)
+both-c-modes-agree tested S log B Q a b x y d h p q =
+    one-told a b x y (p ∙ modes-agree source S log B Q h ∙ sym (q ∙ rw (ne-eqb tested 0 d)))

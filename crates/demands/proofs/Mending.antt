@@ -43,7 +43,7 @@ pub asked : (mode : Tested) (S : Scene) (grid log : List ℕ) → LogFor mode S 
 asked Opposite S grid log h = (h .filling, h .alike)
 asked Itself S grid log h = (h, itself-alike (world S) (entriesOf log))
 
--- and of what the call leaves
+-- the check says Fine of what the call leaves
 mended-is-fine : (mode : Tested) (S : Scene) (log : List ℕ) (k : Chunk) (exit : Lists) (count : Count) → Passes S k → LogFor mode S (k .grid) log
     → Updates (testedBy mode) S log (k .lists) (k .quads) (Done count) exit → Passes S (mendedTo S log k count exit)
 mended-is-fine mode S log k exit count passed true-log mended =
@@ -58,7 +58,8 @@ mended-passes mode S log grid B exit Q count r passed true-log mended checked =
     one-check S [] (gridAfter S log grid) exit (count .quads) r Fine checked
     (mended-is-fine mode S log (record { grid = grid; lists = B; quads = Q }) exit count passed true-log mended)
 
-still-passes : {mode : Tested} {S : Scene} {from k : Chunk} {n : ℕ} → Passes S from → Mended mode S from n k → Passes S k
+-- what passed still passes after n calls in one mode; calls in the other can follow
+pub still-passes : {mode : Tested} {S : Scene} {from k : Chunk} {n : ℕ} → Passes S from → Mended mode S from n k → Passes S k
 still-passes p untouched = p
 still-passes {mode = mode} {S = S} p (oneMore {k = k} log count exit calls true-log mended) =
     mended-is-fine mode S log k exit count (still-passes p calls) true-log mended
@@ -111,6 +112,6 @@ pub both-modes-agree : (S : Scene) (log : List ℕ) (B : Lists) (Q : ℕ) (a b :
     → Updates source S log B Q a x → Updates itself S log B Q b y → (a ≡ b) × (x ≡ y)
 both-modes-agree S log B Q a b x y h p q = one-update itself S log B Q a b x y (p ∙ modes-agree source S log B Q h) q
 
--- so a batch whose NormalCubes all do can change its mode, and nothing else changes
+-- where all NormalCubes of the table cover opposite sides alike, so do those that a log adds: such a batch can change its mode, and nothing else changes
 pub a-table-of-such-cubes-is-enough : (S : Scene) (log : List ℕ) → ((t : ℕ) → isNormalCube (world S) t ≡ true → Alike source (world S) t) → AlikeLog S log
 a-table-of-such-cubes-is-enough S log cubes = table-alike source (world S) cubes (entriesOf log)

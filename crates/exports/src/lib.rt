@@ -1,5 +1,5 @@
-// The C calls, in the form that include/meshem.h declares. Each returns 0 or a refusal's number, and writes its answer through the
-// pointers at its end.
+// The C calls, in the form that include/meshem.h declares. Each but meshem_abi returns 0 or a refusal's number, and writes its answer through
+// the pointers at its end.
 use admit::Scene;
 use answers::Verdict;
 use checking::check_mesh;

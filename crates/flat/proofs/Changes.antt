@@ -2,14 +2,13 @@
 use mathlib.Core.Path.{_≡_, refl, sym, ap, _∙_, subst}
 use mathlib.Core.Bool.{Bool, true, not, _&&_}
 use mathlib.Core.List.{List, []}
-use mathlib.Core.Option.{Option, none, some}
 use Prim.Native.Nat.{ℕ, zero, suc, _+_, _-_, _^_, _≤_, _<_}
 use native.Mathlib.Omega.{arith}
 use borrow.Author.Tests.{le-leb}
-use Rattle.rules.specs.Lists.{each, count}
+use Rattle.rules.specs.Lists.{count}
 use Rattle.rules.specs.Cells.{Size, has, setOf, quadsOf, keyOf, neighbour}
 use Rattle.rules.specs.Mesh.{World, isNormalCube}
-use Rattle.rules.specs.Update.{Change, Broken, Added, CullFaces, AddFaces, Entry, Work, Tested, source, ops, Op, sides, quads, all, givenAt, withGiven, isOpen, hide, nothing, added, workBy}
+use Rattle.rules.specs.Update.{Change, Broken, Added, CullFaces, AddFaces, Entry, Work, Tested, source, ops, Op, sides, quads, all, givenAt, withGiven, isOpen, nothing, added, workBy}
 use Rattle.rules.specs.Calls.{Scene, world, span, faces}
 use Rattle.rules.proofs.Sets.{setOf-lt, has-setOf}
 use Rattle.flat.specs.Flat.{State, flatRun}

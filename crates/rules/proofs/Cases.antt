@@ -1,4 +1,5 @@
--- 01, "Meshes worked by hand": the ten cases as one table, those of them that the new mode ends as another, and the program's example. Proved by computing. Assumes nothing.
+-- 01, "Meshes worked by hand": the ten cases as one table, the two of them that the new mode of 02, Q-2, puts right as another, and the program's
+-- example. Proved by computing. Assumes nothing.
 use mathlib.Core.Path.{_≡_, refl}
 use mathlib.Core.Bool.{Bool, true, false, cond}
 use mathlib.Core.List.{List, [], _∷_, _++_}
@@ -153,6 +154,14 @@ addedNull = quadsIn (withAbove source 0) ∷ []
 unfoldable pub cases : List (List ℕ)
 cases = freshCases ++ (removalCases ++ (mended source 3 ∷ mended source 4 ∷ addedNull ∷ (linkWord 5 0 ∷ []) ∷ []))
 
+-- the seventh and the eighth in the new mode (02, Q-2): as many quads as fresh
+pub slab-cases : mended itself 3 ∷ mended itself 4 ∷ []
+    ≡ (10 ∷ 10 ∷ [])
+    ∷ (11 ∷ 11 ∷ [])
+    ∷ []
+unfolding mended answers._then_ answers.refuseIf answers.badLimits answers.BAD-TYPES answers.badCounts lowestFrom answers.badType answers.BAD-NUMBER answers.notACube types.isCube every types.classed types.classOf types.classAt types.classOn ieee.eq ieee.ofBits ieee.lt answers.roomOf meshBy each neighbour count laid slotted answers.badLink answers.BAD-LINKS same answers.badEntry answers.BAD-ENTRY courseFrom entryAt needed ops remove removeAt types.quadWords
+slab-cases = refl
+
 fresh-are : freshCases ≡ (6 ∷ []) ∷ (10 ∷ 12 ∷ []) ∷ (8 ∷ []) ∷ (54 ∷ []) ∷ (5 ∷ []) ∷ []
 unfolding freshCases answers._then_ answers.refuseIf answers.badLimits answers.BAD-TYPES answers.badCounts lowestFrom answers.badType answers.BAD-NUMBER answers.notACube types.isCube every types.classed types.classOf types.classAt types.classOn ieee.eq ieee.ofBits ieee.lt answers.roomOf meshBy each neighbour
 fresh-are = refl
@@ -198,14 +207,6 @@ pub ten-cases : cases
     ∷ []
 unfolding cases
 ten-cases = rw (fresh-are, removals-are, mended-bottom, mended-top, null-is)
-
--- the seventh and the eighth in the new mode (02, Q-2): as many quads as fresh
-pub slab-cases : mended itself 3 ∷ mended itself 4 ∷ []
-    ≡ (10 ∷ 10 ∷ [])
-    ∷ (11 ∷ 11 ∷ [])
-    ∷ []
-unfolding mended answers._then_ answers.refuseIf answers.badLimits answers.BAD-TYPES answers.badCounts lowestFrom answers.badType answers.BAD-NUMBER answers.notACube types.isCube every types.classed types.classOf types.classAt types.classOn ieee.eq ieee.ofBits ieee.lt answers.roomOf meshBy each neighbour count laid slotted answers.badLink answers.BAD-LINKS same answers.badEntry answers.BAD-ENTRY courseFrom entryAt needed ops remove removeAt types.quadWords
-slab-cases = refl
 
 -- ---- a quad's words: the cube's vertices 0, 1, 3, 2 of Top, one cell along x
 

@@ -17,7 +17,7 @@ use Rattle.rules.proofs.Courses.{course-alike}
 
 -- ---- what a log's cubes cover
 
--- an entry asks nothing where every cube covers alike
+-- what an entry asks for holds where every cube of the table covers alike
 alike-by : (tested : Tested) (W : World) → ((t : ℕ) → isNormalCube W t ≡ true → Alike tested W t) → (e : Entry) (k : Change) → AlikeBy tested W e k
 alike-by tested W cubes e Broken = tt
 alike-by tested W cubes e Added = cubes (e .type)

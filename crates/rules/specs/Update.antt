@@ -1,4 +1,4 @@
--- 01, "An update". Definitions only.
+-- 01, "An update"; 02, Q-2. Definitions only.
 use Prim.Native.Nat.{ℕ, zero, suc, _+_, _-_, _*_, _≤_, _<_, max}
 use mathlib.Core.Path.{_≡_}
 use mathlib.Core.Bool.{Bool, true, false, cond, not, _&&_, _||_}
@@ -269,7 +269,7 @@ abbrev pub Mends : World → List ℕ → List Entry → Type 0
 Mends W g [] = Unit {0}
 Mends W g (e ∷ es) = MendsBy W g e (e .change) × Mends W (gridAfter W g e) es
 
--- what the source's mode asks besides: each cube that is Added covers the side that is tested as the side itself
+-- a type covers the side that is tested as the side itself
 abbrev pub Alike : Tested → World → ℕ → Type 0
 Alike tested W t = (f : ℕ) → f < 6 → covering W t (tested f) ≡ covering W t f
 
@@ -279,6 +279,7 @@ AlikeBy tested W e Added = isNormalCube W (e .type) ≡ true → Alike tested W 
 AlikeBy tested W e CullFaces = Unit {0}
 AlikeBy tested W e AddFaces = Unit {0}
 
+-- what the source's mode asks besides: each cube that is Added does
 abbrev pub AddsAlike : Tested → World → List Entry → Type 0
 AddsAlike tested W [] = Unit {0}
 AddsAlike tested W (e ∷ es) = AlikeBy tested W e (e .change) × AddsAlike tested W es

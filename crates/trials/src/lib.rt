@@ -5,11 +5,11 @@
 // A base: 0; width, height, length; whether coloured; d; centre (0 to 10); the lengths of eight lists, which are grid, kinds, sets, registry,
 // vertices, triangles, links, slots (11 to 18); then these lists, a word for each byte of the first three. The last four hold a mesh and spare room.
 //
-// A trial: 1; the call, which is 0 meshing by Naive, 1 by Culling, 2 an update by the opposite side, 3 a check, 4 an update by the side itself; 1 if it goes on from what the trial before left, else it
-// starts from the base; the quads given (0 to 3); how much is lent of each of the eight lists (4 to 11); the numbers of bytes of outer list and log
-// (12, 13); what must be answered, which is number, place, quads, moved, each 0 where the answer has none (14 to 17); the number of words that
-// patch the base before the call (18); then outer list and log, four bytes a word, each from a word's start; these patches; and up to the
-// record's end the patches that make of it what must be there after the call.
+// A trial: 1; the call, which is 0 meshing by Naive, 1 by Culling, 2 an update by the opposite side, 3 a check, 4 an update by the side itself; 1 if
+// it goes on from what the trial before left, else it starts from the base; the quads given (0 to 3); how much is lent of each of the eight lists
+// (4 to 11); the numbers of bytes of outer list and log (12, 13); what must be answered, which is number, place, quads, moved, each 0 where the answer
+// has none (14 to 17); the number of words that patch the base before the call (18); then outer list and log, four bytes a word, each from a word's
+// start; these patches; and up to the record's end the patches that make of it what must be there after the call.
 // A patch: a place in the base's record, how many words, and the words. So any word of scene, types, grid and mesh can be another one;
 // the lengths can't.
 // A trial is wrong if it or its base does not keep this form.
@@ -295,7 +295,7 @@ fn is_whole(trial: &[u32]) -> bool
 {
     let s = starts_of(trial);
     (trial[0] == 1)
-        & (trial[1] < 4)
+        & (trial[1] < 5)
         & (trial[2] < 2)
         & (s.log - HEAD == words_for(trial[12]))
         & (s.before - s.log == words_for(trial[13]))

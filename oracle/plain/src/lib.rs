@@ -1,4 +1,4 @@
-//! Document 01's four calls in plain safe Rust, written from its text alone. It has no proof: it is the second reading that the
+//! Document 01's four calls, with document 02's second mode of the update, in plain safe Rust, written from their text alone. It has no proof: it is the second reading that the
 //! differential holds refusals, `moved` and zeroed places to, where the Rust says nothing.
 #![forbid(unsafe_code)]
 

@@ -242,7 +242,7 @@ pub fn update_mesh(mesh: &mut Mesh, metadata: &mut MeshMD, reg: &VoxelRegistry) 
 ///
 /// What is proved of the library: a mesh that passes [`check_mesh`] with no outer layer passes it again for the new grid, if the log is
 /// of Added and Broken alone, each entry true of the grid at its moment, where Added puts a cube into a cell that held a Null covering
-/// nothing, and Broken leaves one. Of [`update_mesh`] that is proved if the cubes added cover opposite sides alike.
+/// nothing, and Broken leaves the lowest such type. Of [`update_mesh`] that is proved if the cubes added cover opposite sides alike.
 ///
 /// # Errors
 ///

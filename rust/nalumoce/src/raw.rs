@@ -67,7 +67,7 @@ extern "C" {
     ) -> u32;
 }
 
-/// The level of the library that is linked: [`MESHEM_ABI`], or the build would have stopped.
+/// The level of the library that is linked. If it is not [`MESHEM_ABI`] the build stops, or the first call panics where the build can't ask.
 pub fn meshem_abi() -> u32 {
     extern "C" {
         fn meshem_abi() -> u32;
@@ -79,9 +79,9 @@ pub fn meshem_abi() -> u32 {
 #[derive(Clone, Copy)]
 pub(crate) enum Tested {
     /// The opposite of the face, as Meshem does.
-    Opposite,
+    Opposite = 0,
     /// The face itself, as the culling rule does.
-    Itself,
+    Itself = 1,
 }
 
 pub(crate) struct CubeParameters<'a> {

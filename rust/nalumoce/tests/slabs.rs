@@ -150,7 +150,7 @@ fn lent_lists_are_mended_either_way_too() {
     }
 }
 
-/// No two numbers of the call are alike, so none can stand in another's place.
+/// Sizes, d and centre all differ, and each `tested` meets each `coloured`: two numbers of the update exchanged show.
 #[test]
 fn what_is_tested_is_told_apart_from_every_other_number() {
     let (dims, center) = ((4, 3, 2), [0.5, 0.375, 2.0]);
