@@ -1,12 +1,20 @@
 -- `exports::meshem_update_mesh` meets its contract: it tells what the update told. Assumes nothing.
-use mathlib.Core.Path.{_∙_}
+use mathlib.Core.Path.{_≡_, _∙_}
 use denote.Ref.{now}
 use Rattle.rules.specs.Calls.{updateMesh}
 use Rattle.rules.specs.Mesh.{listsOf}
+use Rattle.sides.specs.Tests.{testedBy}
+use Rattle.exports.specs.Answers.{testedFrom}
 use Rattle.exports.proofs.Telling.{mesh-told}
 use borrow.Author.Needs.{needs}
 use Rattle.exports.proofs.meshem_update_mesh.Statement.{statement}
 use Rattle.exports.proofs.meshem_update_mesh.Tie as tie
+
+abbrev start : tie.After-tested-of → tie.Start
+start c = c .before .before .before .before .before .before .before .before .before .before
+
+by-mode : (c : tie.After-tested-of) → testedBy (c .tested-of .result) ≡ testedFrom (start c .args .tested)
+by-mode c = c .tested-of .ensures
 
 scene-of-requires : tie.Need-scene-of-requires
 scene-of-requires c κs = search needs
@@ -37,10 +45,10 @@ returns c =
     let m = c .before .before .before .before .before .before .before .before .before in
     let side = m .before .before .before .before .before in
     let s = side .before in
-    let a = s .before .before .before .before .before .before .before .before .before .args in
+    let a = start side .args in
     let scene = s .scene-of .ensures (now (a .kinds)) (now (a .covers)) (now (a .cubes)) in
     let lists = listsOf (now (a .vertices)) (now (a .triangles)) (now (a .links)) (now (a .slots)) in
-    mesh-told (c .told-by-update .ensures) (m .update-mesh .ensures ∙ (λ i. updateMesh (side .tested-of .ensures i) (scene i) (now (a .log)) lists (a .count)))
+    mesh-told (c .told-by-update .ensures) (m .update-mesh .ensures ∙ (λ i. updateMesh (by-mode side i) (scene i) (now (a .log)) lists (a .count)))
 
 pub meshem-update-mesh-spec : {M : Type 1} → statement M
 meshem-update-mesh-spec =
