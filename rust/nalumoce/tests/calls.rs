@@ -1,5 +1,8 @@
 //! The calls as a user makes them: worked meshes, refusals with their places, and lists lent and owned.
 
+mod kept;
+
+use kept::Kept;
 use nalumoce::lent::{self, Lists, Room, UpdateError, NO_QUAD};
 use nalumoce::*;
 
@@ -28,23 +31,6 @@ fn meshed(dims: Dimensions, grid: &[u8]) -> (Mesh, MeshMD) {
 fn refused<T: std::fmt::Debug>(answer: Result<T, Refusal>) -> (Reason, u64) {
     let refusal = answer.unwrap_err();
     (refusal.reason, refusal.place)
-}
-
-#[derive(Clone, PartialEq, Debug)]
-struct Kept {
-    vertices: Vec<f32>,
-    triangles: Vec<u32>,
-    links: Vec<u32>,
-    slots: Vec<u32>,
-}
-
-impl Kept {
-    fn new(quads: usize, cells: usize) -> Kept {
-        Kept { vertices: vec![7.0; 32 * quads], triangles: vec![7; 6 * quads], links: vec![7; quads], slots: vec![7; 6 * cells] }
-    }
-    fn room(&mut self) -> Room<'_> {
-        Room { vertices: &mut self.vertices, triangles: &mut self.triangles, links: &mut self.links, slots: &mut self.slots }
-    }
 }
 
 #[test]

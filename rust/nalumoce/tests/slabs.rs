@@ -1,5 +1,8 @@
 //! Voxels that don't cover opposite sides alike, and what the two updates leave of a mesh: Meshem's, and the culling rule's.
 
+mod kept;
+
+use kept::Kept;
 use nalumoce::lent::{self, Room, UpdateError};
 use nalumoce::*;
 
@@ -110,23 +113,6 @@ fn a_mesh_that_has_to_grow_is_mended_too() {
     // the rock's sides and underside; of each slab all but its underside
     assert_eq!(updated.quads, 4 * 8 + 64 + 5 * 64);
     assert_eq!(check_mesh(&mesh, &metadata, &[], &grid, &registry), Ok(()));
-}
-
-#[derive(Clone, PartialEq, Debug)]
-struct Kept {
-    vertices: Vec<f32>,
-    triangles: Vec<u32>,
-    links: Vec<u32>,
-    slots: Vec<u32>,
-}
-
-impl Kept {
-    fn new(quads: usize, cells: usize) -> Kept {
-        Kept { vertices: vec![7.0; 32 * quads], triangles: vec![7; 6 * quads], links: vec![7; quads], slots: vec![7; 6 * cells] }
-    }
-    fn room(&mut self) -> Room<'_> {
-        Room { vertices: &mut self.vertices, triangles: &mut self.triangles, links: &mut self.links, slots: &mut self.slots }
-    }
 }
 
 type LentUpdate = fn(&mut Room, usize, Dimensions, &Log, &VoxelRegistry) -> Result<Updated, UpdateError>;
