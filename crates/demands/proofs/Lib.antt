@@ -1,5 +1,5 @@
 -- The promises: Answers (1 and 3), OneOutcome (2), Exact (4), Fresh (5), Mending (6); ByNumber says them of the C calls. Telling and Stopped
--- carry them; Composed and OneByOne are for the functions of src/.
+-- carry them.
 pub mod Telling
 pub mod Stopped
 pub mod Answers
@@ -8,5 +8,3 @@ pub mod Exact
 pub mod Fresh
 pub mod Mending
 pub mod ByNumber
-pub mod Composed
-pub mod OneByOne

@@ -1,4 +1,2 @@
 pub mod Contracts
 pub mod Chunks
-pub mod Composed
-pub mod OneByOne

@@ -20,13 +20,13 @@ use Rattle.mending.specs.declared.Count.{Count}
 use Rattle.update.specs.declared.Updated.{Updated}
 use Rattle.update.specs.declared.Updated.the-variants as updated
 use Rattle.update.specs.Outcome.{answerOf, outcomeOf}
 use Rattle.demands.specs.Contracts.{Meshes, Updates}
 use Rattle.demands.specs.Chunks.{gridAfter, FillingLog, LogFor}
-use Rattle.demands.specs.Composed.{verdictBy, mendPromise, mendVerdict}
+use Rattle.release.specs.Composed.{verdictBy, mendPromise, mendVerdict}
 use Rattle.demands.proofs.Telling.{numbered}
 use Rattle.demands.proofs.Answers.{what-a-mesh-call-says}
 use Rattle.demands.proofs.Fresh.{fresh-is-fine}
 use Rattle.demands.proofs.Mending.{still-fine, asked}
 
 -- an answer by the name that a `match` found it to have
 pub meshes : {o : Outcome} {exit : Lists} {a b : Meshed} → a ≡ b → mesh.outcome a exit ≡ o → mesh.outcome b exit ≡ o

@@ -16,8 +16,8 @@ ghost use Rattle.answers.specs.Verdicts.{verdictOf};
 ghost use Rattle.admit.specs.Scenes.{sceneOf};
 ghost use Rattle.sides.specs.Tests.{testedBy};
 ghost use Rattle.rules.specs.Mesh.{listsOf};
 ghost use Rattle.demands.specs.Chunks.{LogFor, gridAfter};
-ghost use Rattle.demands.specs.OneByOne.{wentOf, calls, checkedOn, chainVerdict, chainPromise};
+ghost use Rattle.release.specs.OneByOne.{wentOf, calls, checkedOn, chainVerdict, chainPromise};
 
 // How far the calls went: through them all, with so many quads, or to one that was refused.
 pub enum Went {

@@ -1,12 +1,12 @@
--- `demands::one_by_one::make_mend_and_check` meets its contract: after a log of demand 3 the check refuses nothing. Assumes nothing.
+-- `release::one_by_one::make_mend_and_check` meets its contract: after a log of demand 3 the check refuses nothing. Assumes nothing.
 use Rattle.rules.specs.Mesh.{Lists, listsOf}
 use Rattle.rules.specs.Calls.{Scene}
 use Rattle.admit.specs.Scenes.{sceneOf}
-use Rattle.demands.proofs.Composed.{meshes}
-use Rattle.demands.proofs.OneByOne.{chained, unmade}
+use Rattle.release.proofs.Composed.{meshes}
+use Rattle.release.proofs.OneByOne.{chained, unmade}
 use borrow.Author.Needs.{needs}
-use Rattle.demands.proofs.one_by_one.make_mend_and_check.Statement.{statement}
-use Rattle.demands.proofs.one_by_one.make_mend_and_check.Tie as tie
+use Rattle.release.proofs.one_by_one.make_mend_and_check.Statement.{statement}
+use Rattle.release.proofs.one_by_one.make_mend_and_check.Tie as tie
 
 abbrev start : tie.After-mesh-grid → tie.Start
 start m = m .before .before .before .before .before .before .before .before .before .before .before .before .before .before .before .before

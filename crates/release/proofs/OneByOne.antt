@@ -24,15 +24,15 @@ use Rattle.mending.specs.declared.Count.{Count}
 use Rattle.update.specs.declared.Updated.the-variants.{Done, Refused}
 use Rattle.update.specs.Outcome.{outcomeOf}
 use Rattle.answers.specs.declared.Verdict.the-variants.{Fine}
-use Rattle.demands.specs.declared.one_by_one.Went.{Went}
+use Rattle.release.specs.declared.one_by_one.Went.{Went}
 use Rattle.demands.specs.Contracts.{Meshes, Updates, Checks}
 use Rattle.demands.specs.Chunks.{gridAfter, LogFor}
-use Rattle.demands.specs.OneByOne.{Course, through, halted, wentOf, onward, entryLog, calls, verdictOn, checkedOn, chain, chainPromise, chainVerdict}
+use Rattle.release.specs.OneByOne.{Course, through, halted, wentOf, onward, entryLog, calls, verdictOn, checkedOn, chain, chainPromise, chainVerdict}
 use Rattle.demands.proofs.Telling.{numbered}
 use Rattle.demands.proofs.Stopped.{entry-stays}
 use Rattle.demands.proofs.Answers.{what-a-mesh-call-says}
 use Rattle.demands.proofs.Fresh.{fresh-is-fine}
 use Rattle.demands.proofs.Mending.{still-fine, asked}
 
 -- an answer by the name that a `match` found it to have
 pub went : (exit : Lists) {k : Course} {a b : Went} → a ≡ b → wentOf a exit ≡ k → wentOf b exit ≡ k

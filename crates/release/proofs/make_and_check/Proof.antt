@@ -1,11 +1,11 @@
--- `demands::make_and_check` meets its contract: what was made passes. Assumes nothing.
+-- `release::make_and_check` meets its contract: what was made passes. Assumes nothing.
 use Rattle.rules.specs.Mesh.{Lists, listsOf}
 use Rattle.rules.specs.Calls.{Scene}
 use Rattle.admit.specs.Scenes.{sceneOf}
-use Rattle.demands.proofs.Composed.{meshes, made, not-made}
+use Rattle.release.proofs.Composed.{meshes, made, not-made}
 use borrow.Author.Needs.{needs}
-use Rattle.demands.proofs.make_and_check.Statement.{statement}
-use Rattle.demands.proofs.make_and_check.Tie as tie
+use Rattle.release.proofs.make_and_check.Statement.{statement}
+use Rattle.release.proofs.make_and_check.Tie as tie
 
 abbrev scene : tie.Start → Scene
 scene t = let a = t .args in sceneOf (a .scene) (a .kinds .now) (a .covers .now) (a .cubes .now)

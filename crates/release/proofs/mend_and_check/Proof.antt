@@ -1,4 +1,4 @@
--- `demands::mend_and_check` meets its contract: after a log of demand 3 the second check refuses nothing. Assumes nothing.
+-- `release::mend_and_check` meets its contract: after a log of demand 3 the second check refuses nothing. Assumes nothing.
 use mathlib.Core.Path.{_≡_, sym, _∙_}
 use mathlib.Core.List.{[]}
 use Rattle.rules.specs.Mesh.{Lists, listsOf}
@@ -7,10 +7,10 @@ use Rattle.rules.specs.Calls.{Scene, checkVerdict}
 use Rattle.admit.specs.Scenes.{sceneOf}
 use Rattle.sides.specs.Tests.{testedBy}
 use Rattle.answers.proofs.Chains.{stops, passes}
-use Rattle.demands.proofs.Composed.{updates, mended, refused, promised}
+use Rattle.release.proofs.Composed.{updates, mended, refused, promised}
 use borrow.Author.Needs.{needs}
-use Rattle.demands.proofs.mend_and_check.Statement.{statement}
-use Rattle.demands.proofs.mend_and_check.Tie as tie
+use Rattle.release.proofs.mend_and_check.Statement.{statement}
+use Rattle.release.proofs.mend_and_check.Tie as tie
 
 abbrev scene : tie.Start → Scene
 scene t = let a = t .args in sceneOf (a .scene) (a .kinds .now) (a .covers .now) (a .cubes .now)

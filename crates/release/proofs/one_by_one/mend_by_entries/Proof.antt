@@ -1,4 +1,4 @@
--- `demands::one_by_one::mend_by_entries` meets its contract: a call for each entry. Assumes nothing.
+-- `release::one_by_one::mend_by_entries` meets its contract: a call for each entry. Assumes nothing.
 use mathlib.Core.Path.{_≡_, ap, _∙_}
 use mathlib.Core.List.{List}
 use Prim.Native.Nat.{ℕ, _-_, _*_, _/_}
@@ -11,12 +11,12 @@ use Rattle.vav.proofs.Laws.{part-lent}
 use Rattle.admit.specs.Scenes.{sceneOf}
 use Rattle.sides.specs.Tests.{testedBy}
 use Rattle.update.specs.Outcome.{outcomeOf}
-use Rattle.demands.specs.OneByOne.{entryLog}
-use Rattle.demands.proofs.Composed.{updates}
-use Rattle.demands.proofs.OneByOne.{Calling, starts, goes-on, refuses, ends}
+use Rattle.release.specs.OneByOne.{entryLog}
+use Rattle.release.proofs.Composed.{updates}
+use Rattle.release.proofs.OneByOne.{Calling, starts, goes-on, refuses, ends}
 use borrow.Author.Needs.{needs}
-use Rattle.demands.proofs.one_by_one.mend_by_entries.Statement.{statement}
-use Rattle.demands.proofs.one_by_one.mend_by_entries.Tie as tie
+use Rattle.release.proofs.one_by_one.mend_by_entries.Statement.{statement}
+use Rattle.release.proofs.one_by_one.mend_by_entries.Tie as tie
 
 abbrev Inv-loop : tie.InvT-loop
 Inv-loop vertices₀ triangles₀ links₀ slots₀ scene kinds covers cubes tested log quads entries left₀ k₀ vertices triangles links slots left k =

@@ -10,8 +10,8 @@ use Rattle.rules.specs.Update.{Tested}
 use Rattle.rules.specs.Answers.{Verdict, fine, refuse, _then_}
 use Rattle.rules.specs.Calls.{Outcome, Scene, meshVerdict, meshGrid, updateMesh, checkVerdict}
 use Rattle.answers.specs.Verdicts.{numberOf}
-use Rattle.demands.specs.declared.one_by_one.Went.{Went}
-use Rattle.demands.specs.declared.one_by_one.Went.the-variants.{Through, Halted}
+use Rattle.release.specs.declared.one_by_one.Went.{Went}
+use Rattle.release.specs.declared.one_by_one.Went.the-variants.{Through, Halted}
 
 -- through all the calls, with these lists and so many quads; or halted by a refusal with its number and place
 pub data Course : Type 0 where

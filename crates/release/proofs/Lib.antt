@@ -1,0 +1,3 @@
+-- The laws for the functions of src/.
+pub mod Composed
+pub mod OneByOne
