@@ -17,7 +17,7 @@ use Rattle.rules.specs.Answers.{Verdict, fine, refuse, _then_, refuseIf,
 use Rattle.rules.specs.Check.{linked, Right}
 use Rattle.rules.proofs.ListLaws.{All, all-at, split, both-ways, or-false, not-true, lowest-none, lowest-good, same-true, same-refl, length-table, getD-table}
 use Rattle.rules.proofs.Quads.{Once, Placed, placed, absent}
-use Rattle.rules.proofs.Laying.{Fits, keyAt, Distinct, link-inside, keys-at, links-at, vertices-at, triangles-at, slots-at, is-there, at-there, place-is, distinct-of-once, once-of-distinct}
+use Rattle.rules.proofs.Laying.{Fits, keyAt, Distinct, link-inside, keys-at, links-at, vertices-at, triangles-at, length-slots, slots-at, is-there, at-there, place-is, distinct-of-once, once-of-distinct}
 use Rattle.rules.proofs.Index.{Named, In, no-other, no-more}
 use Rattle.rules.proofs.Mending.{due, Shows, Sound, not-drawn}
 
@@ -274,35 +274,74 @@ module _ (W : World) (outer g : List ℕ) (s : ℕ) (B : Lists) (Q : ℕ) (room 
           let v : linked B q % 6 ≡ f = omega (arith, i .1) in
           true≢false (sym (rw (u, v) at (r .noOther q (i .0))) ∙ d)))
 
+-- ---- a mesh that has no face twice, laid out: links, slots and triangles are right
+module _ (n s highest : ℕ) (m : List Quad) (B : Lists) (hn : 6 * n ≤ 3221225472) (fits : All (Fits (6 * n) s) m) (room : 6 * n ≤ length (B .slots))
+    (once : Once m) where
+  abbrev after : Lists
+  after = layout (6 * n) s highest m B
+
+  laid-key : (q : ℕ) → q < length m → linked after q ≡ keyAt m q
+  laid-key = keys-at (6 * n) s highest hn m B fits
+
+  laid-slot : (k : ℕ) → k < 6 * n → slotAt after k ≡ slotOf m k
+  laid-slot = slots-at (6 * n) s highest hn m B fits room
+
+  laid-found : (k : ℕ) → there k m ≡ true → (q : ℕ) × (q < length m) × (placeOf k m ≡ q) × (linked after q ≡ k)
+  laid-found k e = let p = placed k m e in (placeOf k m, p .within, refl, laid-key (placeOf k m) (p .within) ∙ p .key)
+
+  laid-inside : (q : ℕ) → q < length m → (codeIn (getD (after .links) q 0) ≤ 5) × (cellIn (getD (after .links) q 0) < n)
+  laid-inside q h =
+      let b = all-at (Fits (6 * n) s) m q blank fits h .0 in
+      rw (links-at (6 * n) s highest hn m B fits q h) (link-inside (keyAt m q) n (omega arith) b)
+
+  laid-once : (p q : ℕ) → p < q → q < length m → linked after p ≢ linked after q
+  laid-once p q l h = rw (laid-key p (omega arith), laid-key q h) (distinct-of-once m once p q l h)
+
+  laid-named : (q : ℕ) → q < length m → slotAt after (linked after q) ≡ firstVertex q
+  laid-named q h =
+      let b = all-at (Fits (6 * n) s) m q blank fits h .0 in
+      rw (laid-key q h) (laid-slot (keyAt m q) b ∙ rw (is-there m q (keyAt m q) h refl, place-is m q (distinct-of-once m once) h))
+
+  laid-naming : (k : ℕ) → k < 6 * n → slotAt after k ≢ NONE
+      → (q : ℕ) × (q < length m) × (slotAt after k ≡ firstVertex q) × (linked after q ≡ k)
+  laid-naming k h d = go (there k m) refl
+    where
+      go : (t : Bool) → there k m ≡ t
+          → (q : ℕ) × (q < length m) × (slotAt (layout (6 * n) s highest m B) k ≡ firstVertex q) × (linked (layout (6 * n) s highest m B) q ≡ k)
+      go true e = let i = laid-found k e in (i .0, i .1, laid-slot k h ∙ rw (e, i .2), i .3)
+      go false e = absurd (d (laid-slot k h ∙ rw e))
+
+  -- LAW: what is laid out passes 11 and 12
+  pub book-of-laid : Book n (layout (6 * n) s highest m B) (length m)
+  book-of-laid =
+      let slots = length-slots (6 * n) s highest hn m B fits room in
+      record {
+        codes = λ q h. laid-inside q h .0;
+        inside = λ q h. laid-inside q h .1;
+        named = laid-named;
+        few = few-filled n after (length m) (omega arith) (λ q h. laid-inside q h .0) (λ q h. laid-inside q h .1) laid-named laid-naming;
+        triangles = triangles-at (6 * n) s highest hn m B fits;
+      }
+
 -- ---- a mesh that shows what culling shows, laid out, is right
 module _ (W : World) (outer g : List ℕ) (s highest : ℕ) (m : List Quad) (B : Lists) (hn : 6 * cells (W .size) ≤ 3221225472)
     (fits : All (Fits (6 * cells (W .size)) s) m) (room : 6 * cells (W .size) ≤ length (B .slots)) where
   pub right-of-shows : Shows W outer g m → Once m → Right W outer g s (layout (6 * cells (W .size)) s highest m B) (length m)
   unfolding Shows
   right-of-shows sh once =
+      let n = cells (W .size) in
+      let key = laid-key n s highest m B hn fits room once in
       record {
-        eachShown = λ c f hc hf d. shown-at c f hf d;
-        inside = inside;
+        eachShown = λ c f hc hf d. let i = laid-found n s highest m B hn fits room once (keyOf c f) (rw (sh c f hf, d)) in (i .0, i .1, i .3);
+        inside = laid-inside n s highest m B hn fits room once;
         noOther = λ q h. rw (key q h) (both q h .0);
-        once = λ p q l h. rw (key p (omega arith), key q h) (distinct-of-once m once p q l h);
-        vertices = λ q h. rw (key q h) (vertices-at (6 * cells (W .size)) s highest hn m B fits q h ∙ both q h .1);
-        triangles = triangles-at (6 * cells (W .size)) s highest hn m B fits;
-        named = λ q h. rw (key q h) (slot (keyAt m q) (below q h) ∙ rw (is-there m q (keyAt m q) h refl, place-is m q (distinct-of-once m once) h));
-        naming = naming;
+        once = laid-once n s highest m B hn fits room once;
+        vertices = λ q h. rw (key q h) (vertices-at (6 * n) s highest hn m B fits q h ∙ both q h .1);
+        triangles = triangles-at (6 * n) s highest hn m B fits;
+        named = laid-named n s highest m B hn fits room once;
+        naming = laid-naming n s highest m B hn fits room once;
       }
     where
-      after : Lists
-      after = layout (6 * cells (W .size)) s highest m B
-
-      key : (q : ℕ) → q < length m → linked (layout (6 * cells (W .size)) s highest m B) q ≡ keyAt m q
-      key = keys-at (6 * cells (W .size)) s highest hn m B fits
-
-      below : (q : ℕ) → q < length m → keyAt m q < 6 * cells (W .size)
-      below q h = all-at (Fits (6 * cells (W .size)) s) m q blank fits h .0
-
-      slot : (k : ℕ) → k < 6 * cells (W .size) → slotAt (layout (6 * cells (W .size)) s highest m B) k ≡ slotOf m k
-      slot = slots-at (6 * cells (W .size)) s highest hn m B fits room
-
       one-of : (b : Bool) (x y : List ℕ) → cond b (x ∷ []) [] ≡ y ∷ [] → (b ≡ true) × (y ≡ x)
       one-of true x y e = (refl, (cc))
       one-of false x y e = let z : _≡_ {A = ℕ} 0 1 = cc in absurd (omega arith)
@@ -314,28 +353,3 @@ module _ (W : World) (outer g : List ℕ) (s highest : ℕ) (m : List Quad) (B :
           let e : keyOf (keyAt m q / 6) (keyAt m q % 6) ≡ keyAt m q = omega arith in
           one-of (drawn W outer g (keyAt m q / 6) (keyAt m q % 6)) _ ((getD m q blank) .words)
           (sym (sh (keyAt m q / 6) (keyAt m q % 6) (omega arith)) ∙ rw e (at-there m q once h))
-
-      found : (k : ℕ) → there k m ≡ true → (q : ℕ) × (q < length m) × (placeOf k m ≡ q) × (linked (layout (6 * cells (W .size)) s highest m B) q ≡ k)
-      found k e = let p = placed k m e in (placeOf k m, p .within, refl, key (placeOf k m) (p .within) ∙ p .key)
-
-      shown-at : (c f : ℕ) → f < 6 → drawn W outer g c f ≡ true
-          → (q : ℕ) × (q < length m) × (linked (layout (6 * cells (W .size)) s highest m B) q ≡ keyOf c f)
-      shown-at c f hf d = let i = found (keyOf c f) (rw (sh c f hf, d)) in (i .0, i .1, i .3)
-
-      inside : (q : ℕ) → q < length m
-          → (codeIn (getD ((layout (6 * cells (W .size)) s highest m B) .links) q 0) ≤ 5)
-          × (cellIn (getD ((layout (6 * cells (W .size)) s highest m B) .links) q 0) < cells (W .size))
-      inside q h =
-          let b = below q h in
-          rw (links-at (6 * cells (W .size)) s highest hn m B fits q h) (link-inside (keyAt m q) (cells (W .size)) (omega arith) b)
-
-      naming : (k : ℕ) → k < 6 * cells (W .size) → slotAt (layout (6 * cells (W .size)) s highest m B) k ≢ NONE
-          → (q : ℕ) × (q < length m) × (slotAt (layout (6 * cells (W .size)) s highest m B) k ≡ firstVertex q)
-          × (linked (layout (6 * cells (W .size)) s highest m B) q ≡ k)
-      naming k h d = go (there k m) refl
-        where
-          go : (t : Bool) → there k m ≡ t
-              → (q : ℕ) × (q < length m) × (slotAt (layout (6 * cells (W .size)) s highest m B) k ≡ firstVertex q)
-              × (linked (layout (6 * cells (W .size)) s highest m B) q ≡ k)
-          go true e = let i = found k e in (i .0, i .1, slot k h ∙ rw (e, i .2), i .3)
-          go false e = absurd (d (slot k h ∙ rw e))

@@ -266,20 +266,21 @@ course-alike room a b i (suc n) m v p h =
 
 -- LAW: a mesh that shows what culling shows, shows it of the new grid after an honest log of demand 3 that comes through
 pub mends-log : (W : World) → Sound W → (tested : Tested) (room : ℕ) (entry : ℕ → Entry) (i k : ℕ) (g : List ℕ) (m : List Quad) (v p : ℕ)
-    → length g ≡ cells (W .size) → Shows W [] g m
+    → length g ≡ cells (W .size) → Shows W [] g m → ((j : ℕ) → i ≤ j → j < i + k → (entry j) .cell < cells (W .size))
     → Honest W g (each k i (λ j. entry j ∷ [])) → Mends W g (each k i (λ j. entry j ∷ []))
     → AddsAlike tested W (each k i (λ j. entry j ∷ [])) → (courseFrom room (λ j. work tested W (entry j)) i k m v p) .full ≡ none
     → Shows W [] (gridLog W (each k i (λ j. entry j ∷ [])) g) ((courseFrom room (λ j. work tested W (entry j)) i k m v p) .quads)
 unfolding courseFrom each
-mends-log W s tested room entry i zero g m v p hg sh ho me al fu = sh
-mends-log W s tested room entry i (suc k) g m v p hg sh ho me al fu =
+mends-log W s tested room entry i zero g m v p hg sh inGrid ho me al fu = sh
+mends-log W s tested room entry i (suc k) g m v p hg sh inGrid ho me al fu =
     split (λ t. (cond t after here) .full ≡ none
     → Shows W [] (gridLog W (each k (suc i) (λ j. entry j ∷ [])) (gridAfter W g (entry i))) ((cond t after here) .quads))
     (leb (needed (work tested W (entry i)) m) room)
     (λ e q. mends-log W s tested room entry (suc i) k (gridAfter W g (entry i)) (run (ops (work tested W (entry i))) m)
     (v + moves (ops (work tested W (entry i))) m) (highest p (ops (work tested W (entry i))) m)
     (length-after W g (entry i) ((entry i) .change) ∙ hg)
-    (mends-entry W s tested g hg m sh (entry i) (ho .0) ((entry i) .change) (ho .1) (me .0) (al .0)) (ho .2) (me .1) (al .1) q)
+    (mends-entry W s tested g hg m sh (entry i) (inGrid i (omega arith) (omega arith)) (ho .0) ((entry i) .change) (ho .1) (me .0) (al .0))
+    (λ j a b. inGrid j (omega arith) (omega arith)) (ho .2) (me .1) (al .1) q)
     (λ e q. absurd (some-none (sym q))) fu
   where
     after : Course

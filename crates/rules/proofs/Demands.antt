@@ -20,10 +20,10 @@ use Rattle.rules.specs.Update.{Change, Broken, Added, CullFaces, AddFace
 use Rattle.rules.specs.Answers.{Verdict, fine, refuse, _then_, refuseIf, refuseLowest, outOf, badLimits, BAD-SIZE, BAD-GRID, badCounts, badType, BAD-TYPES, BAD-NUMBER, NOT-A-CUBE, BAD-OUTER, BAD-CELL, SHORT-SLOTS, roomOf, BAD-COUNT, BAD-LINKS, BAD-TRIANGLES, badEntry, BAD-ENTRY, NO-ROOM, WRONG-SET, WRONG-VERTEX}
 use Rattle.rules.specs.Check.{linked, Right}
 use Rattle.rules.specs.Calls.{Answer, answered, refused, Scene, wordsIn, world, span, faces, room, typesVerdict, Outcome, freshMesh, meshVerdict, meshBy, meshGrid, lentVerdict, updateVerdict, entriesOf, course, courseAnswer, updateBy, updateMesh, openVerdict, bookVerdict, faceVerdict, checkVerdict, checkBy, checkMesh}
-use Rattle.rules.proofs.ListLaws.{All, all-of, split, or-false, not-true, length-table, length-each}
+use Rattle.rules.proofs.ListLaws.{All, all-of, all-each, split, or-false, not-true, length-table, length-each}
 use Rattle.rules.proofs.Quads.{Once}
 use Rattle.rules.proofs.Laying.{Fits, length-vertices, length-triangles, length-links, length-slots, once-of-distinct, decode-layout}
-use Rattle.rules.proofs.Checking.{then-fine, fine-then, if-fine, fine-if, lowest-fine, fine-lowest, Book, book-of-fine, length-decode, key-decode, words-decode, distinct-decode, right-of-fine, fine-of-right, shows-of-right, right-of-shows}
+use Rattle.rules.proofs.Checking.{then-fine, fine-then, if-fine, fine-if, lowest-fine, fine-lowest, Book, book-of-fine, fine-of-book, book-of-laid, length-decode, key-decode, words-decode, distinct-decode, right-of-fine, fine-of-right, shows-of-right, right-of-shows}
 use Rattle.rules.proofs.Mending.{Sound, Shows, shows-once, fresh-shows}
 use Rattle.rules.proofs.Courses.{fits-fresh, fits-new, Sane, course-sane, mends-log, length-log}
 use Rattle.rules.proofs.Refusals.{Within, MESH, UPDATE, CHECK, mesh-numbers, update-numbers, check-numbers, zero-fine}
@@ -91,10 +91,8 @@ module _ (S : Scene) where
   unfolding roomOf
   same-room A B a b c = rw (a, b, c)
 
--- ---- a mesh laid out in lent lists is accepted, if it shows what culling shows
-module _ (S : Scene) (outer g : List ℕ) (B : Lists) (highest : ℕ) (m : List Quad)
-    (size-fine : BAD-SIZE (S .size) ≡ fine) (grid-fine : BAD-GRID (S .size) g ≡ fine) (types-fine : typesVerdict S ≡ fine)
-    (outer-fine : BAD-OUTER outer ≡ fine) (cells-fine : BAD-CELL (S .types) g ≡ fine) (slots-fine : SHORT-SLOTS (S .size) B ≡ fine)
+-- ---- a mesh laid out in lent lists
+module _ (S : Scene) (B : Lists) (highest : ℕ) (m : List Quad) (size-fine : BAD-SIZE (S .size) ≡ fine) (slots-fine : SHORT-SLOTS (S .size) B ≡ fine)
     (sane : Sane (faces S) (span S) (room S B) m highest) where
   abbrev after : Lists
   after = layout (faces S) (span S) highest m B
@@ -105,30 +103,35 @@ module _ (S : Scene) (outer g : List ℕ) (B : Lists) (highest : ℕ) (m : List 
   slots-room : faces S ≤ length (B .slots)
   slots-room = ltb-false (length (B .slots)) (faces S) (if-fine (ltb (length (B .slots)) (faces S)) 9 0 slots-fine)
 
-  pub laid-accepted : Shows (world S) outer g m → checkVerdict S outer g (layout (faces S) (span S) highest m B) (length m) ≡ fine
-  laid-accepted sh =
+  slots-kept : length (after .slots) ≡ length (B .slots)
+  slots-kept = length-slots (faces S) (span S) highest small m B (sane .fits) slots-room
+
+  room-kept : room S after ≡ room S B
+  room-kept =
+      let r = room-for S B highest (sane .within) in
+      same-room S after B (length-vertices (faces S) (span S) highest small m B (sane .fits) (sane .reached) (r .vertices))
+      (length-triangles (faces S) (span S) highest small m B (sane .fits) (sane .reached) (r .triangles))
+      (length-links (faces S) (span S) highest small m B (sane .fits) (sane .reached) (r .links))
+
+  -- LAW: it passes 9 to 12
+  pub laid-lent : lentVerdict S (layout (faces S) (span S) highest m B) (length m) ≡ fine
+  laid-lent =
+      fine-then (fine-if (ltb (length (after .slots)) (faces S)) 9 0 (le-ltb (length (after .slots)) (faces S) (omega (arith, slots-kept, slots-room))))
+      (fine-then (fine-if (ltb (room S after) (length m)) 10 0 (le-ltb (room S after) (length m) (omega (arith, room-kept, sane .reached, sane .within))))
+      (fine-of-book (cells (S .size)) after (length m)
+      (book-of-laid (cells (S .size)) (span S) highest m B small (sane .fits) slots-room (sane .once))))
+
+  -- LAW: it is accepted, if it shows what culling shows
+  pub laid-accepted : (outer g : List ℕ) → BAD-GRID (S .size) g ≡ fine → typesVerdict S ≡ fine → BAD-OUTER outer ≡ fine
+      → BAD-CELL (S .types) g ≡ fine → Shows (world S) outer g m → checkVerdict S outer g (layout (faces S) (span S) highest m B) (length m) ≡ fine
+  laid-accepted outer g grid-fine types-fine outer-fine cells-fine sh =
+      let l = then-fine (SHORT-SLOTS (S .size) after) _ laid-lent in
+      let c = then-fine (BAD-COUNT (floats (S .types)) after (length m)) (bookVerdict S after (length m)) (l .1) in
       fine-then
-      (fine-then size-fine (fine-then grid-fine (fine-then types-fine (fine-then outer-fine (fine-then cells-fine (fine-then
-      (fine-if (ltb (length (after .slots)) (faces S)) 9 0 (le-ltb (length (after .slots)) (faces S) (omega (arith, slots-len, slots-room))))
-      (fine-if (ltb (room S after) (length m)) 10 0 (le-ltb (room S after) (length m) (omega (arith, rooms, sane .reached, sane .within)))))))))
-      ) (fine-then (r .0) (r .1))
-    where
-      inRoom : Room S B highest
-      inRoom = room-for S B highest (sane .within)
-
-      slots-len : length (after .slots) ≡ length (B .slots)
-      slots-len = length-slots (faces S) (span S) highest small m B (sane .fits) slots-room
-
-      rooms : room S after ≡ room S B
-      rooms =
-          same-room S after B (length-vertices (faces S) (span S) highest small m B (sane .fits) (sane .reached) (inRoom .vertices))
-          (length-triangles (faces S) (span S) highest small m B (sane .fits) (sane .reached) (inRoom .triangles))
-          (length-links (faces S) (span S) highest small m B (sane .fits) (sane .reached) (inRoom .links))
-
-      r : (bookVerdict S after (length m) ≡ fine) × (faceVerdict S outer g after (length m) ≡ fine)
-      r =
-          fine-of-right (world S) outer g (span S) after (length m) (omega (arith, slots-len, slots-room))
-          (right-of-shows (world S) outer g (span S) highest m B small (sane .fits) slots-room sh (sane .once))
+      (fine-then size-fine (fine-then grid-fine (fine-then types-fine (fine-then outer-fine (fine-then cells-fine (fine-then (l .0) (c .0)))))))
+      (fine-then (c .1)
+      (fine-of-right (world S) outer g (span S) after (length m) (omega (arith, slots-kept, slots-room))
+      (right-of-shows (world S) outer g (span S) highest m B small (sane .fits) slots-room sh (sane .once)) .1))
 
 -- ---- DEMAND 3, first half: the check accepts exactly the right meshes
 
@@ -179,14 +182,14 @@ fresh-accepted S outer g B e = go (meshVerdict S outer g true B) refl e
         let snd = sound S (a .0) (c .0) in
         let hg = eqb-true (length g) (cells (S .size)) (not-true _ (if-fine (not (eqb (length g) (cells (S .size)))) 2 0 (b .0))) in
         let sh = fresh-shows (world S) snd outer g hg in
-        laid-accepted S outer g B (length (culled (world S) outer g)) (culled (world S) outer g) (a .0) (b .0) (c .0) (d .0) (f .0) (h .0)
+        laid-accepted S B (length (culled (world S) outer g)) (culled (world S) outer g) (a .0) (h .0)
         (record {
           fits = fits-fresh (world S) snd (span S) (words-sized S) (drawn (world S) outer g) g;
           once = shows-once (world S) outer g (culled (world S) outer g) sh;
           reached = omega arith;
           within = ltb-false (room S B) (length (culled (world S) outer g)) (if-fine (ltb (room S B) (length (culled (world S) outer g))) 14 0 (h .1));
         })
-        sh
+        outer g (b .0) (c .0) (d .0) (f .0) sh
 
     go : (v : Verdict) → meshVerdict S outer g true B ≡ v → (meshBy v S (culled (world S) outer g) B) .answer .number ≡ 0
         → checkMesh S outer g ((meshBy v S (culled (world S) outer g) B) .lists) ((meshBy v S (culled (world S) outer g) B) .answer .quads) ≡ answered 0 0
@@ -201,10 +204,10 @@ fresh-accepted S outer g B e = go (meshVerdict S outer g true B) refl e
 -- ---- DEMAND 3, second half: a mended mesh passes
 
 -- codes of the grid stay types
-codes-after : (S : Scene) (g : List ℕ) (e : Entry) (k : Change) → Told (world S) g e → TrueBy (world S) g e k
+codes-after : (S : Scene) (g : List ℕ) (e : Entry) (k : Change) → e .type < length (S .types .kinds) → TrueBy (world S) g e k
     → ((c : ℕ) → c < length g → getD g c 0 < length (S .types .kinds))
     → (c : ℕ) → c < length (gridBy (world S) g e k) → getD (gridBy (world S) g e k) c 0 < length (S .types .kinds)
-codes-after S g e k told h codes c l = go k h l
+codes-after S g e k listed h codes c l = go k h l
   where
     on : (t : ℕ) → t < length (S .types .kinds) → c < length (set g (e .cell) t) → getD (set g (e .cell) t) c 0 < length (S .types .kinds)
     on t ht l = at-cell (ℕ-discrete c (e .cell))
@@ -218,15 +221,16 @@ codes-after S g e k told h codes c l = go k h l
 
     go : (k : Change) → TrueBy (world S) g e k → c < length (gridBy (world S) g e k) → getD (gridBy (world S) g e k) c 0 < length (S .types .kinds)
     go Broken h l = on (emptyType (world S)) (h .1) l
-    go Added h l = on (e .type) (told .listed) l
+    go Added h l = on (e .type) listed l
     go CullFaces h l = absurd h
     go AddFaces h l = absurd h
 
-codes-log : (S : Scene) (g : List ℕ) (es : List Entry) → Honest (world S) g es
+codes-log : (S : Scene) (g : List ℕ) (es : List Entry) → All (λ e. e .type < length (S .types .kinds)) es → Honest (world S) g es
     → ((c : ℕ) → c < length g → getD g c 0 < length (S .types .kinds))
     → (c : ℕ) → c < length (gridLog (world S) es g) → getD (gridLog (world S) es g) c 0 < length (S .types .kinds)
-codes-log S g [] h codes = codes
-codes-log S g (e ∷ es) h codes = codes-log S (gridAfter (world S) g e) es (h .2) (codes-after S g e (e .change) (h .0) (h .1) codes)
+codes-log S g [] listed h codes = codes
+codes-log S g (e ∷ es) listed h codes =
+    codes-log S (gridAfter (world S) g e) es (listed .1) (h .2) (codes-after S g e (e .change) (listed .0) (h .1) codes)
 
 -- a lent mesh that passes 9 to 12 is one, in its room
 module _ (S : Scene) (B : Lists) (Q : ℕ) (size-fine : BAD-SIZE (S .size) ≡ fine) (slots-fine : SHORT-SLOTS (S .size) B ≡ fine)
@@ -263,16 +267,59 @@ module _ (S : Scene) (B : Lists) (Q : ℕ) (size-fine : BAD-SIZE (S .size) ≡ f
                 (length-take-le (span S) (drop (span S * q) (B .vertices)) (rw length-drop (omega arith))),
           )
 
--- the entries of an accepted log are in the grid
-pub entry-inside : (n types : ℕ) (log : List ℕ) → BAD-ENTRY n types log ≡ fine → (k : ℕ) → k < length log / 12 → (entryAt log k) .cell < n
+-- the entries of an accepted log: the grid has their cells, and the table their types
+entry-known : (n types : ℕ) (log : List ℕ) → BAD-ENTRY n types log ≡ fine → (k : ℕ) → k < length log / 12
+    → ((entryAt log k) .cell < n) × ((entryAt log k) .type < types)
 unfolding BAD-ENTRY badEntry entryAt
-entry-inside n types log e k h =
+entry-known n types log e k h =
     let a = then-fine (refuseLowest 13 (length log / 12) (badEntry n types log)) _ e .0 in
     let b = lowest-fine 13 (length log / 12) (badEntry n types log) a k h in
     let c = or-false (leb 16777216 k || leb n (u32At log (12 * k)) || ltb 3 (getD log (12 * k + 4) 0) || leb types (getD log (12 * k + 5) 0)) _ b .0 in
-    let d = or-false (leb 16777216 k || leb n (u32At log (12 * k)) || ltb 3 (getD log (12 * k + 4) 0)) (leb types (getD log (12 * k + 5) 0)) c .0 in
-    let f = or-false (leb 16777216 k || leb n (u32At log (12 * k))) (ltb 3 (getD log (12 * k + 4) 0)) d .0 in
-    leb-false n (u32At log (12 * k)) (or-false (leb 16777216 k) (leb n (u32At log (12 * k))) f .1)
+    let d = or-false (leb 16777216 k || leb n (u32At log (12 * k)) || ltb 3 (getD log (12 * k + 4) 0)) (leb types (getD log (12 * k + 5) 0)) c in
+    let f = or-false (leb 16777216 k || leb n (u32At log (12 * k))) (ltb 3 (getD log (12 * k + 4) 0)) (d .0) .0 in
+    (leb-false n (u32At log (12 * k)) (or-false (leb 16777216 k) (leb n (u32At log (12 * k))) f .1), leb-false types (getD log (12 * k + 5) 0) (d .1))
+
+pub entry-inside : (n types : ℕ) (log : List ℕ) → BAD-ENTRY n types log ≡ fine → (k : ℕ) → k < length log / 12 → (entryAt log k) .cell < n
+entry-inside n types log e k h = entry-known n types log e k h .0
+
+entries-listed : (n types : ℕ) (log : List ℕ) → BAD-ENTRY n types log ≡ fine → All (λ e. e .type < types) (entriesOf log)
+entries-listed n types log e =
+    all-each (λ (x : Entry). x .type < types) (length log / 12) 0 (λ k. entryAt log k ∷ []) (λ k a b. (entry-known n types log e k (omega arith) .1, tt))
+
+-- ---- what a log leaves
+module _ (tested : Tested) (S : Scene) (log : List ℕ) (B : Lists) (Q : ℕ) (accepted : updateVerdict S log B Q ≡ fine) where
+  abbrev ran : Course
+  ran = course tested S log B Q
+
+  -- what was asked, one by one
+  pub record Asked : Type 0 where
+    pub size : BAD-SIZE (S .size) ≡ fine
+    pub types : typesVerdict S ≡ fine
+    pub slots : SHORT-SLOTS (S .size) B ≡ fine
+    pub count : BAD-COUNT (floats (S .types)) B Q ≡ fine
+    pub book : bookVerdict S B Q ≡ fine
+    pub entries : BAD-ENTRY (cells (S .size)) (length (S .types .kinds)) log ≡ fine
+
+  pub asked-of : Asked
+  asked-of =
+      let a = then-fine (BAD-SIZE (S .size)) _ accepted in
+      let t = then-fine (typesVerdict S) _ (a .1) in
+      let l = then-fine (lentVerdict S B Q) (BAD-ENTRY (cells (S .size)) (length (S .types .kinds)) log) (t .1) in
+      let s = then-fine (SHORT-SLOTS (S .size) B) _ (l .0) in
+      let c = then-fine (BAD-COUNT (floats (S .types)) B Q) (bookVerdict S B Q) (s .1) in
+      record { size = a .0; types = t .0; slots = s .0; count = c .0; book = c .1; entries = l .1 }
+
+  pub ran-sane : Sane (faces S) (span S) (room S B) ((course tested S log B Q) .quads) ((course tested S log B Q) .highest)
+  ran-sane =
+      let a = asked-of in
+      course-sane (faces S) (span S) (room S B) (λ k. work tested (world S) (entryAt log k)) 0 (length log / 12) (decode (span S) Q B) 0 Q
+      (λ j x y. fits-new (world S) (sound S (a .size) (a .types)) (span S) (words-sized S) tested (entryAt log j)
+      (entry-inside (cells (S .size)) (length (S .types .kinds)) log (a .entries) j (omega arith)) ((entryAt log j) .change))
+      (lent-sane S B Q (a .size) (a .slots) (a .count) (a .book))
+
+  -- LAW: whatever the log, what it leaves passes 9 to 12 again
+  pub ran-lent : let c = course tested S log B Q in lentVerdict S (layout (faces S) (span S) (c .highest) (c .quads) B) (length (c .quads)) ≡ fine
+  ran-lent = laid-lent S B (ran .highest) (ran .quads) (asked-of .size) (asked-of .slots) ran-sane
 
 module _ (tested : Tested) (S : Scene) (g log : List ℕ) (B : Lists) (Q : ℕ) where
   abbrev c : Course
@@ -296,6 +343,7 @@ module _ (tested : Tested) (S : Scene) (g log : List ℕ) (B : Lists) (Q : ℕ) 
       → AddsAlike tested (world S) (entriesOf log) → updateVerdict S log B Q ≡ fine → c .full ≡ none
       → checkVerdict S [] grid (layout (faces S) (span S) (c .highest) (c .quads) B) (length (c .quads)) ≡ fine
   mended ec ho me al eu fu =
+      let u = asked-of tested S log B Q eu in
       let o = then-fine (openVerdict S [] g B Q) _ ec in
       let bf = then-fine (bookVerdict S B Q) (faceVerdict S [] g B Q) (o .1) in
       let a = then-fine (BAD-SIZE (S .size)) _ (o .0) in
@@ -303,29 +351,23 @@ module _ (tested : Tested) (S : Scene) (g log : List ℕ) (B : Lists) (Q : ℕ) 
       let t = then-fine (typesVerdict S) _ (b .1) in
       let d = then-fine (BAD-OUTER []) _ (t .1) in
       let f = then-fine (BAD-CELL (S .types) g) _ (d .1) in
-      let h = then-fine (SHORT-SLOTS (S .size) B) (BAD-COUNT (floats (S .types)) B Q) (f .1) in
-      let u = then-fine (BAD-SIZE (S .size)) _ eu .1 in
-      let w = then-fine (typesVerdict S) _ u .1 in
-      let en = then-fine (lentVerdict S B Q) (BAD-ENTRY (cells (S .size)) (length (S .types .kinds)) log) w .1 in
-      let snd = sound S (a .0) (t .0) in
+      let types = length (S .types .kinds) in
+      let snd = sound S (u .size) (u .types) in
       let hg = eqb-true (length g) (cells (S .size)) (not-true _ (if-fine (not (eqb (length g) (cells (S .size)))) 2 0 (b .0))) in
       let lg = length-log (world S) g (entriesOf log) in
-      let room-ok = ltb-false (length (B .slots)) (faces S) (if-fine (ltb (length (B .slots)) (faces S)) 9 0 (h .0)) in
+      let room-ok = ltb-false (length (B .slots)) (faces S) (if-fine (ltb (length (B .slots)) (faces S)) 9 0 (u .slots)) in
       let right = right-of-fine (world S) [] g (span S) B Q room-ok (bf .0) (bf .1) in
       let sh = shows-of-right (world S) [] g (span S) B Q room-ok snd hg right in
-      let codes : (k : ℕ) → k < length g → getD g k 0 < length (S .types .kinds) =
-      λ k l. leb-false (length (S .types .kinds)) (getD g k 0) (lowest-fine 8 (length g) (λ k. leb (length (S .types .kinds)) (getD g k 0)) (f .0) k l) in
-      laid-accepted S [] grid B (c .highest) (c .quads) (a .0)
+      let codes : (k : ℕ) → k < length g → getD g k 0 < types =
+      λ k l. leb-false types (getD g k 0) (lowest-fine 8 (length g) (λ k. leb types (getD g k 0)) (f .0) k l) in
+      laid-accepted S B (c .highest) (c .quads) (u .size) (u .slots) (ran-sane tested S log B Q eu) [] grid
       (fine-if (not (eqb (length grid) (cells (S .size)))) 2 0 (rw (eq-eqb (length grid) (cells (S .size)) (lg ∙ hg))))
-      (t .0) (d .0)
-      (fine-lowest 8 (length grid) (λ k. leb (length (S .types .kinds)) (getD grid k 0))
-      (λ k l. lt-leb (length (S .types .kinds)) (getD grid k 0) (codes-log S g (entriesOf log) ho codes k l)))
-      (h .0)
-      (course-sane (faces S) (span S) (room S B) (λ k. work tested (world S) (entryAt log k)) 0 (length log / 12) (decode (span S) Q B) 0 Q
-      (λ j x y. fits-new (world S) snd (span S) (words-sized S) tested (entryAt log j)
-      (entry-inside (cells (S .size)) (length (S .types .kinds)) log en j (omega arith)) ((entryAt log j) .change))
-      (lent-sane S B Q (a .0) (h .0) (h .1) (bf .0)))
-      (mends-log (world S) snd tested (room S B) (entryAt log) 0 (length log / 12) g (decode (span S) Q B) 0 Q hg sh ho me al fu)
+      (u .types) (d .0)
+      (fine-lowest 8 (length grid) (λ k. leb types (getD grid k 0))
+      (λ k l. lt-leb types (getD grid k 0)
+      (codes-log S g (entriesOf log) (entries-listed (cells (S .size)) types log (u .entries)) ho codes k l)))
+      (mends-log (world S) snd tested (room S B) (entryAt log) 0 (length log / 12) g (decode (span S) Q B) 0 Q hg sh
+      (λ j x y. entry-inside (cells (S .size)) types log (u .entries) j (omega arith)) ho me al fu)
 
   -- if a mesh passes with no outer face named, it passes for the new grid after any unrefused, honest log of Added and Broken alone
   -- that fills only empty cells, and with cubes that cover the side tested as the side itself: in the new mode with any (`itself-alike`)

@@ -8,7 +8,7 @@ use Prim.Native.Nat.{ℕ, zero, suc, _+_, _-_, _*_, _^_, _/_, _%_, _≤_, _<_}
 use native.Mathlib.Nat.{zero-div}
 use native.Mathlib.Omega.{arith}
 use native.Mathlib.Decide.{ℕ-discrete, decLt}
-use lib.Dec.{eqb}
+use lib.Dec.{eqb, ltb}
 use lib.ListN.{length, getD, set, length-set, List·getD-eq-default}
 use lib.Seq.{getD-set-same, getD-set-other}
 use borrow.Author.Tests.{eq-eqb, ne-eqb, eqb-true}
@@ -45,20 +45,24 @@ shows-once W outer g m h k =
     let e : keyOf (k / 6) (k % 6) ≡ k = omega arith in
     rw (← e) (rw (h (k / 6) (k % 6) (omega arith)) (only-le (drawn W outer g (k / 6) (k % 6)) (W .wordsOf (typeAt g (k / 6)) (k % 6) (k / 6))))
 
--- ---- types that show and cover nothing
-empty-both : (W : World) (t : ℕ) → isEmpty W t ≡ true → (getD (W .kinds) t 0 ≡ 0) × (getD (W .covers) t 0 ≡ 0)
-empty-both W t e =
-    let a = and-true (eqb (getD (W .kinds) t 0) 0) (eqb (getD (W .covers) t 0) 0) e in
-    (eqb-true (getD (W .kinds) t 0) 0 (a .0), eqb-true (getD (W .covers) t 0) 0 (a .1))
+-- ---- codes that show and cover nothing: empty types, and 255
+abbrev Bare : World → ℕ → Type 0
+Bare W t = (getD (W .kinds) t 0 ≡ 0) × (getD (W .covers) t 0 ≡ 0)
 
-empty-cube : (W : World) (t : ℕ) → isEmpty W t ≡ true → isNormalCube W t ≡ false
-empty-cube W t e = rw (empty-both W t e .0)
+empty-bare : (W : World) (t : ℕ) → isEmpty W t ≡ true → Bare W t
+empty-bare W t e =
+    let a = and-true (ltb t (length (W .kinds)) && eqb (getD (W .kinds) t 0) 0) (eqb (getD (W .covers) t 0) 0) e in
+    let b = and-true (ltb t (length (W .kinds))) (eqb (getD (W .kinds) t 0) 0) (a .0) in
+    (eqb-true (getD (W .kinds) t 0) 0 (b .1), eqb-true (getD (W .covers) t 0) 0 (a .1))
 
-empty-covers : (W : World) (t f : ℕ) → isEmpty W t ≡ true → covering W t f ≡ false
-empty-covers W t f e = rw (empty-both W t e .1, zero-div (2 ^ f))
+outside-bare : (W : World) → Sound W → Bare W 255
+outside-bare W s = (List·getD-eq-default (W .kinds) 0 (s .few), List·getD-eq-default (W .covers) 0 (s .fewSets))
 
-outside-empty : (W : World) → Sound W → isEmpty W 255 ≡ true
-outside-empty W s = rw (List·getD-eq-default (W .kinds) 0 (s .few), List·getD-eq-default (W .covers) 0 (s .fewSets))
+bare-cube : (W : World) (t : ℕ) → Bare W t → isNormalCube W t ≡ false
+bare-cube W t b = rw (b .0)
+
+bare-covers : (W : World) (t f : ℕ) → Bare W t → covering W t f ≡ false
+bare-covers W t f b = rw (b .1, zero-div (2 ^ f))
 
 pub empty-type : (W : World) → emptyType W < length (W .kinds) → isEmpty W (emptyType W) ≡ true
 unfolding emptyType
@@ -66,7 +70,7 @@ empty-type W h = lowest-bad (length (W .kinds)) (isEmpty W) h
 
 -- nothing is drawn outside the grid
 pub not-drawn : (W : World) → Sound W → (outer g : List ℕ) (n f : ℕ) → length g ≤ n → drawn W outer g n f ≡ false
-not-drawn W s outer g n f h = rw (List·getD-eq-default g 255 h, empty-cube W 255 (outside-empty W s))
+not-drawn W s outer g n f h = rw (List·getD-eq-default g 255 h, bare-cube W 255 (outside-bare W s))
 
 due-out : (W : World) → Sound W → (outer g : List ℕ) (n f : ℕ) → length g ≤ n → due W outer g n f ≡ []
 due-out W s outer g n f h = rw (not-drawn W s outer g n f h)
@@ -304,7 +308,7 @@ module _ (W : World) (s : Sound W) (g : List ℕ) (hg : length g ≡ cells (W .s
   after-own t = getD-set-same g c t 255 (omega arith)
 
 -- ---- an entry that is true of the grid
-module _ (W : World) (s : Sound W) (g : List ℕ) (hg : length g ≡ cells (W .size)) (e : Entry) (told : Told W g e) (n f : ℕ) (hf : f < 6) where
+module _ (W : World) (s : Sound W) (g : List ℕ) (hg : length g ≡ cells (W .size)) (e : Entry) (inGrid : e .cell < cells (W .size)) (told : Told W g e) (n f : ℕ) (hf : f < 6) where
   c : ℕ
   c = e .cell
 
@@ -313,12 +317,12 @@ module _ (W : World) (s : Sound W) (g : List ℕ) (hg : length g ≡ cells (W .s
       → (outside (standing g o) || not (covering W (standing g o) (opposite f))) ≡ shown W [] (set g (e .cell) t) f o
   open-is t none q = refl
   open-is t (some k) q =
-      let b = beside (W .size) (s .wide) (s .long) (e .cell) (told .inGrid) f k q in
+      let b = beside (W .size) (s .wide) (s .long) (e .cell) inGrid f k q in
       rw (getD-set-other g (e .cell) k t 255 (b .other)) (go (outside (typeAt g k)) refl)
     where
       go : (b : Bool) → outside (typeAt g k) ≡ b
           → (b || not (covering W (typeAt g k) (opposite f))) ≡ not (covering W (typeAt g k) (opposite f))
-      go true r = sym (rw (eqb-true (typeAt g k) 255 r, empty-covers W 255 (opposite f) (outside-empty W s)))
+      go true r = sym (rw (eqb-true (typeAt g k) 255 r, bare-covers W 255 (opposite f) (outside-bare W s)))
       go false r = refl
 
   hidden : {A : Type 0} (a q : Bool) (x : A) → cond q [] (orElse (only (a && true) x) []) ≡ only (a && not q) x
@@ -340,84 +344,84 @@ module _ (W : World) (s : Sound W) (g : List ℕ) (hg : length g ≡ cells (W .s
   -- Added, over the side that is tested
   pub added-due : (tested : Tested) → Fills W g e → Alike tested W (e .type)
       → worked (added tested W e) (keyOf n f) (due W [] g n f) ≡ due W [] (set g (e .cell) (e .type)) n f
-  added-due tested h alike = go (view W s g hg (e .cell) (told .inGrid) n f hf)
+  added-due tested h alike = go (view W s g hg (e .cell) inGrid n f hf)
     where
       t : ℕ
       t = e .type
 
-      alone : n ≢ e .cell → Apart W s g hg (e .cell) (told .inGrid) n f hf → worked (added tested W e) (keyOf n f) (due W [] g n f) ≡ due W [] g n f
+      alone : n ≢ e .cell → Apart W s g hg (e .cell) inGrid n f hf → worked (added tested W e) (keyOf n f) (due W [] g n f) ≡ due W [] g n f
       alone d a =
-          idle-at W s g hg (e .cell) (told .inGrid) n f hf (added tested W e) (sides-far W (e .type) (e .cell) n f hf all d)
-          (quads-far W (e .type) (e .cell) n f hf (isOpen W e) d) (hides-none W s g hg (e .cell) (told .inGrid) n f hf tested (e .type) a) (due W [] g n f)
+          idle-at W s g hg (e .cell) inGrid n f hf (added tested W e) (sides-far W (e .type) (e .cell) n f hf all d)
+          (quads-far W (e .type) (e .cell) n f hf (isOpen W e) d) (hides-none W s g hg (e .cell) inGrid n f hf tested (e .type) a) (due W [] g n f)
 
-      go : View W s g hg (e .cell) (told .inGrid) n f hf
+      go : View W s g hg (e .cell) inGrid n f hf
           → worked (added tested W e) (keyOf n f) (due W [] g n f) ≡ due W [] (set g (e .cell) (e .type)) n f
       go (own q) =
           rw (
-            hides-none W s g hg (e .cell) (told .inGrid) n f hf tested (e .type) (own-apart W s g hg (e .cell) (told .inGrid) n f hf q),
+            hides-none W s g hg (e .cell) inGrid n f hf tested (e .type) (own-apart W s g hg (e .cell) inGrid n f hf q),
             sides-own W (e .type) (e .cell) n f hf all q,
             quads-own W (e .type) (e .cell) n f hf (isOpen W e) q,
             q,
-            after-own W s g hg (e .cell) (told .inGrid) n f hf (e .type),
+            after-own W s g hg (e .cell) inGrid n f hf (e .type),
             h .cube,
-            told .neighbours f hf,
+            told f hf,
           )
           (ap (λ (b : Bool). only b (W .wordsOf (e .type) f (e .cell))) (open-is (e .type) (neighbour (W .size) (e .cell) f) refl))
       go (facing d b q) =
           rw (
-            hides-one W s g hg (e .cell) (told .inGrid) n f hf tested (e .type) b,
+            hides-one W s g hg (e .cell) inGrid n f hf tested (e .type) b,
             sides-far W (e .type) (e .cell) n f hf all d,
             quads-far W (e .type) (e .cell) n f hf (isOpen W e) d,
             alike (opposite f) (opposite-lt f hf),
             q,
             getD-set-other g (e .cell) n (e .type) 255 d,
-            after-own W s g hg (e .cell) (told .inGrid) n f hf (e .type),
-            empty-covers W (typeAt g (e .cell)) (opposite f) (h .wasEmpty),
+            after-own W s g hg (e .cell) inGrid n f hf (e .type),
+            bare-covers W (typeAt g (e .cell)) (opposite f) (empty-bare W (typeAt g (e .cell)) (h .wasEmpty)),
           )
           (hidden (isNormalCube W (typeAt g n)) (covering W (e .type) (opposite f)) (W .wordsOf (typeAt g n) f n))
       go (apart d l q) =
-          alone d (face-apart W s g hg (e .cell) (told .inGrid) n f hf q) ∙ sym (due-far W s g hg (e .cell) (told .inGrid) n f hf (e .type) d q)
-      go (out d l) = alone d (out-apart W s g hg (e .cell) (told .inGrid) n f hf l) ∙ beyond (e .type) l
+          alone d (face-apart W s g hg (e .cell) inGrid n f hf q) ∙ sym (due-far W s g hg (e .cell) inGrid n f hf (e .type) d q)
+      go (out d l) = alone d (out-apart W s g hg (e .cell) inGrid n f hf l) ∙ beyond (e .type) l
 
   pub broken-due : TrueBy W g e Broken → worked (broken W e) (keyOf n f) (due W [] g n f) ≡ due W [] (set g (e .cell) (emptyType W)) n f
-  broken-due h = go (view W s g hg (e .cell) (told .inGrid) n f hf)
+  broken-due h = go (view W s g hg (e .cell) inGrid n f hf)
     where
       t : ℕ
       t = emptyType W
 
-      empty : isEmpty W (emptyType W) ≡ true
-      empty = empty-type W (h .1)
+      empty : Bare W (emptyType W)
+      empty = empty-bare W (emptyType W) (empty-type W (h .1))
 
-      alone : n ≢ e .cell → Apart W s g hg (e .cell) (told .inGrid) n f hf → worked (broken W e) (keyOf n f) (due W [] g n f) ≡ due W [] g n f
+      alone : n ≢ e .cell → Apart W s g hg (e .cell) inGrid n f hf → worked (broken W e) (keyOf n f) (due W [] g n f) ≡ due W [] g n f
       alone d a =
-          idle-at W s g hg (e .cell) (told .inGrid) n f hf (broken W e) (sides-far W (e .type) (e .cell) n f hf all d)
-          (reveals-none W s g hg (e .cell) (told .inGrid) n f hf (e .type) (givenAt e) a) refl (due W [] g n f)
+          idle-at W s g hg (e .cell) inGrid n f hf (broken W e) (sides-far W (e .type) (e .cell) n f hf all d)
+          (reveals-none W s g hg (e .cell) inGrid n f hf (e .type) (givenAt e) a) refl (due W [] g n f)
 
-      go : View W s g hg (e .cell) (told .inGrid) n f hf → worked (broken W e) (keyOf n f) (due W [] g n f) ≡ due W [] (set g (e .cell) (emptyType W)) n f
+      go : View W s g hg (e .cell) inGrid n f hf → worked (broken W e) (keyOf n f) (due W [] g n f) ≡ due W [] (set g (e .cell) (emptyType W)) n f
       go (own q) =
           rw (
-            reveals-none W s g hg (e .cell) (told .inGrid) n f hf (e .type) (givenAt e) (own-apart W s g hg (e .cell) (told .inGrid) n f hf q),
+            reveals-none W s g hg (e .cell) inGrid n f hf (e .type) (givenAt e) (own-apart W s g hg (e .cell) inGrid n f hf q),
             sides-own W (e .type) (e .cell) n f hf all q,
             q,
-            after-own W s g hg (e .cell) (told .inGrid) n f hf (emptyType W),
-            empty-cube W (emptyType W) empty,
+            after-own W s g hg (e .cell) inGrid n f hf (emptyType W),
+            bare-cube W (emptyType W) empty,
           )
       go (facing d b q) =
           rw (
-            reveals-one W s g hg (e .cell) (told .inGrid) n f hf (e .type) (givenAt e) b,
+            reveals-one W s g hg (e .cell) inGrid n f hf (e .type) (givenAt e) b,
             sides-far W (e .type) (e .cell) n f hf all d,
-            told .neighbours (opposite f) (opposite-lt f hf),
+            told (opposite f) (opposite-lt f hf),
             b,
             q,
             getD-set-other g (e .cell) n (emptyType W) 255 d,
-            after-own W s g hg (e .cell) (told .inGrid) n f hf (emptyType W),
-            empty-covers W (emptyType W) (opposite f) empty,
+            after-own W s g hg (e .cell) inGrid n f hf (emptyType W),
+            bare-covers W (emptyType W) (opposite f) empty,
             ← h .0,
           )
           (revealed (isNormalCube W (typeAt g n)) (covering W (e .type) (opposite f)) (W .wordsOf (typeAt g n) f n))
       go (apart d l q) =
-          alone d (face-apart W s g hg (e .cell) (told .inGrid) n f hf q) ∙ sym (due-far W s g hg (e .cell) (told .inGrid) n f hf (emptyType W) d q)
-      go (out d l) = alone d (out-apart W s g hg (e .cell) (told .inGrid) n f hf l) ∙ beyond (emptyType W) l
+          alone d (face-apart W s g hg (e .cell) inGrid n f hf q) ∙ sym (due-far W s g hg (e .cell) inGrid n f hf (emptyType W) d q)
+      go (out d l) = alone d (out-apart W s g hg (e .cell) inGrid n f hf l) ∙ beyond (emptyType W) l
 
   -- what is drawn, is drawn once
   pub added-new : (tested : Tested) → length (at (keyOf n f) ((added tested W e) .new)) ≤ 1
@@ -428,22 +432,22 @@ module _ (W : World) (s : Sound W) (g : List ℕ) (hg : length g ≡ cells (W .s
       go (no d) = rw (quads-far W (e .type) (e .cell) n f hf (isOpen W e) d) (omega arith)
 
   pub broken-new : length (at (keyOf n f) ((broken W e) .new)) ≤ 1
-  broken-new = go (view W s g hg (e .cell) (told .inGrid) n f hf)
+  broken-new = go (view W s g hg (e .cell) inGrid n f hf)
     where
-      gone : Apart W s g hg (e .cell) (told .inGrid) n f hf → length (at (keyOf n f) ((broken W e) .new)) ≤ 1
-      gone a = rw (reveals-none W s g hg (e .cell) (told .inGrid) n f hf (e .type) (givenAt e) a) (omega arith)
+      gone : Apart W s g hg (e .cell) inGrid n f hf → length (at (keyOf n f) ((broken W e) .new)) ≤ 1
+      gone a = rw (reveals-none W s g hg (e .cell) inGrid n f hf (e .type) (givenAt e) a) (omega arith)
 
-      go : View W s g hg (e .cell) (told .inGrid) n f hf → length (at (keyOf n f) ((broken W e) .new)) ≤ 1
-      go (own q) = gone (own-apart W s g hg (e .cell) (told .inGrid) n f hf q)
+      go : View W s g hg (e .cell) inGrid n f hf → length (at (keyOf n f) ((broken W e) .new)) ≤ 1
+      go (own q) = gone (own-apart W s g hg (e .cell) inGrid n f hf q)
       go (facing d b q) =
-          rw (reveals-one W s g hg (e .cell) (told .inGrid) n f hf (e .type) (givenAt e) b)
+          rw (reveals-one W s g hg (e .cell) inGrid n f hf (e .type) (givenAt e) b)
           (only-le (covering W (e .type) (opposite f) && isNormalCube W (givenAt e (opposite f))) (W .wordsOf (givenAt e (opposite f)) f n))
-      go (apart d l q) = gone (face-apart W s g hg (e .cell) (told .inGrid) n f hf q)
-      go (out d l) = gone (out-apart W s g hg (e .cell) (told .inGrid) n f hf l)
+      go (apart d l q) = gone (face-apart W s g hg (e .cell) inGrid n f hf q)
+      go (out d l) = gone (out-apart W s g hg (e .cell) inGrid n f hf l)
 
 -- ---- LAW: an honest entry of demand 3 keeps what a mesh shows
 module _ (W : World) (s : Sound W) (tested : Tested) (g : List ℕ) (hg : length g ≡ cells (W .size)) (m : List Quad) (shows : Shows W [] g m)
-    (e : Entry) (told : Told W g e) where
+    (e : Entry) (inGrid : e .cell < cells (W .size)) (told : Told W g e) where
   by-faces : (w : Work) (g′ : List ℕ) → ((n f : ℕ) → f < 6 → length (at (keyOf n f) (w .new)) ≤ 1)
       → ((n f : ℕ) → f < 6 → worked w (keyOf n f) (due W [] g n f) ≡ due W [] g′ n f) → Shows W [] g′ (run (ops w) m)
   unfolding Shows
@@ -452,9 +456,9 @@ module _ (W : World) (s : Sound W) (tested : Tested) (g : List ℕ) (hg : length
 
   pub mends-entry : (k : Change) → TrueBy W g e k → MendsBy W g e k → AlikeBy tested W e k → Shows W [] (gridBy W g e k) (run (ops (workBy tested W e k)) m)
   mends-entry Broken h t alike =
-      by-faces (broken W e) (set g (e .cell) (emptyType W)) (λ n f hf. broken-new W s g hg e told n f hf) (λ n f hf. broken-due W s g hg e told n f hf h)
+      by-faces (broken W e) (set g (e .cell) (emptyType W)) (λ n f hf. broken-new W s g hg e inGrid told n f hf) (λ n f hf. broken-due W s g hg e inGrid told n f hf h)
   mends-entry Added h t alike =
       rw (t .cube)
-      (by-faces (added tested W e) (set g (e .cell) (e .type)) (λ n f hf. added-new W s g hg e told n f hf tested) (λ n f hf. added-due W s g hg e told n f hf tested t (alike (t .cube))))
+      (by-faces (added tested W e) (set g (e .cell) (e .type)) (λ n f hf. added-new W s g hg e inGrid told n f hf tested) (λ n f hf. added-due W s g hg e inGrid told n f hf tested t (alike (t .cube))))
   mends-entry CullFaces h t alike = absurd t
   mends-entry AddFaces h t alike = absurd t

@@ -48,16 +48,16 @@ six P a b c d e f (suc (suc (suc (suc (suc (suc n)))))) h = absurd (omega arith)
 honest : Honest (world S) grid (entriesOf log)
 unfolding each entryAt neighbour emptyType lowestFrom
 honest = (
-  record { inGrid = lit< tt; listed = lit< tt; neighbours = six _ refl refl refl refl refl refl },
+  six _ refl refl refl refl refl refl,
   (refl, lit< tt),
-  (record { inGrid = lit< tt; listed = lit< tt; neighbours = six _ refl refl refl refl refl refl }, tt, tt),
+  (six _ refl refl refl refl refl refl, tt, tt),
 )
 
 mends : Mends (world S) grid (entriesOf log)
 unfolding each entryAt emptyType lowestFrom
 mends = (
   tt,
-  (record { cube = refl; wasListed = lit< tt; wasEmpty = refl }, tt),
+  (record { cube = refl; wasEmpty = refl }, tt),
 )
 
 alike : AddsAlike source (world S) (entriesOf log)
@@ -98,14 +98,14 @@ laidOn = updateMesh itself G slabLog (bare .lists) (bare .answer .quads)
 slab-honest : Honest (world G) ground (entriesOf slabLog)
 unfolding each entryAt neighbour emptyType lowestFrom
 slab-honest = (
-  record { inGrid = lit< tt; listed = lit< tt; neighbours = six _ refl refl refl refl refl refl },
+  six _ refl refl refl refl refl refl,
   tt,
-  (record { inGrid = lit< tt; listed = lit< tt; neighbours = six _ refl refl refl refl refl refl }, (refl, lit< tt), tt),
+  (six _ refl refl refl refl refl refl, (refl, lit< tt), tt),
 )
 
 slab-mends : Mends (world G) ground (entriesOf slabLog)
 unfolding each entryAt
-slab-mends = (record { cube = refl; wasListed = lit< tt; wasEmpty = refl }, (tt, tt))
+slab-mends = (record { cube = refl; wasEmpty = refl }, (tt, tt))
 
 bare-meshed : bare .answer .number ≡ 0
 unfolding answers._then_ answers.refuseIf answers.badLimits answers.BAD-TYPES answers.badCounts lowestFrom answers.badType answers.BAD-NUMBER answers.notACube types.isCube every types.classed types.classOf types.classAt types.classOn ieee.eq ieee.ofBits ieee.lt answers.roomOf meshBy each neighbour

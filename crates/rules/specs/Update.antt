@@ -5,7 +5,7 @@ use mathlib.Core.Bool.{Bool, true, false, cond, not, _&&_, _||_}
 use mathlib.Core.List.{List, [], _∷_, _++_, map}
 use mathlib.Core.Option.{Option, none, some}
 use lib.ListN.{length, getD, set, take, drop}
-use lib.Dec.{eqb, leb}
+use lib.Dec.{eqb, leb, ltb}
 use Rattle.rules.specs.Lists.{each, table, only, part, lowest}
 use Rattle.rules.specs.Cells.{Size, cells, opposite, neighbour, keyOf}
 use Rattle.rules.specs.Mesh.{Quad, World, typeAt, isNormalCube, covering, there, placeOf}
@@ -209,12 +209,18 @@ courseFrom room work i (suc n) m v p =
     (courseFrom room work (suc i) n (run (ops (work i)) m) (v + moves (ops (work i)) m) (highest p (ops (work i)) m))
     (record { full = some i; quads = m; moved = v; highest = p })
 
+-- the mesh that entries i, i + 1, .., n of them, leave where each finds its room
+abbrev pub meshAfter : (ℕ → Work) → ℕ → ℕ → List Quad → List Quad
+meshAfter work i zero m = m
+meshAfter work i (suc n) m = meshAfter work (suc i) n (run (ops (work i)) m)
+
 -- ---- honest logs
 
--- the lowest Null type covering nothing
+-- a Null type covering nothing
 abbrev pub isEmpty : World → ℕ → Bool
-isEmpty W t = eqb (getD (W .kinds) t 0) 0 && eqb (getD (W .covers) t 0) 0
+isEmpty W t = ltb t (length (W .kinds)) && eqb (getD (W .kinds) t 0) 0 && eqb (getD (W .covers) t 0) 0
 
+-- the lowest Null type covering nothing
 unfoldable pub emptyType : World → ℕ
 emptyType W = lowest (length (W .kinds)) (isEmpty W)
 
@@ -236,11 +242,9 @@ abbrev pub standing : List ℕ → Option ℕ → ℕ
 standing g none = 255
 standing g (some n) = typeAt g n
 
--- an entry that is true of the grid
-pub record Told (W : World) (g : List ℕ) (e : Entry) : Type 0 where
-  pub inGrid : e .cell < cells (W .size)
-  pub listed : e .type < length (W .kinds)
-  pub neighbours : (f : ℕ) → f < 6 → givenAt e f ≡ standing g (neighbour (W .size) (e .cell) f)
+-- an entry that is true of the grid: it gives what stands beside its cell. That the grid has the cell, and the table its type, BAD_ENTRY asks
+abbrev pub Told : World → List ℕ → Entry → Type 0
+Told W g e = (f : ℕ) → f < 6 → givenAt e f ≡ standing g (neighbour (W .size) (e .cell) f)
 
 abbrev pub TrueBy : World → List ℕ → Entry → Change → Type 0
 TrueBy W g e Broken = (e .type ≡ typeAt g (e .cell)) × (emptyType W < length (W .kinds))
@@ -256,7 +260,6 @@ Honest W g (e ∷ es) = Told W g e × TrueBy W g e (e .change) × Honest W (grid
 -- demand 3's logs: an Added entry puts a cube into an empty cell
 pub record Fills (W : World) (g : List ℕ) (e : Entry) : Type 0 where
   pub cube : isNormalCube W (e .type) ≡ true
-  pub wasListed : typeAt g (e .cell) < length (W .kinds)
   pub wasEmpty : isEmpty W (typeAt g (e .cell)) ≡ true
 
 abbrev pub MendsBy : World → List ℕ → Entry → Change → Type 0
