@@ -12,7 +12,7 @@ use borrow.Author.Tests.{leb-true, leb-false, le-leb}
 use Rattle.rules.specs.Lists.{each, only}
 use Rattle.rules.specs.Cells.{cells, opposite, neighbour, keyOf}
 use Rattle.rules.specs.Mesh.{Quad, World, isNormalCube, covering, meshBy, quadsBy, quadAt, typeAt, at, there, placeOf}
-use Rattle.rules.specs.Update.{Change, Broken, Added, CullFaces, AddFaces, Entry, givenAt, blank, draw, shifts, removeAt, remove, movedBy, moved, Op, put, cut, step, run, moves, highest, Work, Tested, quadOf, sides, quads, hide, reveal, all, isOpen, withGiven, nothing, added, broken, workBy, work, cuts, puts, ops, needed, Course, courseFrom, emptyType, gridBy, gridAfter, gridLog, Told, TrueBy, Honest, MendsBy, Mends, AddsAlike}
+use Rattle.rules.specs.Update.{Change, Broken, Added, CullFaces, AddFaces, Entry, givenAt, blank, draw, shifts, removeAt, remove, movedBy, moved, Op, put, cut, step, run, moves, highest, Work, Tested, quadOf, sides, quads, hide, reveal, all, isOpen, withGiven, nothing, added, broken, workBy, work, cuts, puts, ops, needed, Course, courseFrom, meshAfter, emptyType, gridBy, gridAfter, gridLog, Told, TrueBy, Honest, MendsBy, Mends, AddsAlike}
 use Rattle.rules.proofs.ListLaws.{All, all-append, all-take, all-drop, all-at, all-each, all-only, split}
 use Rattle.rules.proofs.Neighbours.{beside, opposite-lt}
 use Rattle.rules.proofs.Quads.{Once, placed, moved-le, length-removeAt, run-append, run-once, absent}
@@ -241,6 +241,47 @@ course-sane n s room work i (suc k) m v p f h =
 
     here : Course
     here = record { full = some i; quads = m; moved = v; highest = p }
+
+-- ---- which entries find room
+
+-- a log that comes through: each entry found its room in the mesh that those before it left, and it leaves what all of them leave
+pub record Through (room : ℕ) (work : ℕ → Work) (i n : ℕ) (m : List Quad) (v p : ℕ) : Type 0 where
+  pub found : (j : ℕ) → j < n → needed (work (i + j)) (meshAfter work i j m) ≤ room
+  pub left : (courseFrom room work i n m v p) .quads ≡ meshAfter work i n m
+
+pub through : (room : ℕ) (work : ℕ → Work) (i n : ℕ) (m : List Quad) (v p : ℕ) → (courseFrom room work i n m v p) .full ≡ none
+    → Through room work i n m v p
+unfolding courseFrom
+through room work i zero m v p e = record { found = λ j h. absurd (omega arith); left = refl }
+through room work i (suc n) m v p e =
+    go (leb (needed (work i) m) room) refl e
+    (through room work (suc i) n (run (ops (work i)) m) (v + moves (ops (work i)) m) (highest p (ops (work i)) m))
+  where
+    after : Course
+    after = courseFrom room work (suc i) n (run (ops (work i)) m) (v + moves (ops (work i)) m) (highest p (ops (work i)) m)
+
+    found : needed (work i) m ≤ room → ((j : ℕ) → j < n → needed (work (suc i + j)) (meshAfter work (suc i) j (run (ops (work i)) m)) ≤ room)
+        → (j : ℕ) → j < suc n → needed (work (i + j)) (meshAfter work i j m) ≤ room
+    found here later zero h = let z : i + 0 ≡ i = omega arith in rw z here
+    found here later (suc j) h = let z : i + suc j ≡ suc i + j = omega arith in rw z (later j (omega arith))
+
+    go : (b : Bool) → leb (needed (work i) m) room ≡ b → (cond b after (record { full = some i; quads = m; moved = v; highest = p })) .full ≡ none
+        → (after .full ≡ none → Through room work (suc i) n (run (ops (work i)) m) (v + moves (ops (work i)) m) (highest p (ops (work i)) m))
+        → Through room work i (suc n) m v p
+    go true t e rest = let s = rest e in record { found = found (leb-true (needed (work i) m) room t) (s .found); left = rw t (s .left) }
+    go false t e rest = let z : _≡_ {A = ℕ} 0 1 = cc in absurd (omega arith)
+
+-- LAW: entries that move at most s quads each move at most s times their number
+pub course-moves : (s room : ℕ) (work : ℕ → Work) (i n : ℕ) (m : List Quad) (v p : ℕ) → ((j : ℕ) (m : List Quad) → moves (ops (work j)) m ≤ s)
+    → (courseFrom room work i n m v p) .moved ≤ v + n * s
+unfolding courseFrom
+course-moves s room work i zero m v p h = omega arith
+course-moves s room work i (suc n) m v p h =
+    split (λ t. (cond t (courseFrom room work (suc i) n (run (ops (work i)) m) (v + moves (ops (work i)) m) (highest p (ops (work i)) m))
+    (record { full = some i; quads = m; moved = v; highest = p })) .moved ≤ v + suc n * s) (leb (needed (work i) m) room)
+    (λ t. let r = course-moves s room work (suc i) n (run (ops (work i)) m) (v + moves (ops (work i)) m) (highest p (ops (work i)) m) h in
+    let o = h i m in omega arith)
+    (λ t. omega arith)
 
 -- ---- an honest log that mends
 

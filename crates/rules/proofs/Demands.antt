@@ -15,16 +15,17 @@ use borrow.Author.Tests.{eqb-true, eq-eqb, ltb-false, le-ltb, leb-false, lt-leb}
 use Rattle.rules.specs.Lists.{each, table, row}
 use Rattle.rules.specs.Cells.{Size, cells, keyOf}
 use Rattle.rules.specs.Types.{Types, floats, quadWord, quadWords, cubeOf}
-use Rattle.rules.specs.Mesh.{Quad, World, Lists, drawn, culled, decode, layout}
+use Rattle.rules.specs.Mesh.{Quad, World, Lists, drawn, allSides, culled, decode, layout, meshBy as quadsOf}
 use Rattle.rules.specs.Update.{Change, Broken, Added, CullFaces, AddFaces, Entry, entryAt, Tested, work, Course, courseFrom, blank, u32At, emptyType, gridBy, gridAfter, gridLog, Told, TrueBy, Honest, Mends, AddsAlike}
 use Rattle.rules.specs.Answers.{Verdict, fine, refuse, _then_, refuseIf, refuseLowest, outOf, badLimits, BAD-SIZE, BAD-GRID, badCounts, badType, BAD-TYPES, BAD-NUMBER, NOT-A-CUBE, BAD-OUTER, BAD-CELL, SHORT-SLOTS, roomOf, BAD-COUNT, BAD-LINKS, BAD-TRIANGLES, badEntry, BAD-ENTRY, NO-ROOM, WRONG-SET, WRONG-VERTEX}
-use Rattle.rules.specs.Check.{linked, Right}
+use Rattle.rules.specs.Check.{linked, Holds, Right}
 use Rattle.rules.specs.Calls.{Answer, answered, refused, Scene, wordsIn, world, span, faces, room, typesVerdict, Outcome, freshMesh, meshVerdict, meshBy, meshGrid, lentVerdict, updateVerdict, entriesOf, course, courseAnswer, updateBy, updateMesh, openVerdict, bookVerdict, faceVerdict, checkVerdict, checkBy, checkMesh}
 use Rattle.rules.proofs.ListLaws.{All, all-of, all-each, split, or-false, not-true, length-table, length-each}
 use Rattle.rules.proofs.Quads.{Once}
 use Rattle.rules.proofs.Laying.{Fits, length-vertices, length-triangles, length-links, length-slots, once-of-distinct, decode-layout}
 use Rattle.rules.proofs.Checking.{then-fine, fine-then, if-fine, fine-if, lowest-fine, fine-lowest, Book, book-of-fine, fine-of-book, book-of-laid, length-decode, key-decode, words-decode, distinct-decode, right-of-fine, fine-of-right, shows-of-right, right-of-shows}
-use Rattle.rules.proofs.Mending.{Sound, Shows, shows-once, fresh-shows}
+use Rattle.rules.proofs.Mending.{Sound, Shows, shows-once, no-side, not-drawn, fresh-sides, fresh-shows}
+use Rattle.rules.proofs.Ordered.{fresh-order}
 use Rattle.rules.proofs.Courses.{fits-fresh, fits-new, Sane, course-sane, mends-log, length-log}
 use Rattle.rules.proofs.Refusals.{Within, MESH, UPDATE, CHECK, mesh-numbers, update-numbers, check-numbers, zero-fine}
 
@@ -162,6 +163,45 @@ accepts-exactly S outer g B Q eo = (λ e. right e, λ r. ap checkBy (fine-then e
         let b = then-fine (openVerdict S outer g B Q) _ v .1 in
         let c = then-fine (bookVerdict S B Q) (faceVerdict S outer g B Q) b in
         right-of-fine (world S) outer g (span S) B Q slots-room (c .0) (c .1)
+
+-- ---- fresh meshes
+
+-- LAW: a fresh mesh of either algorithm, laid out, holds exactly the sides that the algorithm draws, once each, in order, with their words
+pub fresh-holds : (S : Scene) (outer g : List ℕ) (culling : Bool) (B : Lists) → meshVerdict S outer g culling B ≡ fine
+    → let m = freshMesh S outer g culling in
+    Holds (world S) (cond culling (drawn (world S) outer g) (allSides (world S) g)) g (decode (span S) (length m) (layout (faces S) (span S) (length m) m B))
+fresh-holds S outer g culling B v = go culling
+  where
+    size-fine : BAD-SIZE (S .size) ≡ fine
+    size-fine = then-fine (BAD-SIZE (S .size)) _ v .0
+
+    snd : Sound (world S)
+    snd =
+        let b = then-fine (BAD-GRID (S .size) g) _ (then-fine (BAD-SIZE (S .size)) _ v .1) .1 in
+        sound S size-fine (then-fine (typesVerdict S) _ b .0)
+
+    whole : length g ≡ cells (S .size)
+    whole =
+        let b = then-fine (BAD-GRID (S .size) g) _ (then-fine (BAD-SIZE (S .size)) _ v .1) .0 in
+        eqb-true (length g) (cells (S .size)) (not-true _ (if-fine (not (eqb (length g) (cells (S .size)))) 2 0 b))
+
+    by : (test : ℕ → ℕ → Bool) → ((n f : ℕ) → length g ≤ n → test n f ≡ false)
+        → let m = quadsOf (world S) test g in Holds (world S) test g (decode (span S) (length m) (layout (faces S) (span S) (length m) m B))
+    by test out =
+        let m = quadsOf (world S) test g in
+        let small = limits S size-fine .small in
+        subst (Holds (world S) test g)
+        (sym (decode-layout (faces S) (span S) (length m) (omega arith) m B (fits-fresh (world S) snd (span S) (words-sized S) test g)))
+        (record {
+          sides = fresh-sides (world S) g test (λ n f h. out n f (omega (arith, whole)));
+          order = fresh-order (world S) test g;
+        })
+
+    go : (c : Bool)
+        → let m = freshMesh S outer g c in
+        Holds (world S) (cond c (drawn (world S) outer g) (allSides (world S) g)) g (decode (span S) (length m) (layout (faces S) (span S) (length m) m B))
+    go true = by (drawn (world S) outer g) (not-drawn (world S) snd outer g)
+    go false = by (allSides (world S) g) (no-side (world S) snd g)
 
 -- ---- DEMAND 3: every culled fresh mesh passes for its own outer list
 pub fresh-accepted : (S : Scene) (outer g : List ℕ) (B : Lists) → (meshGrid S outer g true B) .answer .number ≡ 0

@@ -7,6 +7,7 @@ pub mod Sets
 pub mod Neighbours
 pub mod Quads
 pub mod Mending
+pub mod Ordered
 pub mod Laying
 pub mod Slotting
 pub mod Index

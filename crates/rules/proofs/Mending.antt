@@ -14,7 +14,7 @@ use lib.Seq.{getD-set-same, getD-set-other}
 use borrow.Author.Tests.{eq-eqb, ne-eqb, eqb-true}
 use Rattle.rules.specs.Lists.{each, only, member}
 use Rattle.rules.specs.Cells.{cells, opposite, neighbour, keyOf}
-use Rattle.rules.specs.Mesh.{Quad, World, typeAt, isNormalCube, covering, shown, drawn, quadAt, quadsBy, meshBy, culled, at}
+use Rattle.rules.specs.Mesh.{Quad, World, typeAt, isNormalCube, covering, shown, drawn, allSides, quadAt, quadsBy, meshBy, culled, at}
 use Rattle.rules.specs.Update.{Change, Broken, Added, CullFaces, AddFaces, Entry, givenAt, outside, run, Work, Tested, quadOf, sides, quads, hide, reveal, all, isOpen, added, broken, workBy, work, cuts, puts, ops, isEmpty, emptyType, gridBy, gridAfter, standing, Told, TrueBy, Fills, MendsBy, Alike, AlikeBy}
 use Rattle.rules.proofs.ListLaws.{Reads, read-none, read-one, members, and-true, lowest-bad, split}
 use Rattle.rules.proofs.Neighbours.{Beside, beside, opposite-twice, opposite-lt}
@@ -69,8 +69,11 @@ unfolding emptyType
 empty-type W h = lowest-bad (length (W .kinds)) (isEmpty W) h
 
 -- nothing is drawn outside the grid
+pub no-side : (W : World) → Sound W → (g : List ℕ) (n f : ℕ) → length g ≤ n → allSides W g n f ≡ false
+no-side W s g n f h = rw (List·getD-eq-default g 255 h, bare-cube W 255 (outside-bare W s))
+
 pub not-drawn : (W : World) → Sound W → (outer g : List ℕ) (n f : ℕ) → length g ≤ n → drawn W outer g n f ≡ false
-not-drawn W s outer g n f h = rw (List·getD-eq-default g 255 h, bare-cube W 255 (outside-bare W s))
+not-drawn W s outer g n f h = rw (no-side W s g n f h)
 
 due-out : (W : World) → Sound W → (outer g : List ℕ) (n f : ℕ) → length g ≤ n → due W outer g n f ≡ []
 due-out W s outer g n f h = rw (not-drawn W s outer g n f h)
@@ -156,14 +159,18 @@ module _ (W : World) (g : List ℕ) (test : ℕ → ℕ → Bool) where
       read-none (quadsAt (keyOf n f)) (cells (W .size)) 0 (quadsBy W test g)
       (λ c a b. quads-far W (typeAt g c) c n f hf (test c) (λ q. omega arith))
 
+  pub fresh-sides : ((n f : ℕ) → cells (W .size) ≤ n → test n f ≡ false) → (n f : ℕ) → f < 6
+      → at (keyOf n f) (meshBy W test g) ≡ only (test n f) (W .wordsOf (typeAt g n) f n)
+  fresh-sides out n f hf = go (decLt n (cells (W .size)))
+    where
+      go : Dec (n < cells (W .size)) → at (keyOf n f) (meshBy W test g) ≡ only (test n f) (W .wordsOf (typeAt g n) f n)
+      go (yes h) = fresh-at n f h hf
+      go (no h) = fresh-out n f (omega arith) hf ∙ rw (out n f (omega arith))
+
 -- LAW: a culled fresh mesh shows exactly the drawn faces, once each, with their words
 pub fresh-shows : (W : World) → Sound W → (outer g : List ℕ) → length g ≡ cells (W .size) → Shows W outer g (culled W outer g)
 unfolding Shows
-fresh-shows W s outer g hg n f hf = go (decLt n (cells (W .size)))
-  where
-    go : Dec (n < cells (W .size)) → at (keyOf n f) (culled W outer g) ≡ due W outer g n f
-    go (yes h) = fresh-at W g (drawn W outer g) n f h hf
-    go (no h) = fresh-out W g (drawn W outer g) n f (omega arith) hf ∙ sym (due-out W s outer g n f (omega arith))
+fresh-shows W s outer g hg = fresh-sides W g (drawn W outer g) (λ n f h. not-drawn W s outer g n f (omega arith))
 
 -- ---- an entry's work, seen from a face
 orElse-le {ℓ} : {A : Type ℓ} (x y : List A) → length x ≤ 1 → length y ≤ 1 → length (orElse x y) ≤ 1

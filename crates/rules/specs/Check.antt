@@ -1,14 +1,20 @@
--- Demand 3: when a mesh and its index are right. Definitions only.
+-- What a fresh mesh holds; and demand 3: when a mesh and its index are right. Definitions only.
 use Prim.Native.Nat.{ℕ, _+_, _*_, _/_, _%_, _≤_, _<_}
 use mathlib.Core.Path.{_≡_}
 use mathlib.Core.Logic.{_≢_}
-use mathlib.Core.Bool.{true}
+use mathlib.Core.Bool.{Bool, true}
 use mathlib.Core.List.{List}
 use lib.ListN.{length, getD}
-use Rattle.rules.specs.Lists.{row}
+use Rattle.rules.specs.Lists.{only, row}
 use Rattle.rules.specs.Cells.{cells, keyOf, keyIn, codeIn, cellIn, firstVertex}
-use Rattle.rules.specs.Mesh.{World, Lists, NONE, drawn, typeAt, pattern}
+use Rattle.rules.specs.Mesh.{Quad, World, Lists, NONE, drawn, typeAt, at, pattern}
+use Rattle.rules.specs.Update.{blank}
 use Rattle.rules.specs.Answers.{slotAt}
+
+-- a mesh holds exactly the sides of which a test holds, once each, with their words, and in the order of cells, then faces
+pub record Holds (W : World) (test : ℕ → ℕ → Bool) (g : List ℕ) (m : List Quad) : Type 0 where
+  pub sides : (c f : ℕ) → f < 6 → at (keyOf c f) m ≡ only (test c f) (W .wordsOf (typeAt g c) f c)
+  pub order : (p q : ℕ) → p < q → q < length m → (getD m p blank) .key < (getD m q blank) .key
 
 -- the face that quad q is linked to, 6 · cell + face
 abbrev pub linked : Lists → ℕ → ℕ

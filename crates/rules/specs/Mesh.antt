@@ -54,8 +54,11 @@ abbrev pub culled : World → List ℕ → List ℕ → List Quad
 culled W outer g = meshBy W (drawn W outer g) g
 
 -- Naive draws all six of a NormalCube
+abbrev pub allSides : World → List ℕ → ℕ → ℕ → Bool
+allSides W g c f = isNormalCube W (typeAt g c)
+
 abbrev pub naive : World → List ℕ → List Quad
-naive W g = meshBy W (λ c f. isNormalCube W (typeAt g c)) g
+naive W g = meshBy W (allSides W g) g
 
 -- ---- the quads of a face
 
