@@ -295,6 +295,19 @@ pub length-log : (W : World) (g : List ℕ) (es : List Entry) → length (gridLo
 length-log W g [] = refl
 length-log W g (e ∷ es) = length-log W (gridAfter W g e) es ∙ length-after W g e (e .change)
 
+-- LAW: the first entries of a log of demand 3 are such a log
+pub honest-first : (W : World) (g : List ℕ) (first rest : List Entry) → Honest W g (first ++ rest) → Honest W g first
+honest-first W g [] rest h = tt
+honest-first W g (e ∷ first) rest h = (h .0, h .1, honest-first W (gridAfter W g e) first rest (h .2))
+
+pub mends-first : (W : World) (g : List ℕ) (first rest : List Entry) → Mends W g (first ++ rest) → Mends W g first
+mends-first W g [] rest h = tt
+mends-first W g (e ∷ first) rest h = (h .0, mends-first W (gridAfter W g e) first rest (h .1))
+
+pub alike-first : (tested : Tested) (W : World) (first rest : List Entry) → AddsAlike tested W (first ++ rest) → AddsAlike tested W first
+alike-first tested W [] rest h = tt
+alike-first tested W (e ∷ first) rest h = (h .0, alike-first tested W first rest (h .1))
+
 -- a course by works that are alike is the same
 pub course-alike : (room : ℕ) (a b : ℕ → Work) (i n : ℕ) (m : List Quad) (v p : ℕ) → ((j : ℕ) → j < i + n → a j ≡ b j)
     → courseFrom room a i n m v p ≡ courseFrom room b i n m v p

@@ -43,6 +43,14 @@ unfolding each
 each-same zero i p q h = refl
 each-same (suc n) i p q h = rw (h i (omega arith) (omega arith), each-same n (suc i) p q (λ k a b. h k (omega arith) (omega arith)))
 
+pub each-split {ℓ} : {A : Type ℓ} (a b i : ℕ) (p : ℕ → List A) → each (a + b) i p ≡ each a i p ++ each b (i + a) p
+unfolding each
+each-split zero b i p = let z : i + 0 ≡ i = omega arith in let y : 0 + b ≡ b = omega arith in rw (z, y)
+each-split {A = A} (suc a) b i p =
+    let z : suc a + b ≡ suc (a + b) = omega arith in
+    let y : i + suc a ≡ suc i + a = omega arith in
+    rw (z, y) (ap (λ (l : List A). p i ++ l) (each-split a b (suc i) p) ∙ sym (append-assoc (p i) (each a (suc i) p) (each b (suc i + a) p)))
+
 pub record Reads {ℓ} (A : Type ℓ) (M : Type 0) : Type ℓ where
   pub read : List A → M
   pub none : M

@@ -1,17 +1,19 @@
 -- Each call answers a result or one numbered refusal of 01, and a refusal changes nothing. Assumes nothing.
 use mathlib.Core.Path.{_≡_, refl, sym, ap, _∙_}
 use mathlib.Core.Logic.{_≢_}
-use mathlib.Core.Bool.{Bool, true, false}
-use mathlib.Core.List.{List, [], _∷_}
+use mathlib.Core.Bool.{Bool, true, false, cond}
+use mathlib.Core.List.{List, [], _∷_, _++_}
 use mathlib.Core.Option.{Option, none, some}
 use Prim.Native.Nat.{ℕ, zero, suc}
 use native.Mathlib.Omega.{arith}
+use lib.Dec.{eqb}
 use Rattle.rules.specs.Lists.{member}
 use Rattle.rules.specs.Cube.{Shape}
 use Rattle.rules.specs.Mesh.{Quad, Lists}
 use Rattle.rules.specs.Update.{Tested, Course}
 use Rattle.rules.specs.Answers.{Verdict, fine, refuse, _then_, refuseIf, BAD-NUMBER, BAD-TEXTURE, BAD-TYPES, BAD-LINKS, BAD-ENTRY}
-use Rattle.rules.specs.Calls.{Answer, CubeOutcome, cubeVerdict, cubeBy, generateVoxelMesh, Scene, typesVerdict, Outcome, meshVerdict, meshBy, meshGrid, freshMesh, updateVerdict, course, updateBy, updateMesh, bookVerdict, checkVerdict, checkBy, checkMesh}
+use Rattle.rules.specs.Calls.{Answer, CubeOutcome, cubeVerdict, cubeBy, generateVoxelMesh, Scene, typesVerdict, Outcome, meshVerdict, meshBy, meshGrid, freshMesh, updateVerdict, course, courseAnswer, updateBy, updateMesh, bookVerdict, checkVerdict, checkBy, checkMesh}
+use Rattle.rules.proofs.ListLaws.{split, member-append}
 
 -- ---- one numbered refusal
 
@@ -73,6 +75,49 @@ check-numbers S outer g B Q =
     (if-given _ _ _ refl and-then if-given _ _ _ refl and-then types-numbers refl refl refl S and-then if-given _ _ _ refl and-then if-given _ _ _ refl
     and-then if-given _ _ _ refl and-then if-given _ _ _ refl)
     and-then book-numbers refl refl S B Q and-then if-given _ _ _ refl and-then if-given _ _ _ refl
+
+-- of a log, 13 alone
+pub entry-numbers : (n types : ℕ) (log : List ℕ) → Within (13 ∷ []) (BAD-ENTRY n types log)
+unfolding BAD-ENTRY
+entry-numbers n types log = if-given _ _ _ refl and-then if-given _ _ _ refl
+
+-- ---- the number that a call tells is 0, or one of its own
+
+own-number : (ns : List ℕ) (v : Verdict) → Within ns v → member ((checkBy v) .number) (0 ∷ ns) ≡ true
+own-number ns fine w = refl
+own-number ns (refuse n p) (given h) = split (λ t. cond t true (member n ns) ≡ true) (eqb n 0) (λ z. refl) (λ z. h)
+
+pub cube-number : (q : Shape) (out : List ℕ) → member ((generateVoxelMesh q out) .answer .number) (0 ∷ CUBE) ≡ true
+cube-number q out = go (cubeVerdict q out) (cube-numbers q out)
+  where
+    go : (v : Verdict) → Within CUBE v → member ((cubeBy v q out) .answer .number) (0 ∷ CUBE) ≡ true
+    go fine w = refl
+    go (refuse n p) w = own-number CUBE (refuse n p) w
+
+pub mesh-number : (S : Scene) (outer g : List ℕ) (culling : Bool) (B : Lists) → member ((meshGrid S outer g culling B) .answer .number) (0 ∷ MESH) ≡ true
+mesh-number S outer g culling B = go (meshVerdict S outer g culling B) (mesh-numbers S outer g culling B)
+  where
+    go : (v : Verdict) → Within MESH v → member ((meshBy v S (freshMesh S outer g culling) B) .answer .number) (0 ∷ MESH) ≡ true
+    go fine w = refl
+    go (refuse n p) w = own-number MESH (refuse n p) w
+
+pub update-number : (tested : Tested) (S : Scene) (log : List ℕ) (B : Lists) (Q : ℕ)
+    → member ((updateMesh tested S log B Q) .answer .number) (0 ∷ UPDATE ++ (14 ∷ [])) ≡ true
+update-number tested S log B Q = go (updateVerdict S log B Q) (update-numbers S log B Q)
+  where
+    c : Course
+    c = course tested S log B Q
+
+    ran : (o : Option ℕ) → member ((courseAnswer c o) .number) (0 ∷ UPDATE ++ (14 ∷ [])) ≡ true
+    ran none = refl
+    ran (some k) = refl
+
+    go : (v : Verdict) → Within UPDATE v → member ((updateBy v S c B) .answer .number) (0 ∷ UPDATE ++ (14 ∷ [])) ≡ true
+    go fine w = ran (c .full)
+    go (refuse n p) w = member-append n (0 ∷ UPDATE) (14 ∷ []) ∙ rw (own-number UPDATE (refuse n p) w)
+
+pub check-number : (S : Scene) (outer g : List ℕ) (B : Lists) (Q : ℕ) → member ((checkMesh S outer g B Q) .number) (0 ∷ CHECK) ≡ true
+check-number S outer g B Q = own-number CHECK (checkVerdict S outer g B Q) (check-numbers S outer g B Q)
 
 -- ---- number 0 is given exactly where nothing is refused
 
