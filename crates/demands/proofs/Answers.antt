@@ -1,6 +1,6 @@
--- Promise 1, "every public call takes all input, damaged meshes and logs among it, ends, and answers a result or one numbered refusal of
--- document 01. A refused call changes no lent buffer; only an update out of room keeps the entries before the one it stopped at, complete,
--- and says how many", and promise 3, "cubes, fresh meshes and updates are proved against 01's face rules": all that an answer says.
+-- Demand 1, "every public call takes all input, damaged meshes and logs among it, ends, and answers a result or one numbered refusal. A refused
+-- call changes no lent list; only an update out of room keeps the entries before the one it stopped at, complete, and says how many", and
+-- demand 2, "cubes, fresh meshes and updates are proved against 01's face rules": all that an answer says.
 -- That a call ends, for all input, is proved with its code: none of the four has a `requires`. Assumes nothing.
 use Prim.Native.Nat.{ℕ, _*_, _/_, _<_}
 use mathlib.Core.Path.{_≡_, refl, sym, ap, _∙_, subst}
@@ -35,19 +35,19 @@ use Rattle.update.specs.declared.Updated.{Updated}
 use Rattle.update.specs.declared.Updated.the-variants as updated
 use Rattle.update.specs.Outcome.{outcomeOf}
 use Rattle.demands.specs.Contracts.{Cubes, Meshes, Updates, Checks}
+use Rattle.demands.specs.Chunks.{firstOf}
 use Rattle.demands.proofs.Telling.{numbered}
 use Rattle.demands.proofs.Stopped.{in-log, no-room-there, done-before}
 
--- a refusal: one of the call's own numbers, which 01's tests in their order give, and what was lent is as it was
-pub record Refuses {ℓ} {A : Type ℓ} (numbers : List ℕ) (verdict : rules.Verdict) (number place : ℕ) (entry exit : A) : Type ℓ where
+-- a refusal: one of the call's own numbers, which 01's tests in their order give
+pub record Refuses (numbers : List ℕ) (verdict : rules.Verdict) (number place : ℕ) : Type 0 where
   pub listed : member number numbers ≡ true
   pub told : verdict ≡ refuse number place
-  pub kept : exit ≡ entry
 
-refuses {ℓ} : {A : Type ℓ} {numbers : List ℕ} {verdict : rules.Verdict} {number place n p : ℕ} {entry exit : A}
-    → verdict ≡ refuse n p → Within numbers (refuse n p) → number ≡ n → place ≡ p → exit ≡ entry → Refuses numbers verdict number place entry exit
-refuses {numbers = numbers} t (given h) n p e =
-    record { listed = ap (λ (i : ℕ). member i numbers) n ∙ h; told = t ∙ (λ i. refuse (sym n i) (sym p i)); kept = e }
+refuses : {numbers : List ℕ} {verdict : rules.Verdict} {number place n p : ℕ}
+    → verdict ≡ refuse n p → Within numbers (refuse n p) → number ≡ n → place ≡ p → Refuses numbers verdict number place
+refuses {numbers = numbers} t (given h) n p =
+    record { listed = ap (λ (i : ℕ). member i numbers) n ∙ h; told = t ∙ (λ i. refuse (sym n i) (sym p i)) }
 
 -- no refusal's number is 0
 not-zero : (why : Refusal) → numberOf why ≢ 0
@@ -59,7 +59,7 @@ unlisted {numbers = numbers} u (given h) e =
     let z : _≡_ {A = Bool} true false = sym h ∙ ap (λ (i : ℕ). member i numbers) (sym e) ∙ u in
     let y : _≡_ {A = ℕ} 0 1 = cc in absurd (omega arith)
 
-fine-not-refused {ℓ} : {A : Type ℓ} {n p : ℕ} → fine ≡ refuse n p → A
+pub fine-not-refused {ℓ} : {A : Type ℓ} {n p : ℕ} → fine ≡ refuse n p → A
 fine-not-refused e = let z : _≡_ {A = ℕ} 0 1 = cc in absurd (omega arith)
 
 -- ---- the cube
@@ -71,7 +71,7 @@ pub record CubeMade (shape : Shape) (entry exit : List ℕ) : Type 0 where
 
 abbrev saysBy : Shape → List ℕ → rules.Verdict → List ℕ → Type 0
 saysBy shape entry fine exit = CubeMade shape entry exit
-saysBy shape entry (refuse number place) exit = Refuses CUBE (cubeVerdict shape entry) number place entry exit
+saysBy shape entry (refuse number place) exit = Refuses CUBE (cubeVerdict shape entry) number place × (exit ≡ entry)
 
 abbrev pub CubeSays : Shape → List ℕ → Cubed → List ℕ → Type 0
 CubeSays shape entry r exit = saysBy shape entry (cube.verdictOf r) exit
@@ -86,10 +86,10 @@ what-a-cube-call-says shape entry r exit = by r
 
     refused : (number place : ℕ) → number ≢ 0 → (v : rules.Verdict) → cubeVerdict shape entry ≡ v → Within CUBE v
         → record { answer = checkBy (refuse number place); out = exit } ≡ cubeBy v shape entry
-        → Refuses CUBE (cubeVerdict shape entry) number place entry exit
+        → Refuses CUBE (cubeVerdict shape entry) number place × (exit ≡ entry)
     refused number place d fine t w e = absurd (d (ap (λ (o : CubeOutcome). o .answer .number) e))
     refused number place d (refuse n p) t w e =
-        refuses t w (ap (λ (o : CubeOutcome). o .answer .number) e) (ap (λ (o : CubeOutcome). o .answer .place) e) (ap (λ (o : CubeOutcome). o .out) e)
+        (refuses t w (ap (λ (o : CubeOutcome). o .answer .number) e) (ap (λ (o : CubeOutcome). o .answer .place) e), ap (λ (o : CubeOutcome). o .out) e)
 
     by : (r : Cubed) → Cubes shape entry r exit → CubeSays shape entry r exit
     by cubed.Done = done (cubeVerdict shape entry) refl (cube-numbers shape entry)
@@ -109,7 +109,7 @@ pub record Made (S : Scene) (outer grid : List ℕ) (culling : Bool) (entry : Li
 abbrev pub MeshSays : Scene → List ℕ → List ℕ → Bool → Lists → Meshed → Lists → Type 0
 MeshSays S outer grid culling entry (meshed.Done quads) exit = Made S outer grid culling entry quads exit
 MeshSays S outer grid culling entry (meshed.Refused why place) exit =
-    Refuses MESH (meshVerdict S outer grid culling entry) (numberOf why) place entry exit
+    Refuses MESH (meshVerdict S outer grid culling entry) (numberOf why) place × (exit ≡ entry)
 
 pub what-a-mesh-call-says : (S : Scene) (outer grid : List ℕ) (culling : Bool) (entry : Lists) (r : Meshed) (exit : Lists)
     → Meshes S outer grid culling entry r exit → MeshSays S outer grid culling entry r exit
@@ -123,7 +123,7 @@ what-a-mesh-call-says S outer grid culling entry r exit e =
     go (meshed.Refused why place) fine t w e = absurd (not-zero why (ap (λ (o : Outcome). o .answer .number) e))
     go (meshed.Done quads) (refuse n p) t w e = unlisted refl w (ap (λ (o : Outcome). o .answer .number) e)
     go (meshed.Refused why place) (refuse n p) t w e =
-        refuses t w (ap (λ (o : Outcome). o .answer .number) e) (ap (λ (o : Outcome). o .answer .place) e) (ap (λ (o : Outcome). o .lists) e)
+        (refuses t w (ap (λ (o : Outcome). o .answer .number) e) (ap (λ (o : Outcome). o .answer .place) e), ap (λ (o : Outcome). o .lists) e)
 
 -- ---- an update
 
@@ -140,11 +140,12 @@ pub record Stopped (tested : Tested) (S : Scene) (log : List ℕ) (entry : Lists
   pub ran : Ran tested S log entry Q (some k) count exit
   pub inLog : k < length log / 12
   pub noRoom : room S entry < needed (work tested (world S) (entryAt log k)) ((course tested S log entry Q) .quads)
-  pub before : Updates tested S (take (12 * k) log) entry Q (updated.Done count) exit
+  pub before : Updates tested S (firstOf k log) entry Q (updated.Done count) exit
 
 -- a refusal counts nothing and changes nothing; NO_ROOM alone, 14, tells what the entries before it did, and keeps them
 pub record Turned (tested : Tested) (S : Scene) (log : List ℕ) (entry : Lists) (Q number place : ℕ) (count : Count) (exit : Lists) : Type 0 where
-  pub refused : number ≢ 14 → Refuses UPDATE (updateVerdict S log entry Q) number place entry exit
+  pub refused : number ≢ 14 → Refuses UPDATE (updateVerdict S log entry Q) number place
+  pub kept : number ≢ 14 → exit ≡ entry
   pub uncounted : number ≢ 14 → count ≡ record { quads = 0; moved = 0 }
   pub stopped : number ≡ 14 → Stopped tested S log entry Q place count exit
 
@@ -177,6 +178,7 @@ what-an-update-call-says tested S log entry Q r exit e =
         let p = f ∙ ap some (sym (ap (λ (o : Outcome). o .answer .place) e)) in
         record {
           refused = λ d. absurd (d n);
+          kept = λ d. absurd (d n);
           uncounted = λ d. absurd (d n);
           stopped = λ _. record {
             ran = ran count (some k) t p (ap (λ (o : Outcome). o .answer .quads) e) (ap (λ (o : Outcome). o .answer .moved) e)
@@ -195,7 +197,8 @@ what-an-update-call-says tested S log entry Q r exit e =
     go (updated.Refused why place count) (refuse n p) t w e =
         let number = ap (λ (o : Outcome). o .answer .number) e in
         record {
-          refused = λ d. refuses t w number (ap (λ (o : Outcome). o .answer .place) e) (ap (λ (o : Outcome). o .lists) e);
+          refused = λ d. refuses t w number (ap (λ (o : Outcome). o .answer .place) e);
+          kept = λ d. ap (λ (o : Outcome). o .lists) e;
           uncounted = λ d. λ i. record { quads = e i .answer .quads; moved = e i .answer .moved };
           stopped = λ z. unlisted refl w (sym z ∙ number);
         }
@@ -204,54 +207,72 @@ what-an-update-call-says tested S log entry Q r exit e =
 
 abbrev pub CheckSays : Scene → List ℕ → List ℕ → Lists → ℕ → Verdict → Type 0
 CheckSays S outer grid B Q Fine = checkVerdict S outer grid B Q ≡ fine
-CheckSays S outer grid B Q (Refuse why place) = Refuses CHECK (checkVerdict S outer grid B Q) (numberOf why) place B B
+CheckSays S outer grid B Q (Refuse why place) = Refuses CHECK (checkVerdict S outer grid B Q) (numberOf why) place
 
 pub what-a-check-call-says : (S : Scene) (outer grid : List ℕ) (B : Lists) (Q : ℕ) (r : Verdict)
     → Checks S outer grid B Q r → CheckSays S outer grid B Q r
 what-a-check-call-says S outer grid B Q Fine e = sym e
 what-a-check-call-says S outer grid B Q (Refuse why place) e =
-    refuses (sym e) (subst (Within CHECK) (sym e) (check-numbers S outer grid B Q)) refl refl refl
+    refuses (sym e) (subst (Within CHECK) (sym e) (check-numbers S outer grid B Q)) refl refl
 
 -- ---- a refusal changes nothing
 
 pub a-refused-cube-changes-nothing : (shape : Shape) (entry : List ℕ) (r : Cubed) (exit : List ℕ) → r ≢ cubed.Done → Cubes shape entry r exit
     → exit ≡ entry
 a-refused-cube-changes-nothing shape entry cubed.Done exit d e = absurd (d refl)
-a-refused-cube-changes-nothing shape entry cubed.BadNumber exit d e = what-a-cube-call-says shape entry cubed.BadNumber exit e .kept
-a-refused-cube-changes-nothing shape entry cubed.BadAtlas exit d e = what-a-cube-call-says shape entry cubed.BadAtlas exit e .kept
-a-refused-cube-changes-nothing shape entry (cubed.BadFace place) exit d e = what-a-cube-call-says shape entry (cubed.BadFace place) exit e .kept
-a-refused-cube-changes-nothing shape entry cubed.ShortRoom exit d e = what-a-cube-call-says shape entry cubed.ShortRoom exit e .kept
+a-refused-cube-changes-nothing shape entry cubed.BadNumber exit d e = what-a-cube-call-says shape entry cubed.BadNumber exit e .1
+a-refused-cube-changes-nothing shape entry cubed.BadAtlas exit d e = what-a-cube-call-says shape entry cubed.BadAtlas exit e .1
+a-refused-cube-changes-nothing shape entry (cubed.BadFace place) exit d e = what-a-cube-call-says shape entry (cubed.BadFace place) exit e .1
+a-refused-cube-changes-nothing shape entry cubed.ShortRoom exit d e = what-a-cube-call-says shape entry cubed.ShortRoom exit e .1
 
 pub a-refused-mesh-changes-nothing : (S : Scene) (outer grid : List ℕ) (culling : Bool) (entry : Lists) (why : Refusal) (place : ℕ) (exit : Lists)
     → Meshes S outer grid culling entry (meshed.Refused why place) exit → exit ≡ entry
 a-refused-mesh-changes-nothing S outer grid culling entry why place exit e =
-    what-a-mesh-call-says S outer grid culling entry (meshed.Refused why place) exit e .kept
+    what-a-mesh-call-says S outer grid culling entry (meshed.Refused why place) exit e .1
 
 pub a-refused-update-changes-nothing : (tested : Tested) (S : Scene) (log : List ℕ) (entry : Lists) (Q : ℕ) (why : Refusal) (place : ℕ) (count : Count)
     (exit : Lists) → numberOf why ≢ 14 → Updates tested S log entry Q (updated.Refused why place count) exit → exit ≡ entry
 a-refused-update-changes-nothing tested S log entry Q why place count exit d e =
-    what-an-update-call-says tested S log entry Q (updated.Refused why place count) exit e .refused d .kept
+    what-an-update-call-says tested S log entry Q (updated.Refused why place count) exit e .kept d
 
 -- the one exception
 pub out-of-room-keeps-the-entries-before : (tested : Tested) (S : Scene) (log : List ℕ) (entry : Lists) (Q k : ℕ) (count : Count) (exit : Lists)
-    → Updates tested S log entry Q (updated.Refused NoRoom k count) exit → Updates tested S (take (12 * k) log) entry Q (updated.Done count) exit
+    → Updates tested S log entry Q (updated.Refused NoRoom k count) exit → Updates tested S (firstOf k log) entry Q (updated.Done count) exit
 out-of-room-keeps-the-entries-before tested S log entry Q k count exit e =
     what-an-update-call-says tested S log entry Q (updated.Refused NoRoom k count) exit e .stopped refl .before
 
 -- ---- and nothing is refused without cause
 
-pub made-if-nothing-refuses : (S : Scene) (outer grid : List ℕ) (culling : Bool) (entry : Lists) (r : Meshed) (exit : Lists)
+pub a-cube-is-made-if-nothing-refuses : (shape : Shape) (entry : List ℕ) (r : Cubed) (exit : List ℕ) → cubeVerdict shape entry ≡ fine
+    → Cubes shape entry r exit → r ≡ cubed.Done
+a-cube-is-made-if-nothing-refuses shape entry cubed.Done exit v e = refl
+a-cube-is-made-if-nothing-refuses shape entry cubed.BadNumber exit v e =
+    fine-not-refused (sym v ∙ what-a-cube-call-says shape entry cubed.BadNumber exit e .0 .told)
+a-cube-is-made-if-nothing-refuses shape entry cubed.BadAtlas exit v e =
+    fine-not-refused (sym v ∙ what-a-cube-call-says shape entry cubed.BadAtlas exit e .0 .told)
+a-cube-is-made-if-nothing-refuses shape entry (cubed.BadFace place) exit v e =
+    fine-not-refused (sym v ∙ what-a-cube-call-says shape entry (cubed.BadFace place) exit e .0 .told)
+a-cube-is-made-if-nothing-refuses shape entry cubed.ShortRoom exit v e =
+    fine-not-refused (sym v ∙ what-a-cube-call-says shape entry cubed.ShortRoom exit e .0 .told)
+
+pub a-mesh-is-made-if-nothing-refuses : (S : Scene) (outer grid : List ℕ) (culling : Bool) (entry : Lists) (r : Meshed) (exit : Lists)
     → meshVerdict S outer grid culling entry ≡ fine → Meshes S outer grid culling entry r exit
     → r ≡ meshed.Done (length (freshMesh S outer grid culling))
-made-if-nothing-refuses S outer grid culling entry (meshed.Done quads) exit v e =
+a-mesh-is-made-if-nothing-refuses S outer grid culling entry (meshed.Done quads) exit v e =
     ap meshed.Done (what-a-mesh-call-says S outer grid culling entry (meshed.Done quads) exit e .counted)
-made-if-nothing-refuses S outer grid culling entry (meshed.Refused why place) exit v e =
-    fine-not-refused (sym v ∙ what-a-mesh-call-says S outer grid culling entry (meshed.Refused why place) exit e .told)
+a-mesh-is-made-if-nothing-refuses S outer grid culling entry (meshed.Refused why place) exit v e =
+    fine-not-refused (sym v ∙ what-a-mesh-call-says S outer grid culling entry (meshed.Refused why place) exit e .0 .told)
 
 -- an update of a log that is accepted is done, unless an entry finds no room
-pub done-if-nothing-refuses : (tested : Tested) (S : Scene) (log : List ℕ) (entry : Lists) (Q : ℕ) (r : Updated) (exit : Lists)
+pub an-update-is-done-if-nothing-refuses : (tested : Tested) (S : Scene) (log : List ℕ) (entry : Lists) (Q : ℕ) (r : Updated) (exit : Lists)
     → updateVerdict S log entry Q ≡ fine → (course tested S log entry Q) .full ≡ none → Updates tested S log entry Q r exit
     → (count : Count) × (r ≡ updated.Done count)
-done-if-nothing-refuses tested S log entry Q (updated.Done count) exit v f e = (count, refl)
-done-if-nothing-refuses tested S log entry Q (updated.Refused why place count) exit v f e =
+an-update-is-done-if-nothing-refuses tested S log entry Q (updated.Done count) exit v f e = (count, refl)
+an-update-is-done-if-nothing-refuses tested S log entry Q (updated.Refused why place count) exit v f e =
     absurd (not-zero why (ap (λ (o : Outcome). o .answer .number) e ∙ rw (v, f)))
+
+pub a-mesh-passes-if-nothing-refuses : (S : Scene) (outer grid : List ℕ) (B : Lists) (Q : ℕ) (r : Verdict) → checkVerdict S outer grid B Q ≡ fine
+    → Checks S outer grid B Q r → r ≡ Fine
+a-mesh-passes-if-nothing-refuses S outer grid B Q Fine v e = refl
+a-mesh-passes-if-nothing-refuses S outer grid B Q (Refuse why place) v e =
+    fine-not-refused (sym v ∙ what-a-check-call-says S outer grid B Q (Refuse why place) e .told)

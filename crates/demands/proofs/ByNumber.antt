@@ -1,39 +1,26 @@
 -- The same promises of the C calls, whose answers are 01's numbers. Assumes nothing.
-use Prim.Native.Nat.{ℕ, _*_}
+use Prim.Native.Nat.{ℕ}
 use mathlib.Core.Path.{_≡_, refl, sym, ap, _∙_, subst}
 use mathlib.Core.Logic.{_≢_, _↔_}
 use mathlib.Core.Bool.{Bool, true}
-use mathlib.Core.List.{List, []}
-use lib.ListN.{take}
+use mathlib.Core.List.{List, [], _∷_, _++_}
 use borrow.Author.Tests.{ne-eqb}
+use Rattle.rules.specs.Lists.{member}
 use Rattle.rules.specs.Cube.{Shape}
 use Rattle.rules.specs.Mesh.{Lists}
 use Rattle.rules.specs.Update.{source, AddsAlike}
 use Rattle.rules.specs.Answers.{fine}
 use Rattle.rules.specs.Check.{Right}
 use Rattle.rules.specs.Calls.{Answer, CubeOutcome, generateVoxelMesh, Outcome, Scene, answered, world, span, entriesOf, openVerdict, meshGrid, updateMesh, checkVerdict, checkMesh}
-use Rattle.rules.proofs.Refusals.{CHECK, check-numbers, zero-fine, cube-refused, mesh-refused, update-refused}
+use Rattle.rules.proofs.Refusals.{CUBE, MESH, UPDATE, CHECK, check-numbers, cube-number, mesh-number, update-number, check-number, zero-fine, cube-refused, mesh-refused, update-refused}
 use Rattle.rules.proofs.Modes.{itself-alike, modes-agree}
 use Rattle.rules.proofs.Demands.{accepts-exactly, fresh-accepted, mended-accepted}
 use Rattle.answers.specs.declared.Verdict.the-variants.{Fine}
-use Rattle.exports.specs.Answers.{testedFrom, answer, cubeOut, outcome}
-use Rattle.demands.specs.Chunks.{gridAfter, FillingLog, AlikeLog, MendableLog}
+use Rattle.exports.specs.Answers.{testedFrom, answer, outcome}
+use Rattle.demands.specs.Contracts.{TellsCube, TellsMesh, TellsUpdate, TellsCheck}
+use Rattle.demands.specs.Chunks.{firstOf, gridAfter, FillingLog, AlikeLog, MendableLog}
 use Rattle.demands.proofs.Answers.{out-of-room-keeps-the-entries-before}
 use Rattle.demands.proofs.Exact.{the-check-is-exact}
-
--- a call tells an answer and leaves lists; meshem_check_mesh tells a number and a place
-abbrev pub TellsCube : Shape → List ℕ → Answer → List ℕ → Type 0
-TellsCube shape room a exit = cubeOut a exit ≡ generateVoxelMesh shape room
-
-abbrev pub TellsMesh : Scene → List ℕ → List ℕ → Bool → Lists → Answer → Lists → Type 0
-TellsMesh S outer grid culling B a exit = outcome a exit ≡ meshGrid S outer grid culling B
-
--- the mode by its number: 0 the source's, else the new one
-abbrev pub TellsUpdate : ℕ → Scene → List ℕ → Lists → ℕ → Answer → Lists → Type 0
-TellsUpdate tested S log B Q a exit = outcome a exit ≡ updateMesh (testedFrom tested) S log B Q
-
-abbrev pub TellsCheck : Scene → List ℕ → List ℕ → Lists → ℕ → ℕ → ℕ → Type 0
-TellsCheck S outer grid B Q number place = answer number place 0 0 ≡ checkMesh S outer grid B Q
 
 -- one outcome: what two answers tell, and the lists they leave, are the same
 pub one-c-cube : (shape : Shape) (room : List ℕ) (a b : Answer) (x y : List ℕ) → TellsCube shape room a x → TellsCube shape room b y → (a ≡ b) × (x ≡ y)
@@ -54,6 +41,27 @@ pub one-c-check : (S : Scene) (outer grid : List ℕ) (B : Lists) (Q m n i j : �
     → (m ≡ n) × (i ≡ j)
 one-c-check S outer grid B Q m n i j p q = let e = p ∙ sym q in (ap (λ (a : Answer). a .number) e, ap (λ (a : Answer). a .place) e)
 
+-- the number that a call returns is 0, or one of its own refusals
+pub a-c-cube-call-tells-a-number-of-its-own : (shape : Shape) (room : List ℕ) (a : Answer) (exit : List ℕ) → TellsCube shape room a exit
+    → member (a .number) (0 ∷ CUBE) ≡ true
+a-c-cube-call-tells-a-number-of-its-own shape room a exit e =
+    subst (λ (o : CubeOutcome). member (o .answer .number) (0 ∷ CUBE) ≡ true) (sym e) (cube-number shape room)
+
+pub a-c-mesh-call-tells-a-number-of-its-own : (S : Scene) (outer grid : List ℕ) (culling : Bool) (B : Lists) (a : Answer) (exit : Lists)
+    → TellsMesh S outer grid culling B a exit → member (a .number) (0 ∷ MESH) ≡ true
+a-c-mesh-call-tells-a-number-of-its-own S outer grid culling B a exit e =
+    subst (λ (o : Outcome). member (o .answer .number) (0 ∷ MESH) ≡ true) (sym e) (mesh-number S outer grid culling B)
+
+pub a-c-update-call-tells-a-number-of-its-own : (tested : ℕ) (S : Scene) (log : List ℕ) (B : Lists) (Q : ℕ) (a : Answer) (exit : Lists)
+    → TellsUpdate tested S log B Q a exit → member (a .number) (0 ∷ UPDATE ++ (14 ∷ [])) ≡ true
+a-c-update-call-tells-a-number-of-its-own tested S log B Q a exit e =
+    subst (λ (o : Outcome). member (o .answer .number) (0 ∷ UPDATE ++ (14 ∷ [])) ≡ true) (sym e) (update-number (testedFrom tested) S log B Q)
+
+pub a-c-check-call-tells-a-number-of-its-own : (S : Scene) (outer grid : List ℕ) (B : Lists) (Q number place : ℕ)
+    → TellsCheck S outer grid B Q number place → member number (0 ∷ CHECK) ≡ true
+a-c-check-call-tells-a-number-of-its-own S outer grid B Q number place e =
+    subst (λ (a : Answer). member (a .number) (0 ∷ CHECK) ≡ true) (sym e) (check-number S outer grid B Q)
+
 pub a-refused-c-cube-changes-nothing : (shape : Shape) (room : List ℕ) (a : Answer) (exit : List ℕ) → a .number ≢ 0
     → TellsCube shape room a exit → exit ≡ room
 a-refused-c-cube-changes-nothing shape room a exit d e =
@@ -72,7 +80,7 @@ a-refused-c-update-changes-nothing tested S log B Q a exit d f e =
 
 -- the one exception: what is left is what the call for the entries before it leaves
 pub out-of-room-c-keeps-the-entries-before : (tested : ℕ) (S : Scene) (log : List ℕ) (B : Lists) (Q : ℕ) (a : Answer) (exit : Lists) → a .number ≡ 14
-    → TellsUpdate tested S log B Q a exit → TellsUpdate tested S (take (12 * a .place) log) B Q (answer 0 0 (a .quads) (a .moved)) exit
+    → TellsUpdate tested S log B Q a exit → TellsUpdate tested S (firstOf (a .place) log) B Q (answer 0 0 (a .quads) (a .moved)) exit
 out-of-room-c-keeps-the-entries-before tested S log B Q a exit z e =
     out-of-room-keeps-the-entries-before (testedFrom tested) S log B Q (a .place) (record { quads = a .quads; moved = a .moved }) exit
     ((λ i. outcome (answer (sym z i) (a .place) (a .quads) (a .moved)) exit) ∙ e)

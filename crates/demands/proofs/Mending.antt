@@ -1,16 +1,21 @@
--- Promise 6, "if a mesh passes with no outer face named, it passes for the new grid after any unrefused honest log of Added and Broken
--- alone", the Added of demand 3 in each mode (`LogFor`, specs/Chunks): mesh_grid, then any number of update_mesh calls, then check_mesh says Fine.
+-- Demand 3, "a mesh that passes with no outer face named passes after any unrefused honest log", its Added as each mode asks (`LogFor`,
+-- specs/Chunks): mesh_grid, then any number of update_mesh calls, then check_mesh says Fine; out of room it says so for the entries that were done.
 -- And what is the same in both modes. Assumes nothing.
-use Prim.Native.Nat.{ℕ}
-use mathlib.Core.Path.{_≡_, sym, ap, _∙_, subst}
+use Prim.Native.Nat.{ℕ, _-_, _*_, _/_, _≤_, _<_}
+use mathlib.Core.Path.{_≡_, refl, sym, ap, _∙_, subst}
 use mathlib.Core.Bool.{true}
-use mathlib.Core.List.{List, []}
+use mathlib.Core.List.{List, [], _∷_, _++_}
+use native.Mathlib.Omega.{arith}
+use lib.ListN.{length}
+use Rattle.rules.specs.Lists.{each}
 use Rattle.rules.specs.Mesh.{Lists, isNormalCube}
 use Rattle.rules.specs.Update as rules
-use Rattle.rules.specs.Update.{source, itself, Alike, AddsAlike}
+use Rattle.rules.specs.Update.{Entry, entryAt, source, itself, Honest, Mends, Alike, AddsAlike}
 use Rattle.rules.specs.Calls.{Answer, Scene, Outcome, world, entriesOf, updateMesh}
+use Rattle.rules.proofs.Courses.{honest-first, mends-first, alike-first}
 use Rattle.rules.proofs.Modes.{table-alike, itself-alike, modes-agree}
 use Rattle.rules.proofs.Demands.{mended-accepted}
+use Rattle.answers.specs.declared.Refusal.the-variants.{NoRoom}
 use Rattle.answers.specs.declared.Verdict.{Verdict}
 use Rattle.answers.specs.declared.Verdict.the-variants.{Fine}
 use Rattle.sides.specs.declared.Tested.{Tested}
@@ -19,9 +24,11 @@ use Rattle.sides.specs.Tests.{testedBy}
 use Rattle.meshem.specs.declared.Meshed.the-variants as meshed
 use Rattle.mending.specs.declared.Count.{Count}
 use Rattle.update.specs.declared.Updated.{Updated}
-use Rattle.update.specs.declared.Updated.the-variants.{Done}
+use Rattle.update.specs.declared.Updated.the-variants.{Done, Refused}
 use Rattle.demands.specs.Contracts.{Meshes, Updates, Checks}
-use Rattle.demands.specs.Chunks.{Chunk, Passes, gridAfter, FillingLog, AlikeLog, MendableLog, LogFor, mendedTo, Mended, untouched, oneMore}
+use Rattle.demands.specs.Chunks.{Chunk, Passes, firstOf, gridAfter, FillingLog, AlikeLog, MendableLog, LogFor, mendedTo, Mended, untouched, oneMore}
+use Rattle.demands.proofs.Stopped.{entries-first}
+use Rattle.demands.proofs.Answers.{what-an-update-call-says}
 use Rattle.demands.proofs.OneOutcome.{one-update, one-check}
 use Rattle.demands.proofs.Exact.{fine-is-zero}
 use Rattle.demands.proofs.Fresh.{fresh-is-fine}
@@ -57,6 +64,45 @@ mended-passes : (mode : Tested) (S : Scene) (log grid : List ℕ) (B exit : List
 mended-passes mode S log grid B exit Q count r passed true-log mended checked =
     one-check S [] (gridAfter S log grid) exit (count .quads) r Fine checked
     (mended-is-fine mode S log (record { grid = grid; lists = B; quads = Q }) exit count passed true-log mended)
+
+-- ---- out of room, and still right
+
+-- the first entries of a log of demand 3 are such a log
+first-of-such-a-log : (mode : Tested) (S : Scene) (grid log : List ℕ) (k : ℕ) → k ≤ length log / 12 → LogFor mode S grid log
+    → LogFor mode S grid (firstOf k log)
+first-of-such-a-log mode S grid log k h l = go mode l
+  where
+    rest : List Entry
+    rest = each (length log / 12 - k) k (λ j. entryAt log j ∷ [])
+
+    split : entriesOf log ≡ entriesOf (firstOf k log) ++ rest
+    split = entries-first log k h
+
+    filling : FillingLog S grid log → FillingLog S grid (firstOf k log)
+    filling f =
+        record {
+          honest = honest-first (world S) grid (entriesOf (firstOf k log)) rest (subst (Honest (world S) grid) split (f .honest));
+          mends = mends-first (world S) grid (entriesOf (firstOf k log)) rest (subst (Mends (world S) grid) split (f .mends));
+        }
+
+    go : (mode : Tested) → LogFor mode S grid log → LogFor mode S grid (firstOf k log)
+    go Opposite l =
+        record {
+          filling = filling (l .filling);
+          alike = alike-first source (world S) (entriesOf (firstOf k log)) rest (subst (AddsAlike source (world S)) split (l .alike));
+        }
+    go Itself l = filling l
+
+-- a log that stops at entry k for want of room leaves a mesh that passes for the grid after its first k entries
+pub out-of-room-and-still-right : (mode : Tested) (S : Scene) (log grid : List ℕ) (B exit : Lists) (Q k : ℕ) (count : Count) (r : Verdict)
+    → Checks S [] grid B Q Fine → LogFor mode S grid log → Updates (testedBy mode) S log B Q (Refused NoRoom k count) exit
+    → Checks S [] (gridAfter S (firstOf k log) grid) exit (count .quads) r → r ≡ Fine
+out-of-room-and-still-right mode S log grid B exit Q k count r passed true-log stopped checked =
+    let s = what-an-update-call-says (testedBy mode) S log B Q (Refused NoRoom k count) exit stopped .stopped refl in
+    mended-passes mode S (firstOf k log) grid B exit Q count r passed (first-of-such-a-log mode S grid log k (omega (arith, s .inLog)) true-log) (s .before)
+    checked
+
+-- ---- any number of calls
 
 -- what passed still passes after n calls in one mode; calls in the other can follow
 pub still-passes : {mode : Tested} {S : Scene} {from k : Chunk} {n : ℕ} → Passes S from → Mended mode S from n k → Passes S k

@@ -1,4 +1,4 @@
--- Promise 2, "that this leaves a single possible outcome is proved": two answers, with the lent lists at exit, that meet a call's contract
+-- Demands 1 and 2 leave "a single possible outcome": two answers, with the lent lists at exit, that meet a call's contract
 -- for the same input are the same. Assumes nothing.
 use Prim.Native.Nat.{ℕ}
 use mathlib.Core.Path.{_≡_, sym, ap, _∙_}

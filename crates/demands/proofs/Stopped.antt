@@ -1,20 +1,21 @@
 -- A log that stops for want of room has done the log of its earlier entries, whole. Assumes nothing.
-use Prim.Native.Nat.{ℕ, zero, suc, _+_, _*_, _/_, _%_, _<_}
+use Prim.Native.Nat.{ℕ, zero, suc, _+_, _-_, _*_, _/_, _%_, _≤_, _<_}
 use mathlib.Core.Path.{_≡_, refl, sym, ap, _∙_}
 use mathlib.Core.Bool.{Bool, true, false, cond, not}
-use mathlib.Core.List.{List, _++_}
+use mathlib.Core.List.{List, [], _∷_, _++_}
 use mathlib.Core.Option.{Option, none, some}
 use native.Mathlib.Omega.{arith}
 use lib.Dec.{eqb, leb}
 use lib.ListN.{length, getD, take, drop, take-append-drop, length-drop, List·getD-append}
 use lib.Seq.{length-take-le, drop-append-le, take-append-le}
 use borrow.Author.Tests.{leb-false, eq-eqb}
-use Rattle.rules.specs.Lists.{every, part}
+use Rattle.rules.specs.Lists.{each, table, every, part}
 use Rattle.rules.specs.Cells.{cells}
 use Rattle.rules.specs.Mesh.{Quad, Lists, layout, decode}
-use Rattle.rules.specs.Update.{Work, Course, Tested, u32At, entryAt, work, ops, run, moves, highest, needed, courseFrom}
+use Rattle.rules.specs.Update.{Entry, Work, Course, Tested, u32At, entryAt, work, ops, run, moves, highest, needed, courseFrom}
 use Rattle.rules.specs.Answers.{fine, refuseLowest, BAD-SIZE, badNeighbour, badEntry, BAD-ENTRY}
-use Rattle.rules.specs.Calls.{Scene, answered, world, span, faces, room, typesVerdict, lentVerdict, updateVerdict, course, updateBy, updateMesh}
+use Rattle.rules.specs.Calls.{Scene, answered, world, span, faces, room, typesVerdict, lentVerdict, updateVerdict, entriesOf, course, updateBy, updateMesh}
+use Rattle.rules.proofs.ListLaws.{each-same, each-split}
 use Rattle.rules.proofs.Checking.{then-fine, fine-then, fine-if, lowest-fine, fine-lowest}
 use Rattle.rules.proofs.Courses.{course-alike}
 
@@ -104,6 +105,22 @@ module _ (k : ℕ) (first rest : List ℕ) (whole : length first ≡ 12 * k) whe
             (λ f l. ap (λ (t : ℕ). not (badNeighbour types t)) (byte (12 * j + (6 + f)) (omega arith))),
       )
 
+-- the entries of the first k are the first k entries
+pub entries-first : (log : List ℕ) (k : ℕ) → k ≤ length log / 12
+    → entriesOf log ≡ entriesOf (take (12 * k) log) ++ each (length log / 12 - k) k (λ j. entryAt log j ∷ [])
+entries-first log k h =
+    let whole : length (take (12 * k) log) ≡ 12 * k = length-take-le (12 * k) log (omega arith) in
+    let count : length (take (12 * k) log) / 12 ≡ k = omega (arith, whole) in
+    let sum : length log / 12 ≡ k + (length log / 12 - k) = omega arith in
+    let from : 0 + k ≡ k = omega arith in
+    let same : table k (entryAt log) ≡ entriesOf (take (12 * k) log) =
+    each-same k 0 (λ j. entryAt log j ∷ []) (λ j. entryAt (take (12 * k) log) j ∷ [])
+    (λ j a b. ap (λ (e : Entry). e ∷ [])
+    (ap (λ (l : List ℕ). entryAt l j) (sym (take-append-drop (12 * k) log)) ∙ entry-stays k (take (12 * k) log) (drop (12 * k) log) whole j (omega arith)))
+    ∙ ap (λ (n : ℕ). table n (entryAt (take (12 * k) log))) (sym count) in
+    ap (λ (n : ℕ). table n (entryAt log)) sum ∙ each-split k (length log / 12 - k) 0 (λ j. entryAt log j ∷ [])
+    ∙ (λ i. same i ++ each (length log / 12 - k) (from i) (λ j. entryAt log j ∷ []))
+
 -- ---- an update that stops at entry k
 module _ (tested : Tested) (S : Scene) (log : List ℕ) (B : Lists) (Q k : ℕ) (accepted : updateVerdict S log B Q ≡ fine)
     (full : (course tested S log B Q) .full ≡ some k) where
@@ -135,8 +152,8 @@ module _ (tested : Tested) (S : Scene) (log : List ℕ) (B : Lists) (Q k : ℕ) 
   bad-first : (n types j : ℕ) → j < k → badEntry n types log j ≡ badEntry n types first j
   bad-first n types j h = ap (λ (l : List ℕ). badEntry n types l j) (sym joined) ∙ bad-stays k first (drop (12 * k) log) whole n types j h
 
-  entries-first : length first / 12 ≡ k
-  entries-first = omega (arith, whole)
+  count-first : length first / 12 ≡ k
+  count-first = omega (arith, whole)
 
   first-accepted : updateVerdict S first B Q ≡ fine
   unfolding BAD-ENTRY
@@ -148,8 +165,8 @@ module _ (tested : Tested) (S : Scene) (log : List ℕ) (B : Lists) (Q k : ℕ) 
       let d = then-fine (lentVerdict S B Q) (BAD-ENTRY n types log) (b .1) in
       let e = then-fine (refuseLowest 13 (length log / 12) (badEntry n types log)) _ (d .1) in
       let good : (j : ℕ) → j < length first / 12 → badEntry n types first j ≡ false =
-      λ j l. sym (bad-first n types j (omega (arith, entries-first)))
-      ∙ lowest-fine 13 (length log / 12) (badEntry n types log) (e .0) j (omega (arith, entries-first, in-log)) in
+      λ j l. sym (bad-first n types j (omega (arith, count-first)))
+      ∙ lowest-fine 13 (length log / 12) (badEntry n types log) (e .0) j (omega (arith, count-first, in-log)) in
       let even : not (eqb (length first % 12) 0) ≡ false = rw (eq-eqb (length first % 12) 0 (omega (arith, whole))) in
       fine-then (a .0) (fine-then (b .0) (fine-then (d .0)
       (fine-then (fine-lowest 13 (length first / 12) (badEntry n types first) good)
@@ -165,4 +182,4 @@ module _ (tested : Tested) (S : Scene) (log : List ℕ) (B : Lists) (Q k : ℕ) 
       let same =
       course-alike (room S B) (workOf first) (workOf log) 0 k from 0 Q (λ j l. ap (work tested (world S)) (sym (entry-first j (omega arith))))
       ∙ ap (λ (n : ℕ). courseFrom (room S B) (workOf log) 0 n from 0 Q) (sym n) ∙ stopped .through in
-      rw (first-accepted, entries-first) (ap (λ (c : Course). updateBy fine S c B) same)
+      rw (first-accepted, count-first) (ap (λ (c : Course). updateBy fine S c B) same)

@@ -1,6 +1,7 @@
 -- A chunk, and update calls one after the other, each on what the one before left. Definitions only.
-use Prim.Native.Nat.{ℕ, suc}
+use Prim.Native.Nat.{ℕ, suc, _*_}
 use mathlib.Core.List.{List, []}
+use lib.ListN.{take}
 use Rattle.rules.specs.Mesh.{Lists}
 use Rattle.rules.specs.Update.{source, gridLog, Honest, Mends, AddsAlike}
 use Rattle.rules.specs.Calls.{Scene, world, entriesOf}
@@ -21,6 +22,10 @@ pub record Chunk : Type 0 where
 -- the check passes it with no outer face named
 abbrev pub Passes : Scene → Chunk → Type 0
 Passes S k = Checks S [] (k .grid) (k .lists) (k .quads) Fine
+
+-- the first k entries of a log
+abbrev pub firstOf : ℕ → List ℕ → List ℕ
+firstOf k log = take (12 * k) log
 
 -- the grid that a log leaves
 abbrev pub gridAfter : Scene → List ℕ → List ℕ → List ℕ
