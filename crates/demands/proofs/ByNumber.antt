@@ -11,29 +11,16 @@ use Rattle.rules.specs.Mesh.{Lists}
 use Rattle.rules.specs.Update.{source, AddsAlike}
 use Rattle.rules.specs.Answers.{fine}
 use Rattle.rules.specs.Check.{Right}
-use Rattle.rules.specs.Calls.{Answer, CubeOutcome, generateVoxelMesh, Outcome, Scene, answered, world, span, entriesOf, openVerdict, meshGrid, updateMesh, checkVerdict, checkMesh}
+use Rattle.rules.specs.Calls.{Answer, CubeOutcome, Outcome, Scene, answered, world, span, entriesOf, openVerdict, checkVerdict, checkMesh}
 use Rattle.rules.proofs.Refusals.{CHECK, check-numbers, zero-fine, cube-refused, mesh-refused, update-refused}
 use Rattle.rules.proofs.Modes.{itself-alike, modes-agree}
 use Rattle.rules.proofs.Demands.{accepts-exactly, fresh-accepted, mended-accepted}
 use Rattle.answers.specs.declared.Verdict.the-variants.{Fine}
-use Rattle.exports.specs.Answers.{testedFrom, answer, cubeOut, outcome}
+use Rattle.exports.specs.Answers.{testedFrom, answer, outcome}
+use Rattle.demands.specs.Contracts.{TellsCube, TellsMesh, TellsUpdate, TellsCheck}
 use Rattle.demands.specs.Chunks.{gridAfter, FillingLog, AlikeLog, MendableLog}
 use Rattle.demands.proofs.Answers.{out-of-room-keeps-the-entries-before}
 use Rattle.demands.proofs.Exact.{the-check-is-exact}
-
--- a call tells an answer and leaves lists; meshem_check_mesh tells a number and a place
-abbrev pub TellsCube : Shape → List ℕ → Answer → List ℕ → Type 0
-TellsCube shape room a exit = cubeOut a exit ≡ generateVoxelMesh shape room
-
-abbrev pub TellsMesh : Scene → List ℕ → List ℕ → Bool → Lists → Answer → Lists → Type 0
-TellsMesh S outer grid culling B a exit = outcome a exit ≡ meshGrid S outer grid culling B
-
--- the mode by its number: 0 the source's, else the new one
-abbrev pub TellsUpdate : ℕ → Scene → List ℕ → Lists → ℕ → Answer → Lists → Type 0
-TellsUpdate tested S log B Q a exit = outcome a exit ≡ updateMesh (testedFrom tested) S log B Q
-
-abbrev pub TellsCheck : Scene → List ℕ → List ℕ → Lists → ℕ → ℕ → ℕ → Type 0
-TellsCheck S outer grid B Q number place = answer number place 0 0 ≡ checkMesh S outer grid B Q
 
 -- one outcome: what two answers tell, and the lists they leave, are the same
 pub one-c-cube : (shape : Shape) (room : List ℕ) (a b : Answer) (x y : List ℕ) → TellsCube shape room a x → TellsCube shape room b y → (a ≡ b) × (x ≡ y)

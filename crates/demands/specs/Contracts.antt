@@ -6,7 +6,7 @@ use mathlib.Core.List.{List}
 use Rattle.rules.specs.Cube.{Shape}
 use Rattle.rules.specs.Mesh.{Lists}
 use Rattle.rules.specs.Update.{Tested}
-use Rattle.rules.specs.Calls.{Scene, generateVoxelMesh, meshGrid, updateMesh, checkVerdict}
+use Rattle.rules.specs.Calls.{Answer, Scene, generateVoxelMesh, meshGrid, updateMesh, checkVerdict, checkMesh}
 use Rattle.answers.specs.declared.Verdict.{Verdict}
 use Rattle.answers.specs.Verdicts.{verdictOf}
 use Rattle.voxel_mesh.specs.declared.Cubed.{Cubed}
@@ -15,6 +15,7 @@ use Rattle.meshem.specs.declared.Meshed.{Meshed}
 use Rattle.meshem.specs.Outcome as mesh
 use Rattle.update.specs.declared.Updated.{Updated}
 use Rattle.update.specs.Outcome.{outcomeOf}
+use Rattle.exports.specs.Answers.{testedFrom, answer, cubeOut, outcome}
 
 -- generate_voxel_mesh answers r for a shape, and leaves the room at exit
 abbrev pub Cubes : Shape → List ℕ → Cubed → List ℕ → Type 0
@@ -31,3 +32,17 @@ Updates tested S log B Q r exit = outcomeOf r exit ≡ updateMesh tested S log B
 -- check_mesh answers r; it is lent nothing that it can change
 abbrev pub Checks : Scene → List ℕ → List ℕ → Lists → ℕ → Verdict → Type 0
 Checks S outer grid B Q r = verdictOf r ≡ checkVerdict S outer grid B Q
+
+-- a C call tells an answer and leaves lists; meshem_check_mesh tells a number and a place
+abbrev pub TellsCube : Shape → List ℕ → Answer → List ℕ → Type 0
+TellsCube shape room a exit = cubeOut a exit ≡ generateVoxelMesh shape room
+
+abbrev pub TellsMesh : Scene → List ℕ → List ℕ → Bool → Lists → Answer → Lists → Type 0
+TellsMesh S outer grid culling B a exit = outcome a exit ≡ meshGrid S outer grid culling B
+
+-- the mode by its number: 0 the source's, else the new one
+abbrev pub TellsUpdate : ℕ → Scene → List ℕ → Lists → ℕ → Answer → Lists → Type 0
+TellsUpdate tested S log B Q a exit = outcome a exit ≡ updateMesh (testedFrom tested) S log B Q
+
+abbrev pub TellsCheck : Scene → List ℕ → List ℕ → Lists → ℕ → ℕ → ℕ → Type 0
+TellsCheck S outer grid B Q number place = answer number place 0 0 ≡ checkMesh S outer grid B Q
