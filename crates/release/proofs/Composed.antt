@@ -10,7 +10,8 @@ use Rattle.rules.specs.Update.{Tested, AddsAlike}
 use Rattle.rules.specs.Answers.{Verdict, fine, refuse, _then_}
 use Rattle.rules.specs.Calls.{Outcome, Scene, world, entriesOf, meshVerdict, updateMesh, checkVerdict}
 use Rattle.answers.specs.declared.Refusal.{Refusal}
-use Rattle.answers.specs.Verdicts.{numberOf}
+use Rattle.answers.specs.Verdicts.{numberOf, refuses}
+use Rattle.answers.proofs.Chains.{stops}
 use Rattle.meshem.specs.declared.Meshed.{Meshed}
 use Rattle.meshem.specs.declared.Meshed.the-variants as meshed
 use Rattle.meshem.specs.Outcome as mesh
@@ -22,7 +23,7 @@ use Rattle.update.specs.declared.Updated.the-variants as updated
 use Rattle.update.specs.Outcome.{answerOf, outcomeOf}
 use Rattle.demands.specs.Contracts.{Meshes, Updates}
 use Rattle.demands.specs.Chunks.{gridAfter, FillingLog, LogFor}
-use Rattle.release.specs.Composed.{verdictBy, mendPromise, mendVerdict}
+use Rattle.release.specs.Composed.{Ending, endsWith, onlyAfter, verdictBy, makeEnding, mendPromise, mendedOn, mendEnding}
 use Rattle.demands.proofs.Telling.{numbered}
 use Rattle.demands.proofs.Answers.{what-a-mesh-call-says}
 use Rattle.demands.proofs.Fresh.{fresh-is-fine}
@@ -38,34 +39,39 @@ updates exit p e = ap (λ (x : Updated). outcomeOf x exit) (sym p) ∙ e
 -- ---- a mesh made and checked
 
 pub made : (S : Scene) (outer grid : List ℕ) (B exit : Lists) (quads : ℕ) {v : Verdict} → Meshes S outer grid true B (meshed.Done quads) exit
-    → v ≡ checkVerdict S outer grid exit quads → v ≡ meshVerdict S outer grid true B
+    → v ≡ checkVerdict S outer grid exit quads → endsWith v exit ≡ makeEnding S outer grid B
 made S outer grid B exit quads e c =
-    c ∙ sym (fresh-is-fine S outer grid B exit quads e) ∙ sym (what-a-mesh-call-says S outer grid true B (meshed.Done quads) exit e .accepted)
+    let v = c ∙ sym (fresh-is-fine S outer grid B exit quads e) ∙ sym (what-a-mesh-call-says S outer grid true B (meshed.Done quads) exit e .accepted) in
+    λ i. endsWith (v i) (e i .lists)
 
 pub not-made : (S : Scene) (outer grid : List ℕ) (B exit : Lists) (why : Refusal) (place : ℕ)
-    → Meshes S outer grid true B (meshed.Refused why place) exit → refuse (numberOf why) place ≡ meshVerdict S outer grid true B
-not-made S outer grid B exit why place e = sym (what-a-mesh-call-says S outer grid true B (meshed.Refused why place) exit e .told)
+    → Meshes S outer grid true B (meshed.Refused why place) exit → endsWith (refuse (numberOf why) place) exit ≡ makeEnding S outer grid B
+not-made S outer grid B exit why place e =
+    let v = sym (what-a-mesh-call-says S outer grid true B (meshed.Refused why place) exit e .0 .told) in λ i. endsWith (v i) (e i .lists)
 
 -- ---- a mesh mended and checked
 module _ (tested : Tested) (S : Scene) (grid log left : List ℕ) (B : Lists) (Q : ℕ) where
-  abbrev chain : Verdict → Outcome → Verdict
-  chain v u = v then verdictBy (u .answer) then checkVerdict S [] left (u .lists) (u .answer .quads)
+  pub stopped : (x : Verdict) → x ≡ checkVerdict S [] grid B Q → refuses x ≡ true → endsWith x B ≡ mendEnding tested S grid log left B Q
+  stopped x e t =
+      let rest = mendedOn S left (updateMesh tested S log B Q) in
+      λ i. endsWith (stops x _ (rest .verdict) e t i) (cond ((sym t ∙ ap refuses e) i) B (rest .lists))
 
   pub mended : (exit : Lists) (count : Count) {v : Verdict} → checkVerdict S [] grid B Q ≡ fine → Updates tested S log B Q (updated.Done count) exit
-      → v ≡ checkVerdict S [] left exit (count .quads) → v ≡ mendVerdict tested S grid log left B Q
+      → v ≡ checkVerdict S [] left exit (count .quads) → endsWith v exit ≡ mendEnding tested S grid log left B Q
   unfolding _then_
-  mended exit count p e c = c ∙ (λ i. chain (sym p i) (e i))
+  mended exit count p e c = (λ i. endsWith (c i) exit) ∙ (λ i. onlyAfter (sym p i) B (mendedOn S left (e i)))
 
   pub refused : (exit : Lists) (why : Refusal) (place : ℕ) (count : Count) → checkVerdict S [] grid B Q ≡ fine
-      → Updates tested S log B Q (updated.Refused why place count) exit → refuse (numberOf why) place ≡ mendVerdict tested S grid log left B Q
+      → Updates tested S log B Q (updated.Refused why place count) exit
+      → endsWith (refuse (numberOf why) place) exit ≡ mendEnding tested S grid log left B Q
   unfolding _then_
   refused exit why place count p e =
       let n : refuse (numberOf why) place ≡ verdictBy (answerOf (updated.Refused why place count)) = rw (numbered why .1) in
-      ap (λ (v : Verdict). v then checkVerdict S [] left exit (count .quads)) n ∙ (λ i. chain (sym p i) (e i))
+      ap (λ (v : Verdict). endsWith (v then checkVerdict S [] left exit (count .quads)) exit) n ∙ (λ i. onlyAfter (sym p i) B (mendedOn S left (e i)))
 
   -- LAW: after a log of demand 3 the second check refuses nothing
   pub second-check-idle : FillingLog S grid log → AddsAlike tested (world S) (entriesOf log) → left ≡ gridAfter S log grid
-      → mendVerdict tested S grid log left B Q ≡ mendPromise tested S grid log B Q
+      → (mendEnding tested S grid log left B Q) .verdict ≡ mendPromise tested S grid log B Q
   unfolding _then_
   second-check-idle h al l = first (checkVerdict S [] grid B Q) refl
     where
@@ -87,8 +93,11 @@ module _ (tested : Tested) (S : Scene) (grid log left : List ℕ) (B : Lists) (Q
       first fine p = second (eqb (u .answer .number) 0) refl p
       first (refuse n k) p = refl
 
-pub promised : (mode : code.Tested) (S : Scene) (grid log left : List ℕ) (B : Lists) (Q : ℕ) {v : Verdict} → v ≡ mendVerdict (testedBy mode) S grid log left B Q
-    → (v ≡ mendVerdict (testedBy mode) S grid log left B Q)
-    × (LogFor mode S grid log → left ≡ gridAfter S log grid → v ≡ mendPromise (testedBy mode) S grid log B Q)
-promised mode S grid log left B Q e =
-    (e, λ h l. let a = asked mode S grid log h in e ∙ second-check-idle (testedBy mode) S grid log left B Q (a .0) (a .1) l)
+pub promised : (mode : code.Tested) (S : Scene) (grid log left : List ℕ) (B : Lists) (Q : ℕ) {o : Ending} → o ≡ mendEnding (testedBy mode) S grid log left B Q
+    → (o ≡ mendEnding (testedBy mode) S grid log left B Q)
+    × (LogFor mode S grid log → left ≡ gridAfter S log grid → o .verdict ≡ mendPromise (testedBy mode) S grid log B Q)
+promised mode S grid log left B Q e = (
+  e,
+  λ h l. let a = asked mode S grid log h in
+      ap (λ (o : Ending). o .verdict) e ∙ second-check-idle (testedBy mode) S grid log left B Q (a .0) (a .1) l,
+)

@@ -27,7 +27,8 @@ use Rattle.answers.specs.declared.Verdict.the-variants.{Fine}
 use Rattle.release.specs.declared.one_by_one.Went.{Went}
 use Rattle.demands.specs.Contracts.{Meshes, Updates, Checks}
 use Rattle.demands.specs.Chunks.{gridAfter, LogFor}
-use Rattle.release.specs.OneByOne.{Course, through, halted, wentOf, onward, entryLog, calls, verdictOn, checkedOn, chain, chainPromise, chainVerdict}
+use Rattle.release.specs.OneByOne.{Progress, through, halted, wentOf, onward, entryLog, calls, verdictOn, checkedOn, endsOn, chain, chainPromise, chainEnding}
+use Rattle.release.specs.Composed.{Ending, endsWith, onlyAfter}
 use Rattle.demands.proofs.Telling.{numbered}
 use Rattle.demands.proofs.Stopped.{entry-stays}
 use Rattle.demands.proofs.Answers.{what-a-mesh-call-says}
@@ -35,7 +36,7 @@ use Rattle.demands.proofs.Fresh.{fresh-is-fine}
 use Rattle.demands.proofs.Mending.{still-fine, asked}
 
 -- an answer by the name that a `match` found it to have
-pub went : (exit : Lists) {k : Course} {a b : Went} → a ≡ b → wentOf a exit ≡ k → wentOf b exit ≡ k
+pub went : (exit : Lists) {k : Progress} {a b : Went} → a ≡ b → wentOf a exit ≡ k → wentOf b exit ≡ k
 went exit p e = ap (λ (x : Went). wentOf x exit) (sym p) ∙ e
 
 -- the lists keep their lengths
@@ -54,7 +55,7 @@ module _ (tested : Tested) (S : Scene) (log : List ℕ) (n : ℕ) (B₀ : Lists)
   pub starts : Calling tested S log n B₀ Q₀ 0 B₀ Q₀
   starts = record { kept = record { vertices = refl; triangles = refl; links = refl; slots = refl }; left = rw sub-zero }
 
-  abbrev rest : ℕ → Lists → ℕ → Course
+  abbrev rest : ℕ → Lists → ℕ → Progress
   rest k = calls tested S log (k + 1) (n - (k + 1))
 
   one-call : (k : ℕ) (B : Lists) (Q : ℕ) → k < n → calls tested S log k (n - k) B Q ≡ onward (updateMesh tested S (entryLog log k) B Q) (rest k)
@@ -115,7 +116,7 @@ module _ (log : List ℕ) (i : ℕ) (inside : i < length log / 12) where
 -- ---- a mesh that passed still passes
 
 -- where the calls come through, the check says Fine of what they left
-abbrev pub PassesOn : Scene → List ℕ → Course → Type 0
+abbrev pub PassesOn : Scene → List ℕ → Progress → Type 0
 PassesOn S grid (through B Q) = Checks S [] grid B Q Fine
 PassesOn S grid (halted number place B) = Unit {0}
 
@@ -163,31 +164,35 @@ one-by-one mode S log grid B Q p h =
 
 -- ---- a mesh made, mended by a call for each entry, and checked
 module _ (mode : code.Tested) (S : Scene) (grid log left : List ℕ) (B : Lists) where
-  idle-on : (c : Course) → PassesOn S left c → checkedOn S left c ≡ verdictOn c
+  idle-on : (c : Progress) → PassesOn S left c → checkedOn S left c ≡ verdictOn c
   idle-on (through C Q) p = sym p
   idle-on (halted number place C) p = refl
 
   made-fine : (exit : Lists) (quads : ℕ) → Meshes S [] grid true B (meshed.Done quads) exit → meshVerdict S [] grid true B ≡ fine
   made-fine exit quads e = what-a-mesh-call-says S [] grid true B (meshed.Done quads) exit e .accepted
 
-  pub chained : (exit : Lists) (quads : ℕ) {v : Verdict} → Meshes S [] grid true B (meshed.Done quads) exit
-      → v ≡ checkedOn S left (calls (testedBy mode) S log 0 (length log / 12) exit quads)
-      → (v ≡ chainVerdict (testedBy mode) S grid log left B) × (LogFor mode S grid log → left ≡ gridAfter S log grid → v ≡ chainPromise (testedBy mode) S grid log B)
+  pub chained : (exit : Lists) (quads : ℕ) {o : Ending} → Meshes S [] grid true B (meshed.Done quads) exit
+      → o ≡ endsOn S left (calls (testedBy mode) S log 0 (length log / 12) exit quads)
+      → (o ≡ chainEnding (testedBy mode) S grid log left B)
+      × (LogFor mode S grid log → left ≡ gridAfter S log grid → o .verdict ≡ chainPromise (testedBy mode) S grid log B)
   unfolding _then_
   chained exit quads e c =
-      let done : Outcome → Course = λ o. calls (testedBy mode) S log 0 (length log / 12) (o .lists) (o .answer .quads) in (
-        c ∙ (λ i. sym (made-fine exit quads e) i then checkedOn S left (done (e i))),
-        λ h l. c
+      let done : Outcome → Progress = λ o. calls (testedBy mode) S log 0 (length log / 12) (o .lists) (o .answer .quads) in
+      let accepted = sym (made-fine exit quads e) in (
+        c ∙ (λ i. onlyAfter (accepted i) (e i .lists) (endsOn S left (done (e i)))),
+        λ h l. ap (λ (o : Ending). o .verdict) c
             ∙ idle-on (calls (testedBy mode) S log 0 (length log / 12) exit quads)
             (subst (λ (g : List ℕ). PassesOn S g (calls (testedBy mode) S log 0 (length log / 12) exit quads)) (sym l)
             (one-by-one mode S log grid exit quads (fresh-is-fine S [] grid B exit quads e) h))
-            ∙ (λ i. sym (made-fine exit quads e) i then verdictOn (done (e i))),
+            ∙ (λ i. accepted i then verdictOn (done (e i))),
       )
 
   pub unmade : (exit : Lists) (why : Refusal) (place : ℕ) → Meshes S [] grid true B (meshed.Refused why place) exit
-      → (refuse (numberOf why) place ≡ chainVerdict (testedBy mode) S grid log left B)
+      → (endsWith (refuse (numberOf why) place) exit ≡ chainEnding (testedBy mode) S grid log left B)
       × (LogFor mode S grid log → left ≡ gridAfter S log grid → refuse (numberOf why) place ≡ chainPromise (testedBy mode) S grid log B)
   unfolding _then_
   unmade exit why place e =
-      let t = sym (what-a-mesh-call-says S [] grid true B (meshed.Refused why place) exit e .told) in
-      (λ i. t i then checkedOn S left (chain (testedBy mode) S grid log B), λ h l. λ i. t i then verdictOn (chain (testedBy mode) S grid log B))
+      let t = sym (what-a-mesh-call-says S [] grid true B (meshed.Refused why place) exit e .0 .told) in (
+        λ i. onlyAfter (t i) (e i .lists) (endsOn S left (chain (testedBy mode) S grid log B)),
+        λ h l. λ i. t i then verdictOn (chain (testedBy mode) S grid log B),
+      )

@@ -1,22 +1,42 @@
--- What the calls answer one after the other. Definitions only.
+-- What the calls answer one after the other, and what they leave. Definitions only.
 use Prim.Native.Nat.{ℕ}
-use mathlib.Core.Bool.{cond}
+use mathlib.Core.Bool.{true, cond}
 use mathlib.Core.List.{List, []}
 use lib.Dec.{eqb}
 use Rattle.rules.specs.Mesh.{Lists}
 use Rattle.rules.specs.Update.{Tested}
 use Rattle.rules.specs.Answers.{Verdict, fine, refuse, _then_}
-use Rattle.rules.specs.Calls.{Answer, Scene, updateMesh, checkVerdict}
+use Rattle.rules.specs.Calls.{Answer, Outcome, Scene, meshVerdict, meshGrid, updateMesh, checkVerdict}
+use Rattle.answers.specs.Verdicts.{refuses}
+
+-- the last verdict, and the lists as they are left
+pub record Ending : Type 0 where
+  pub verdict : Verdict
+  pub lists : Lists
+
+abbrev pub endsWith : Verdict → Lists → Ending
+endsWith v B = record { verdict = v; lists = B }
+
+-- after a verdict that refuses nothing, the rest; one that refuses is the last, and leaves the lists as they are by then
+abbrev pub onlyAfter : Verdict → Lists → Ending → Ending
+onlyAfter v B rest = endsWith (v then rest .verdict) (cond (refuses v) B (rest .lists))
 
 -- an answer of 0 refuses nothing
 abbrev pub verdictBy : Answer → Verdict
 verdictBy a = cond (eqb (a .number) 0) fine (refuse (a .number) (a .place))
 
+-- a mesh is made by Culling and checked for the same outer list: only the making can refuse
+abbrev pub makeEnding : Scene → List ℕ → List ℕ → Lists → Ending
+makeEnding S outer grid B = endsWith (meshVerdict S outer grid true B) ((meshGrid S outer grid true B) .lists)
+
 -- a mesh is checked with no outer face named, then mended: what refuses it, if anything does
 abbrev pub mendPromise : Tested → Scene → List ℕ → List ℕ → Lists → ℕ → Verdict
 mendPromise tested S grid log B Q = checkVerdict S [] grid B Q then verdictBy ((updateMesh tested S log B Q) .answer)
 
--- and checked again for the grid that is left
-abbrev pub mendVerdict : Tested → Scene → List ℕ → List ℕ → List ℕ → Lists → ℕ → Verdict
-mendVerdict tested S grid log left B Q =
-    let u = updateMesh tested S log B Q in checkVerdict S [] grid B Q then verdictBy (u .answer) then checkVerdict S [] left (u .lists) (u .answer .quads)
+-- a mesh that an update left, checked with no outer face named for the grid that is left
+abbrev pub mendedOn : Scene → List ℕ → Outcome → Ending
+mendedOn S left u = endsWith (verdictBy (u .answer) then checkVerdict S [] left (u .lists) (u .answer .quads)) (u .lists)
+
+-- a mesh is checked, mended, and checked again
+abbrev pub mendEnding : Tested → Scene → List ℕ → List ℕ → List ℕ → Lists → ℕ → Ending
+mendEnding tested S grid log left B Q = onlyAfter (checkVerdict S [] grid B Q) B (mendedOn S left (updateMesh tested S log B Q))

@@ -1,4 +1,5 @@
-// The calls one after the other, as whoever releases a chunk makes them; each contract is a promise that holds of the calls' contracts.
+// The calls one after the other, as whoever releases a chunk makes them; each contract is a promise that holds of the calls' contracts, and
+// says the lists that are left.
 use admit::Scene;
 use answers::Verdict;
 use answers::is_refusal;
@@ -10,15 +11,15 @@ use sides::Tested;
 use update::Updated;
 use update::update_mesh;
 ghost use mathlib.Core.Path.{_≡_};
-ghost use mathlib.Core.Bool.{true};
-ghost use Rattle.rules.specs.Calls.{meshVerdict};
 ghost use Rattle.answers.specs.Verdicts.{verdictOf};
 ghost use Rattle.admit.specs.Scenes.{sceneOf};
 ghost use Rattle.sides.specs.Tests.{testedBy};
 ghost use Rattle.rules.specs.Mesh.{listsOf};
 ghost use Rattle.demands.specs.Chunks.{LogFor, gridAfter};
-ghost use Rattle.release.specs.Composed.{mendVerdict, mendPromise};
+ghost use Rattle.release.specs.Composed.{endsWith, makeEnding, mendPromise, mendEnding};
 
+pub mod by_position; // by_position.rt: each C call alone
+pub mod by_word; // by_word.rt: each call alone
 pub mod one_by_one; // one_by_one.rt: a call for each entry of a log
 
 // Meshes a grid by Culling and checks what was made for the same outer list: the check refuses nothing.
@@ -34,8 +35,9 @@ pub fn make_and_check(
     covers: &[u8],
     cubes: &[u32],
 ) -> Verdict
-    ensures { λ r. ⌜ verdictOf r ≡ meshVerdict (sceneOf scene (now (kinds .entry)) (now (covers .entry)) (now (cubes .entry)))
-        (now (outer .entry)) (now (grid .entry)) true
+    ensures { λ r. ⌜ endsWith (verdictOf r) (listsOf (now (vertices .exit)) (now (triangles .exit)) (now (links .exit)) (now (slots .exit)))
+        ≡ makeEnding (sceneOf scene (now (kinds .entry)) (now (covers .entry)) (now (cubes .entry)))
+        (now (outer .entry)) (now (grid .entry))
         (listsOf (now (vertices .entry)) (now (triangles .entry)) (now (links .entry)) (now (slots .entry))) ⌝ }
 {
     let made = mesh_grid(
@@ -85,7 +87,8 @@ pub fn mend_and_check(
     log: &[u8],
     left: &[u8],
 ) -> Verdict
-    ensures { λ r. ⌜ (verdictOf r ≡ mendVerdict (testedBy tested) (sceneOf scene (now (kinds .entry)) (now (covers .entry)) (now (cubes .entry)))
+    ensures { λ r. ⌜ (endsWith (verdictOf r) (listsOf (now (vertices .exit)) (now (triangles .exit)) (now (links .exit)) (now (slots .exit)))
+        ≡ mendEnding (testedBy tested) (sceneOf scene (now (kinds .entry)) (now (covers .entry)) (now (cubes .entry)))
         (now (grid .entry)) (now (log .entry)) (now (left .entry))
         (listsOf (now (vertices .entry)) (now (triangles .entry)) (now (links .entry)) (now (slots .entry))) quads)
         × (LogFor tested (sceneOf scene (now (kinds .entry)) (now (covers .entry)) (now (cubes .entry))) (now (grid .entry)) (now (log .entry))

@@ -17,7 +17,8 @@ ghost use Rattle.admit.specs.Scenes.{sceneOf};
 ghost use Rattle.sides.specs.Tests.{testedBy};
 ghost use Rattle.rules.specs.Mesh.{listsOf};
 ghost use Rattle.demands.specs.Chunks.{LogFor, gridAfter};
-ghost use Rattle.release.specs.OneByOne.{wentOf, calls, checkedOn, chainVerdict, chainPromise};
+ghost use Rattle.release.specs.Composed.{endsWith};
+ghost use Rattle.release.specs.OneByOne.{wentOf, calls, endsOn, chainPromise, chainEnding};
 
 // How far the calls went: through them all, with so many quads, or to one that was refused.
 pub enum Went {
@@ -91,7 +92,8 @@ fn mend_each_and_check(
     left: &[u8],
     quads: usize,
 ) -> Verdict
-    ensures { λ r. ⌜ verdictOf r ≡ checkedOn (sceneOf scene (now (kinds .entry)) (now (covers .entry)) (now (cubes .entry))) (now (left .entry))
+    ensures { λ r. ⌜ endsWith (verdictOf r) (listsOf (now (vertices .exit)) (now (triangles .exit)) (now (links .exit)) (now (slots .exit)))
+        ≡ endsOn (sceneOf scene (now (kinds .entry)) (now (covers .entry)) (now (cubes .entry))) (now (left .entry))
         (calls (testedBy tested) (sceneOf scene (now (kinds .entry)) (now (covers .entry)) (now (cubes .entry)))
         (now (log .entry)) 0 (length (now (log .entry)) / 12)
         (listsOf (now (vertices .entry)) (now (triangles .entry)) (now (links .entry)) (now (slots .entry))) quads) ⌝ }
@@ -143,7 +145,8 @@ pub fn make_mend_and_check(
     log: &[u8],
     left: &[u8],
 ) -> Verdict
-    ensures { λ r. ⌜ (verdictOf r ≡ chainVerdict (testedBy tested) (sceneOf scene (now (kinds .entry)) (now (covers .entry)) (now (cubes .entry)))
+    ensures { λ r. ⌜ (endsWith (verdictOf r) (listsOf (now (vertices .exit)) (now (triangles .exit)) (now (links .exit)) (now (slots .exit)))
+        ≡ chainEnding (testedBy tested) (sceneOf scene (now (kinds .entry)) (now (covers .entry)) (now (cubes .entry)))
         (now (grid .entry)) (now (log .entry)) (now (left .entry))
         (listsOf (now (vertices .entry)) (now (triangles .entry)) (now (links .entry)) (now (slots .entry))))
         × (LogFor tested (sceneOf scene (now (kinds .entry)) (now (covers .entry)) (now (cubes .entry))) (now (grid .entry)) (now (log .entry))

@@ -6,8 +6,8 @@ use Rattle.rules.specs.Answers.{fine}
 use Rattle.rules.specs.Calls.{Scene, checkVerdict}
 use Rattle.admit.specs.Scenes.{sceneOf}
 use Rattle.sides.specs.Tests.{testedBy}
-use Rattle.answers.proofs.Chains.{stops, passes}
-use Rattle.release.proofs.Composed.{updates, mended, refused, promised}
+use Rattle.answers.proofs.Chains.{passes}
+use Rattle.release.proofs.Composed.{updates, stopped, mended, refused, promised}
 use borrow.Author.Needs.{needs}
 use Rattle.release.proofs.mend_and_check.Statement.{statement}
 use Rattle.release.proofs.mend_and_check.Tie as tie
@@ -53,7 +53,8 @@ returns c =
     let k = c .before .before in
     let t = start k in
     promised (t .args .tested) (scene t) (t .args .grid .now) (t .args .log .now) (t .args .left .now) (lists t) (t .args .quads)
-    (stops _ _ _ (k .check-mesh .ensures) (sym (c .before .is-refusal .ensures) ∙ c .if1 .taken))
+    (stopped (testedBy (t .args .tested)) (scene t) (t .args .grid .now) (t .args .log .now) (t .args .left .now) (lists t) (t .args .quads) _
+    (k .check-mesh .ensures) (sym (c .before .is-refusal .ensures) ∙ c .if1 .taken))
 
 update-mesh-requires : tie.Need-update-mesh-requires
 update-mesh-requires c κs = search needs

@@ -3,7 +3,8 @@ use mathlib.Core.Path.{ap, _∙_}
 use Rattle.rules.specs.Mesh.{Lists, listsOf}
 use Rattle.rules.specs.Calls.{Scene}
 use Rattle.admit.specs.Scenes.{sceneOf}
-use Rattle.release.specs.OneByOne.{checkedOn}
+use Rattle.release.specs.Composed.{endsWith}
+use Rattle.release.specs.OneByOne.{endsOn}
 use Rattle.release.proofs.OneByOne.{went}
 use borrow.Author.Needs.{needs}
 use Rattle.release.proofs.one_by_one.mend_each_and_check.Statement.{statement}
@@ -50,7 +51,8 @@ returns c =
     let told = c .before .before .before .before .before .before in
     let m = told .before .before .before .before .before .before .before .before .before .before .before in
     let t = start m in
-    c .check-mesh .ensures ∙ ap (checkedOn (scene t) (t .args .left .now)) (went (exit m) (told .before .went .given .1) (m .mend-by-entries .ensures))
+    (λ i. endsWith (c .check-mesh .ensures i) (exit m))
+    ∙ ap (endsOn (scene t) (t .args .left .now)) (went (exit m) (told .before .went .given .1) (m .mend-by-entries .ensures))
 
 same-length-5 : tie.Need-same-length-5
 same-length-5 c = search needs
@@ -68,7 +70,7 @@ returns-2 : tie.Need-returns-2
 returns-2 c =
     let m = c .before .before .before .before .before .before .before .before .before .before .before in
     let t = start m in
-    ap (checkedOn (scene t) (t .args .left .now)) (went (exit m) (c .before .went2 .given .1) (m .mend-by-entries .ensures))
+    ap (endsOn (scene t) (t .args .left .now)) (went (exit m) (c .before .went2 .given .1) (m .mend-by-entries .ensures))
 
 pub mend-each-and-check-spec : {M : Type 1} → statement M
 mend-each-and-check-spec =
