@@ -11,7 +11,7 @@ use Rattle.rules.specs.Mesh.{Lists}
 use Rattle.rules.specs.Update.{source, AddsAlike}
 use Rattle.rules.specs.Answers.{fine}
 use Rattle.rules.specs.Check.{Right}
-use Rattle.rules.specs.Calls.{Answer, CubeOutcome, generateVoxelMesh, Outcome, Scene, answered, world, span, entriesOf, openVerdict, meshGrid, updateMesh, checkVerdict, checkMesh}
+use Rattle.rules.specs.Calls.{Answer, CubeOutcome, generateVoxelMesh, Outcome, Scene, answered, world, span, lentVerdict, entriesOf, openVerdict, meshGrid, updateMesh, checkVerdict, checkMesh}
 use Rattle.rules.proofs.Refusals.{CUBE, MESH, UPDATE, CHECK, check-numbers, cube-number, mesh-number, update-number, check-number, zero-fine, cube-refused, mesh-refused, update-refused}
 use Rattle.rules.proofs.Modes.{itself-alike, modes-agree}
 use Rattle.rules.proofs.Demands.{accepts-exactly, fresh-accepted, mended-accepted}
@@ -20,6 +20,7 @@ use Rattle.exports.specs.Answers.{testedFrom, answer, outcome}
 use Rattle.demands.specs.Contracts.{TellsCube, TellsMesh, TellsUpdate, TellsCheck}
 use Rattle.demands.specs.Chunks.{firstOf, gridAfter, FillingLog, AlikeLog, MendableLog}
 use Rattle.demands.proofs.Answers.{out-of-room-keeps-the-entries-before}
+use Rattle.demands.proofs.Room.{left-is-taken}
 use Rattle.demands.proofs.Exact.{the-check-is-exact}
 
 -- one outcome: what two answers tell, and the lists they leave, are the same
@@ -84,6 +85,11 @@ pub out-of-room-c-keeps-the-entries-before : (tested : ℕ) (S : Scene) (log : L
 out-of-room-c-keeps-the-entries-before tested S log B Q a exit z e =
     out-of-room-keeps-the-entries-before (testedFrom tested) S log B Q (a .place) (record { quads = a .quads; moved = a .moved }) exit
     ((λ i. outcome (answer (sym z i) (a .place) (a .quads) (a .moved)) exit) ∙ e)
+
+-- what a call leaves that returns 0 or 14 passes 9 to 12 again, whatever the log was
+pub what-a-c-update-leaves-is-taken : (tested : ℕ) (S : Scene) (log : List ℕ) (B : Lists) (Q : ℕ) (a : Answer) (exit : Lists)
+    → member (a .number) (0 ∷ 14 ∷ []) ≡ true → TellsUpdate tested S log B Q a exit → lentVerdict S exit (a .quads) ≡ fine
+what-a-c-update-leaves-is-taken tested = left-is-taken (testedFrom tested)
 
 pub the-c-check-is-exact : (S : Scene) (outer grid : List ℕ) (B : Lists) (Q number place : ℕ) → TellsCheck S outer grid B Q number place
     → (number ≡ 0) ↔ ((openVerdict S outer grid B Q ≡ fine) × Right (world S) outer grid (span S) B Q)

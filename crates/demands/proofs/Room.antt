@@ -15,11 +15,11 @@ use Rattle.rules.specs.Cells.{cells}
 use Rattle.rules.specs.Mesh.{Quad, Lists, decode}
 use Rattle.rules.specs.Update.{Tested, Work, Course, work, entryAt, needed, meshAfter}
 use Rattle.rules.specs.Answers.{Verdict, fine, refuse, _then_, BAD-ENTRY}
-use Rattle.rules.specs.Calls.{Scene, world, span, room, lentVerdict, updateVerdict, course, checkBy}
+use Rattle.rules.specs.Calls.{Answer, Outcome, answered, Scene, world, span, room, lentVerdict, updateVerdict, course, updateMesh, checkBy}
 use Rattle.rules.proofs.ListLaws.{member-append}
 use Rattle.rules.proofs.Refusals.{Within, given, entry-numbers}
 use Rattle.rules.proofs.Courses.{entry-moves, through, course-moves}
-use Rattle.rules.proofs.Demands.{asked-of, ran-lent}
+use Rattle.rules.proofs.Demands.{asked-of, left-lent}
 use Rattle.answers.specs.declared.Refusal.{Refusal}
 use Rattle.answers.specs.declared.Refusal.the-variants.{NoRoom}
 use Rattle.answers.specs.Verdicts.{numberOf}
@@ -27,6 +27,7 @@ use Rattle.mending.specs.declared.Count.{Count}
 use Rattle.update.specs.declared.Updated.{Updated}
 use Rattle.update.specs.declared.Updated.the-variants as updated
 use Rattle.update.specs.Outcome.{outcomeOf}
+use Rattle.exports.specs.Answers.{answer, outcome}
 use Rattle.demands.specs.Contracts.{Updates}
 use Rattle.demands.specs.Chunks.{firstOf}
 use Rattle.demands.specs.Room.{asks, FindsRoom, FirstWithout, Did, whole, early}
@@ -49,13 +50,20 @@ done-first tested S log entry Q exit (early k count) e =
     let h = s .inLog in
     (firstOf k log, omega (arith, length-take-le (12 * k) log (omega arith)), s .before)
 
--- after any log, honest or foolish, that is answered Done or NO_ROOM, lists and count pass 9 to 12 again
+-- after any log, honest or foolish, that is answered Done or NO_ROOM (0 or 14), lists and count pass 9 to 12 again
+pub left-is-taken : (tested : Tested) (S : Scene) (log : List ℕ) (entry : Lists) (Q : ℕ) (a : Answer) (exit : Lists)
+    → member (a .number) (0 ∷ 14 ∷ []) ≡ true → outcome a exit ≡ updateMesh tested S log entry Q → lentVerdict S exit (a .quads) ≡ fine
+left-is-taken tested S log entry Q a exit h e =
+    subst (λ (o : Outcome). lentVerdict S (o .lists) (o .answer .quads) ≡ fine) (sym e)
+    (left-lent tested S log entry Q (subst (λ (o : Outcome). member (o .answer .number) (0 ∷ 14 ∷ []) ≡ true) e h))
+
 pub what-an-update-leaves-is-taken : (tested : Tested) (S : Scene) (log : List ℕ) (entry : Lists) (Q : ℕ) (r : Updated) (k : ℕ) (count : Count)
     (exit : Lists) → Did log r k count → Updates tested S log entry Q r exit → lentVerdict S exit (count .quads) ≡ fine
-what-an-update-leaves-is-taken tested S log entry Q r k count exit d e =
-    let f = done-first tested S log entry Q exit d e in
-    let a = what-an-update-call-says tested S (f .0) entry Q (updated.Done count) exit (f .2) in
-    (λ i. lentVerdict S (a .laid i) (a .quads i)) ∙ ran-lent tested S (f .0) entry Q (a .accepted)
+what-an-update-leaves-is-taken tested S log entry Q r k count exit d e = by d e
+  where
+    by : {r : Updated} {k : ℕ} {count : Count} → Did log r k count → Updates tested S log entry Q r exit → lentVerdict S exit (count .quads) ≡ fine
+    by (whole count) e = left-is-taken tested S log entry Q (answered (count .quads) (count .moved)) exit refl e
+    by (early k count) e = left-is-taken tested S log entry Q (answer 14 k (count .quads) (count .moved)) exit refl e
 
 -- so the next update, by any log in either mode, can refuse that log alone: 13, or 14
 pub the-next-update-refuses-its-log-alone : (tested next : Tested) (S : Scene) (log : List ℕ) (entry : Lists) (Q : ℕ) (r : Updated) (k : ℕ) (count : Count)

@@ -12,7 +12,7 @@ use lib.Dec.{eqb, leb, ltb}
 use lib.ListN.{length, getD, set, drop, length-set, length-drop}
 use lib.Seq.{getD-set-same, getD-set-other, length-take-le}
 use borrow.Author.Tests.{eqb-true, eq-eqb, ltb-false, le-ltb, leb-false, lt-leb}
-use Rattle.rules.specs.Lists.{each, table, row}
+use Rattle.rules.specs.Lists.{each, table, row, member}
 use Rattle.rules.specs.Cells.{Size, cells, keyOf}
 use Rattle.rules.specs.Types.{Types, floats, quadWord, quadWords, cubeOf}
 use Rattle.rules.specs.Mesh.{Quad, World, Lists, drawn, allSides, culled, decode, layout, meshBy as quadsOf}
@@ -20,14 +20,14 @@ use Rattle.rules.specs.Update.{Change, Broken, Added, CullFaces, AddFace
 use Rattle.rules.specs.Answers.{Verdict, fine, refuse, _then_, refuseIf, refuseLowest, outOf, badLimits, BAD-SIZE, BAD-GRID, badCounts, badType, BAD-TYPES, BAD-NUMBER, NOT-A-CUBE, BAD-OUTER, BAD-CELL, SHORT-SLOTS, roomOf, BAD-COUNT, BAD-LINKS, BAD-TRIANGLES, badEntry, BAD-ENTRY, NO-ROOM, WRONG-SET, WRONG-VERTEX}
 use Rattle.rules.specs.Check.{linked, Holds, Right}
 use Rattle.rules.specs.Calls.{Answer, answered, refused, Scene, wordsIn, world, span, faces, room, typesVerdict, Outcome, freshMesh, meshVerdict, meshBy, meshGrid, lentVerdict, updateVerdict, entriesOf, course, courseAnswer, updateBy, updateMesh, openVerdict, bookVerdict, faceVerdict, checkVerdict, checkBy, checkMesh}
-use Rattle.rules.proofs.ListLaws.{All, all-of, all-each, split, or-false, not-true, length-table, length-each}
+use Rattle.rules.proofs.ListLaws.{All, all-of, all-each, split, both-ways, or-false, not-true, length-table, length-each}
 use Rattle.rules.proofs.Quads.{Once}
 use Rattle.rules.proofs.Laying.{Fits, length-vertices, length-triangles, length-links, length-slots, once-of-distinct, decode-layout}
 use Rattle.rules.proofs.Checking.{then-fine, fine-then, if-fine, fine-if, lowest-fine, fine-lowest, Book, book-of-fine, fine-of-book, book-of-laid, length-decode, key-decode, words-decode, distinct-decode, right-of-fine, fine-of-right, shows-of-right, right-of-shows}
 use Rattle.rules.proofs.Mending.{Sound, Shows, shows-once, no-side, not-drawn, fresh-sides, fresh-shows}
 use Rattle.rules.proofs.Ordered.{fresh-order}
 use Rattle.rules.proofs.Courses.{fits-fresh, fits-new, Sane, course-sane, mends-log, length-log}
-use Rattle.rules.proofs.Refusals.{Within, MESH, UPDATE, CHECK, mesh-numbers, update-numbers, check-numbers, zero-fine}
+use Rattle.rules.proofs.Refusals.{Within, given, MESH, UPDATE, CHECK, mesh-numbers, update-numbers, check-numbers, zero-fine}
 
 -- ---- what the refusals leave
 module _ (S : Scene) where
@@ -360,6 +360,33 @@ module _ (tested : Tested) (S : Scene) (log : List ℕ) (B : Lists) (Q : ℕ) (a
   -- LAW: whatever the log, what it leaves passes 9 to 12 again
   pub ran-lent : let c = course tested S log B Q in lentVerdict S (layout (faces S) (span S) (c .highest) (c .quads) B) (length (c .quads)) ≡ fine
   ran-lent = laid-lent S B (ran .highest) (ran .quads) (asked-of .size) (asked-of .slots) ran-sane
+
+-- LAW: so do lists and count after an update that tells 0 or 14
+pub left-lent : (tested : Tested) (S : Scene) (log : List ℕ) (B : Lists) (Q : ℕ) → let o = updateMesh tested S log B Q in
+    member (o .answer .number) (0 ∷ 14 ∷ []) ≡ true → lentVerdict S (o .lists) (o .answer .quads) ≡ fine
+left-lent tested S log B Q = go (updateVerdict S log B Q) refl (update-numbers S log B Q)
+  where
+    c : Course
+    c = course tested S log B Q
+
+    counted : (o : Option ℕ) → (courseAnswer c o) .quads ≡ length (c .quads)
+    counted none = refl
+    counted (some k) = refl
+
+    -- 0 and 14 are no refusal of what is lent
+    neither : (n : ℕ) → member n UPDATE ≡ true → member n (0 ∷ 14 ∷ []) ≡ false
+    neither n h =
+        both-ways (member n (0 ∷ 14 ∷ []))
+        (λ t. split (λ b. eqb n 0 ≡ b → cond b true (cond (eqb n 14) true false) ≡ true → ⊥) (eqb n 0)
+        (λ x e r. false≢true (ap (λ (i : ℕ). member i UPDATE) (sym (eqb-true n 0 e)) ∙ h))
+        (λ x e r. split (λ b. eqb n 14 ≡ b → cond b true false ≡ true → ⊥) (eqb n 14)
+        (λ y f s. false≢true (ap (λ (i : ℕ). member i UPDATE) (sym (eqb-true n 14 f)) ∙ h)) (λ y f s. false≢true s) refl r) refl t)
+
+    go : (v : Verdict) → updateVerdict S log B Q ≡ v → Within UPDATE v → member ((updateBy v S c B) .answer .number) (0 ∷ 14 ∷ []) ≡ true
+        → lentVerdict S ((updateBy v S c B) .lists) ((updateBy v S c B) .answer .quads) ≡ fine
+    go fine t w h =
+        ap (λ (q : ℕ). lentVerdict S (layout (faces S) (span S) (c .highest) (c .quads) B) q) (counted (c .full)) ∙ ran-lent tested S log B Q t
+    go (refuse n p) t (given k) h = absurd (false≢true (sym (neither n k) ∙ h))
 
 module _ (tested : Tested) (S : Scene) (g log : List ℕ) (B : Lists) (Q : ℕ) where
   abbrev c : Course
