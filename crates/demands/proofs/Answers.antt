@@ -1,6 +1,6 @@
 -- Demand 1, "every public call takes all input, damaged meshes and logs among it, ends, and answers a result or one numbered refusal. A refused
 -- call changes no lent list; only an update out of room keeps the entries before the one it stopped at, complete, and says how many", and
--- demand 2, "cubes, fresh meshes and updates are proved against 01's face rules": all that an answer says.
+-- demand 2, "cubes, fresh meshes and updates .. are proved against 01's face rules": all that an answer says.
 -- That a call ends, for all input, is proved with its code: none of the four has a `requires`. Assumes nothing.
 use Prim.Native.Nat.{ℕ, _*_, _/_, _<_}
 use mathlib.Core.Path.{_≡_, refl, sym, ap, _∙_, subst}
@@ -36,8 +36,9 @@ use Rattle.update.specs.declared.Updated.the-variants as updated
 use Rattle.update.specs.Outcome.{outcomeOf}
 use Rattle.demands.specs.Contracts.{Cubes, Meshes, Updates, Checks}
 use Rattle.demands.specs.Chunks.{firstOf}
+use Rattle.demands.specs.Room.{FirstWithout}
 use Rattle.demands.proofs.Telling.{numbered}
-use Rattle.demands.proofs.Stopped.{in-log, no-room-there, done-before}
+use Rattle.demands.proofs.Stopped.{first-without, done-before}
 
 -- a refusal: one of the call's own numbers, which 01's tests in their order give
 pub record Refuses (numbers : List ℕ) (verdict : rules.Verdict) (number place : ℕ) : Type 0 where
@@ -135,11 +136,10 @@ pub record Ran (tested : Tested) (S : Scene) (log : List ℕ) (entry : Lists) (Q
   pub moved : count .moved ≡ (course tested S log entry Q) .moved
   pub laid : let c = course tested S log entry Q in exit ≡ layout (faces S) (span S) (c .highest) (c .quads) entry
 
--- out of room at entry k: the call for the entries before it alone, k of them, answers Done with the same count and the same lists
+-- out of room at entry k, the first without: the call for the entries before it alone, k of them, answers Done with the same count and the same lists
 pub record Stopped (tested : Tested) (S : Scene) (log : List ℕ) (entry : Lists) (Q k : ℕ) (count : Count) (exit : Lists) : Type 0 where
   pub ran : Ran tested S log entry Q (some k) count exit
-  pub inLog : k < length log / 12
-  pub noRoom : room S entry < needed (work tested (world S) (entryAt log k)) ((course tested S log entry Q) .quads)
+  pub first : FirstWithout tested S log entry Q k
   pub before : Updates tested S (firstOf k log) entry Q (updated.Done count) exit
 
 -- a refusal counts nothing and changes nothing; NO_ROOM alone, 14, tells what the entries before it did, and keeps them
@@ -183,8 +183,7 @@ what-an-update-call-says tested S log entry Q r exit e =
           stopped = λ _. record {
             ran = ran count (some k) t p (ap (λ (o : Outcome). o .answer .quads) e) (ap (λ (o : Outcome). o .answer .moved) e)
                 (ap (λ (o : Outcome). o .lists) e);
-            inLog = in-log tested S log entry Q k t p;
-            noRoom = no-room-there tested S log entry Q k t p;
+            first = first-without tested S log entry Q k p;
             before = (λ i. record { answer = record { number = 0; place = 0; quads = e i .answer .quads; moved = e i .answer .moved }; lists = e i .lists })
                 ∙ sym (done-before tested S log entry Q k t p);
           };

@@ -1,9 +1,11 @@
--- The same promises of the C calls, whose answers are 01's numbers. Assumes nothing.
-use Prim.Native.Nat.{ℕ}
+-- Of these promises, those that are said of the C calls too, whose answers are 01's numbers. Assumes nothing.
+use Prim.Native.Nat.{ℕ, _/_, _≤_}
 use mathlib.Core.Path.{_≡_, refl, sym, ap, _∙_, subst}
 use mathlib.Core.Logic.{_≢_, _↔_}
 use mathlib.Core.Bool.{Bool, true}
 use mathlib.Core.List.{List, [], _∷_, _++_}
+use native.Mathlib.Omega.{arith}
+use lib.ListN.{length}
 use borrow.Author.Tests.{ne-eqb}
 use Rattle.rules.specs.Lists.{member}
 use Rattle.rules.specs.Cube.{Shape}
@@ -15,12 +17,15 @@ use Rattle.rules.specs.Calls.{Answer, CubeOutcome, generateVoxelMesh, Outcome, 
 use Rattle.rules.proofs.Refusals.{CUBE, MESH, UPDATE, CHECK, check-numbers, cube-number, mesh-number, update-number, check-number, zero-fine, cube-refused, mesh-refused, update-refused}
 use Rattle.rules.proofs.Modes.{itself-alike, modes-agree}
 use Rattle.rules.proofs.Demands.{accepts-exactly, fresh-accepted, mended-accepted}
+use Rattle.answers.specs.declared.Refusal.the-variants.{NoRoom}
 use Rattle.answers.specs.declared.Verdict.the-variants.{Fine}
+use Rattle.update.specs.declared.Updated.the-variants.{Refused}
 use Rattle.exports.specs.Answers.{testedFrom, answer, outcome}
 use Rattle.demands.specs.Contracts.{TellsCube, TellsMesh, TellsUpdate, TellsCheck}
 use Rattle.demands.specs.Chunks.{firstOf, gridAfter, FillingLog, AlikeLog, MendableLog}
-use Rattle.demands.proofs.Answers.{out-of-room-keeps-the-entries-before}
-use Rattle.demands.proofs.Room.{left-is-taken}
+use Rattle.demands.proofs.Answers.{Stopped, what-an-update-call-says}
+use Rattle.demands.proofs.Lent.{left-is-taken}
+use Rattle.demands.proofs.Mending.{first-filling, first-alike}
 use Rattle.demands.proofs.Exact.{the-check-is-exact}
 
 -- one outcome: what two answers tell, and the lists they leave, are the same
@@ -79,12 +84,16 @@ a-refused-c-update-changes-nothing tested S log B Q a exit d f e =
     ap (λ (o : Outcome). o .lists) e
     ∙ update-refused (testedFrom tested) S log B Q (subst (λ (o : Outcome). o .answer .number ≢ 0) e d) (subst (λ (o : Outcome). o .answer .number ≢ 14) e f)
 
+stopped-c : (tested : ℕ) (S : Scene) (log : List ℕ) (B : Lists) (Q : ℕ) (a : Answer) (exit : Lists) → a .number ≡ 14
+    → TellsUpdate tested S log B Q a exit → Stopped (testedFrom tested) S log B Q (a .place) (record { quads = a .quads; moved = a .moved }) exit
+stopped-c tested S log B Q a exit z e =
+    what-an-update-call-says (testedFrom tested) S log B Q (Refused NoRoom (a .place) (record { quads = a .quads; moved = a .moved })) exit
+    ((λ i. outcome (answer (sym z i) (a .place) (a .quads) (a .moved)) exit) ∙ e) .stopped refl
+
 -- the one exception: what is left is what the call for the entries before it leaves
 pub out-of-room-c-keeps-the-entries-before : (tested : ℕ) (S : Scene) (log : List ℕ) (B : Lists) (Q : ℕ) (a : Answer) (exit : Lists) → a .number ≡ 14
     → TellsUpdate tested S log B Q a exit → TellsUpdate tested S (firstOf (a .place) log) B Q (answer 0 0 (a .quads) (a .moved)) exit
-out-of-room-c-keeps-the-entries-before tested S log B Q a exit z e =
-    out-of-room-keeps-the-entries-before (testedFrom tested) S log B Q (a .place) (record { quads = a .quads; moved = a .moved }) exit
-    ((λ i. outcome (answer (sym z i) (a .place) (a .quads) (a .moved)) exit) ∙ e)
+out-of-room-c-keeps-the-entries-before tested S log B Q a exit z e = stopped-c tested S log B Q a exit z e .before
 
 -- what a call leaves that returns 0 or 14 passes 9 to 12 again, whatever the log was
 pub what-a-c-update-leaves-is-taken : (tested : ℕ) (S : Scene) (log : List ℕ) (B : Lists) (Q : ℕ) (a : Answer) (exit : Lists)
@@ -126,6 +135,16 @@ pub a-c-mesh-mended-with-slabs-passes : (tested : ℕ) (S : Scene) (log grid : L
     → TellsCheck S [] (gridAfter S log grid) exit (a .quads) number place → number ≡ 0
 a-c-mesh-mended-with-slabs-passes tested S log grid B Q before a exit number place d p h =
     c-mended tested S log grid B Q before a exit number place p h (rw (ne-eqb tested 0 d) (itself-alike (world S) (entriesOf log)))
+
+-- out of room: the mesh passes for the grid after the entries that were done
+pub out-of-room-c-and-still-right : (tested : ℕ) (S : Scene) (log grid : List ℕ) (B : Lists) (Q before : ℕ) (a : Answer) (exit : Lists) (number place : ℕ)
+    → TellsCheck S [] grid B Q 0 before → FillingLog S grid log → AddsAlike (testedFrom tested) (world S) (entriesOf log) → a .number ≡ 14
+    → TellsUpdate tested S log B Q a exit → TellsCheck S [] (gridAfter S (firstOf (a .place) log) grid) exit (a .quads) number place → number ≡ 0
+out-of-room-c-and-still-right tested S log grid B Q before a exit number place p h alike z e c =
+    let s = stopped-c tested S log B Q a exit z e in
+    let l : a .place ≤ length log / 12 = omega (arith, s .first .inLog) in
+    c-mended tested S (firstOf (a .place) log) grid B Q before (answer 0 0 (a .quads) (a .moved)) exit number place p
+    (first-filling S log (a .place) l grid h) (first-alike S log (a .place) l (testedFrom tested) alike) refl (s .before) c
 
 -- for cubes that cover opposite sides alike both modes give the same answer and the same lists
 pub both-c-modes-agree : (tested : ℕ) (S : Scene) (log : List ℕ) (B : Lists) (Q : ℕ) (a b : Answer) (x y : Lists) → tested ≢ 0 → AlikeLog S log

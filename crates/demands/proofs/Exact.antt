@@ -1,5 +1,5 @@
--- Demand 3, "an added check accepts a mesh and its index exactly when they hold each face that culling the grid shows, once, and no other,
--- with the right vertices and triangles, index and quads naming each other". Assumes nothing.
+-- Demand 3, "an added check accepts a mesh and its index exactly when they are right": they hold each face that culling the grid shows, once, and no
+-- other, with the right vertices and triangles, index and quads naming each other. Assumes nothing.
 use Prim.Native.Nat.{ℕ}
 use mathlib.Core.Path.{_≡_, refl, sym, ap, _∙_}
 use mathlib.Core.Logic.{_↔_}

@@ -1,7 +1,8 @@
--- The promises, by the demand that they are of: Answers (1 and 2), Room (1), OneOutcome (1 and 2), Fresh (2 and 3), Exact and Mending (3);
--- ByNumber says them of the C calls. Telling and Stopped carry them.
+-- The promises, by the demand that they are of: Answers and OneOutcome (1 and 2), Room (1 and 2), Fresh (2 and 3), Exact (3), Mending (2 and 3);
+-- ByNumber says most of them of the C calls. Telling, Stopped and Lent carry them.
 pub mod Telling
 pub mod Stopped
+pub mod Lent
 pub mod Answers
 pub mod Room
 pub mod OneOutcome

@@ -68,30 +68,26 @@ mended-passes mode S log grid B exit Q count r passed true-log mended checked =
 -- ---- out of room, and still right
 
 -- the first entries of a log of demand 3 are such a log
-first-of-such-a-log : (mode : Tested) (S : Scene) (grid log : List ℕ) (k : ℕ) → k ≤ length log / 12 → LogFor mode S grid log
-    → LogFor mode S grid (firstOf k log)
-first-of-such-a-log mode S grid log k h l = go mode l
-  where
-    rest : List Entry
-    rest = each (length log / 12 - k) k (λ j. entryAt log j ∷ [])
+module _ (S : Scene) (log : List ℕ) (k : ℕ) (inLog : k ≤ length log / 12) where
+  abbrev rest : List Entry
+  rest = each (length log / 12 - k) k (λ j. entryAt log j ∷ [])
 
-    split : entriesOf log ≡ entriesOf (firstOf k log) ++ rest
-    split = entries-first log k h
+  split : entriesOf log ≡ entriesOf (firstOf k log) ++ rest
+  split = entries-first log k inLog
 
-    filling : FillingLog S grid log → FillingLog S grid (firstOf k log)
-    filling f =
-        record {
-          honest = honest-first (world S) grid (entriesOf (firstOf k log)) rest (subst (Honest (world S) grid) split (f .honest));
-          mends = mends-first (world S) grid (entriesOf (firstOf k log)) rest (subst (Mends (world S) grid) split (f .mends));
-        }
+  pub first-filling : (grid : List ℕ) → FillingLog S grid log → FillingLog S grid (firstOf k log)
+  first-filling grid f =
+      record {
+        honest = honest-first (world S) grid (entriesOf (firstOf k log)) rest (subst (Honest (world S) grid) split (f .honest));
+        mends = mends-first (world S) grid (entriesOf (firstOf k log)) rest (subst (Mends (world S) grid) split (f .mends));
+      }
 
-    go : (mode : Tested) → LogFor mode S grid log → LogFor mode S grid (firstOf k log)
-    go Opposite l =
-        record {
-          filling = filling (l .filling);
-          alike = alike-first source (world S) (entriesOf (firstOf k log)) rest (subst (AddsAlike source (world S)) split (l .alike));
-        }
-    go Itself l = filling l
+  pub first-alike : (tested : rules.Tested) → AddsAlike tested (world S) (entriesOf log) → AddsAlike tested (world S) (entriesOf (firstOf k log))
+  first-alike tested a = alike-first tested (world S) (entriesOf (firstOf k log)) rest (subst (AddsAlike tested (world S)) split a)
+
+  first-of-such-a-log : (mode : Tested) (grid : List ℕ) → LogFor mode S grid log → LogFor mode S grid (firstOf k log)
+  first-of-such-a-log Opposite grid l = record { filling = first-filling grid (l .filling); alike = first-alike source (l .alike) }
+  first-of-such-a-log Itself grid l = first-filling grid l
 
 -- a log that stops at entry k for want of room leaves a mesh that passes for the grid after its first k entries
 pub out-of-room-and-still-right : (mode : Tested) (S : Scene) (log grid : List ℕ) (B exit : Lists) (Q k : ℕ) (count : Count) (r : Verdict)
@@ -99,57 +95,42 @@ pub out-of-room-and-still-right : (mode : Tested) (S : Scene) (log grid : List �
     → Checks S [] (gridAfter S (firstOf k log) grid) exit (count .quads) r → r ≡ Fine
 out-of-room-and-still-right mode S log grid B exit Q k count r passed true-log stopped checked =
     let s = what-an-update-call-says (testedBy mode) S log B Q (Refused NoRoom k count) exit stopped .stopped refl in
-    mended-passes mode S (firstOf k log) grid B exit Q count r passed (first-of-such-a-log mode S grid log k (omega (arith, s .inLog)) true-log) (s .before)
-    checked
+    mended-passes mode S (firstOf k log) grid B exit Q count r passed
+    (first-of-such-a-log S log k (omega (arith, s .first .inLog)) mode grid true-log) (s .before) checked
 
--- ---- any number of calls
+-- ---- one call
 
--- what passed still passes after n calls in one mode; calls in the other can follow
-pub still-passes : {mode : Tested} {S : Scene} {from k : Chunk} {n : ℕ} → Passes S from → Mended mode S from n k → Passes S k
-still-passes p untouched = p
-still-passes {mode = mode} {S = S} p (oneMore {k = k} log count exit calls true-log mended) =
-    mended-is-fine mode S log k exit count (still-passes p calls) true-log mended
-
--- mesh_grid by Culling with no outer face named, then n calls of update_mesh, then check_mesh for the grid that the logs left
-mended-often : (mode : Tested) (S : Scene) (grid : List ℕ) (B exit : Lists) (quads n : ℕ) (k : Chunk) (r : Verdict)
-    → Meshes S [] grid true B (meshed.Done quads) exit → Mended mode S (record { grid = grid; lists = exit; quads = quads }) n k
-    → Checks S [] (k .grid) (k .lists) (k .quads) r → r ≡ Fine
-mended-often mode S grid B exit quads n k r made mended checked =
-    one-check S [] (k .grid) (k .lists) (k .quads) r Fine checked (still-passes (fresh-is-fine S [] grid B exit quads made) mended)
-
--- ---- the source's mode
-
+-- the source's mode
 pub a-mended-mesh-passes : (S : Scene) (log grid : List ℕ) (B exit : Lists) (Q : ℕ) (count : Count) (r : Verdict)
     → Checks S [] grid B Q Fine → MendableLog S grid log → Updates source S log B Q (Done count) exit
     → Checks S [] (gridAfter S log grid) exit (count .quads) r → r ≡ Fine
 a-mended-mesh-passes = mended-passes Opposite
 
-pub mended-any-times : (S : Scene) (grid : List ℕ) (B exit : Lists) (quads n : ℕ) (k : Chunk) (r : Verdict)
-    → Meshes S [] grid true B (meshed.Done quads) exit → Mended Opposite S (record { grid = grid; lists = exit; quads = quads }) n k
-    → Checks S [] (k .grid) (k .lists) (k .quads) r → r ≡ Fine
-mended-any-times = mended-often Opposite
-
-pub mended-two-hundred-times : (S : Scene) (grid : List ℕ) (B exit : Lists) (quads : ℕ) (k : Chunk) (r : Verdict)
-    → Meshes S [] grid true B (meshed.Done quads) exit → Mended Opposite S (record { grid = grid; lists = exit; quads = quads }) 200 k
-    → Checks S [] (k .grid) (k .lists) (k .quads) r → r ≡ Fine
-mended-two-hundred-times S grid B exit quads = mended-any-times S grid B exit quads 200
-
--- ---- the new mode: no word about covers
-
+-- the new mode: no word about covers
 pub a-mesh-mended-with-slabs-passes : (S : Scene) (log grid : List ℕ) (B exit : Lists) (Q : ℕ) (count : Count) (r : Verdict)
     → Checks S [] grid B Q Fine → FillingLog S grid log → Updates itself S log B Q (Done count) exit
     → Checks S [] (gridAfter S log grid) exit (count .quads) r → r ≡ Fine
 a-mesh-mended-with-slabs-passes = mended-passes Itself
 
-pub mended-with-slabs-any-times : (S : Scene) (grid : List ℕ) (B exit : Lists) (quads n : ℕ) (k : Chunk) (r : Verdict)
-    → Meshes S [] grid true B (meshed.Done quads) exit → Mended Itself S (record { grid = grid; lists = exit; quads = quads }) n k
-    → Checks S [] (k .grid) (k .lists) (k .quads) r → r ≡ Fine
-mended-with-slabs-any-times = mended-often Itself
+-- ---- any number of calls, each in either mode
 
-pub mended-with-slabs-two-hundred-times : (S : Scene) (grid : List ℕ) (B exit : Lists) (quads : ℕ) (k : Chunk) (r : Verdict)
-    → Meshes S [] grid true B (meshed.Done quads) exit → Mended Itself S (record { grid = grid; lists = exit; quads = quads }) 200 k
+-- from any mesh that passes, however made
+pub still-passes : {S : Scene} {from k : Chunk} {n : ℕ} → Passes S from → Mended S from n k → Passes S k
+still-passes p untouched = p
+still-passes {S = S} p (oneMore {k = k} mode log count exit calls true-log mended) =
+    mended-is-fine mode S log k exit count (still-passes p calls) true-log mended
+
+-- mesh_grid by Culling with no outer face named, then n calls of update_mesh, then check_mesh for the grid that the logs left
+pub mended-any-times : (S : Scene) (grid : List ℕ) (B exit : Lists) (quads n : ℕ) (k : Chunk) (r : Verdict)
+    → Meshes S [] grid true B (meshed.Done quads) exit → Mended S (record { grid = grid; lists = exit; quads = quads }) n k
     → Checks S [] (k .grid) (k .lists) (k .quads) r → r ≡ Fine
-mended-with-slabs-two-hundred-times S grid B exit quads = mended-with-slabs-any-times S grid B exit quads 200
+mended-any-times S grid B exit quads n k r made mended checked =
+    one-check S [] (k .grid) (k .lists) (k .quads) r Fine checked (still-passes (fresh-is-fine S [] grid B exit quads made) mended)
+
+pub mended-two-hundred-times : (S : Scene) (grid : List ℕ) (B exit : Lists) (quads : ℕ) (k : Chunk) (r : Verdict)
+    → Meshes S [] grid true B (meshed.Done quads) exit → Mended S (record { grid = grid; lists = exit; quads = quads }) 200 k
+    → Checks S [] (k .grid) (k .lists) (k .quads) r → r ≡ Fine
+mended-two-hundred-times S grid B exit quads = mended-any-times S grid B exit quads 200
 
 -- ---- both modes
 

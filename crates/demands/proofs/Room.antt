@@ -1,6 +1,6 @@
 -- Demand 1, "only an update out of room keeps the entries before the one it stopped at, complete, and says how many": which entry that is, that
--- what is left is a mesh which the next call takes, and how far quads can have moved. Assumes nothing.
-use Prim.Native.Nat.{ℕ, _+_, _*_, _/_, _≤_, _<_}
+-- what is left is a mesh which the next update takes. Demand 2: how far quads can have moved. Assumes nothing.
+use Prim.Native.Nat.{ℕ, _*_, _/_, _≤_, _<_}
 use mathlib.Core.Path.{_≡_, refl, sym, ap, _∙_, subst}
 use mathlib.Core.Logic.{_↔_}
 use mathlib.Core.Bool.{true}
@@ -12,14 +12,14 @@ use lib.ListN.{length}
 use lib.Seq.{length-take-le}
 use Rattle.rules.specs.Lists.{member}
 use Rattle.rules.specs.Cells.{cells}
-use Rattle.rules.specs.Mesh.{Quad, Lists, decode}
-use Rattle.rules.specs.Update.{Tested, Work, Course, work, entryAt, needed, meshAfter}
+use Rattle.rules.specs.Mesh.{Lists, decode}
+use Rattle.rules.specs.Update.{Tested, Course, work, entryAt}
 use Rattle.rules.specs.Answers.{Verdict, fine, refuse, _then_, BAD-ENTRY}
 use Rattle.rules.specs.Calls.{Answer, Outcome, answered, Scene, world, span, room, lentVerdict, updateVerdict, course, updateMesh, checkBy}
 use Rattle.rules.proofs.ListLaws.{member-append}
 use Rattle.rules.proofs.Refusals.{Within, given, entry-numbers}
-use Rattle.rules.proofs.Courses.{entry-moves, through, course-moves}
-use Rattle.rules.proofs.Demands.{asked-of, left-lent}
+use Rattle.rules.proofs.Courses.{entry-moves, course-moves}
+use Rattle.rules.proofs.Demands.{asked-of}
 use Rattle.answers.specs.declared.Refusal.{Refusal}
 use Rattle.answers.specs.declared.Refusal.the-variants.{NoRoom}
 use Rattle.answers.specs.Verdicts.{numberOf}
@@ -30,9 +30,10 @@ use Rattle.update.specs.Outcome.{outcomeOf}
 use Rattle.exports.specs.Answers.{answer, outcome}
 use Rattle.demands.specs.Contracts.{Updates}
 use Rattle.demands.specs.Chunks.{firstOf}
-use Rattle.demands.specs.Room.{asks, FindsRoom, FirstWithout, Did, whole, early}
+use Rattle.demands.specs.Room.{FindsRoom, FirstWithout, Did, allDone, stoppedAt}
+use Rattle.demands.proofs.Lent.{left-is-taken}
 use Rattle.demands.proofs.Telling.{readUpdate, update-reads}
-use Rattle.demands.proofs.Stopped.{stops}
+use Rattle.demands.proofs.Stopped.{all-found, first-without}
 use Rattle.demands.proofs.Answers.{fine-not-refused, what-an-update-call-says, an-update-is-done-if-nothing-refuses}
 
 -- ---- what an update leaves, the next call takes
@@ -41,29 +42,23 @@ skip : {a b : Verdict} → a ≡ fine → (a then b) ≡ b
 unfolding _then_
 skip p = rw p
 
--- what the call for the first k entries leaves
-pub done-first : (tested : Tested) (S : Scene) (log : List ℕ) (entry : Lists) (Q : ℕ) {r : Updated} {k : ℕ} {count : Count} (exit : Lists)
+-- some log of k entries is answered Done with the same count and lists
+done-first : (tested : Tested) (S : Scene) (log : List ℕ) (entry : Lists) (Q : ℕ) {r : Updated} {k : ℕ} {count : Count} (exit : Lists)
     → Did log r k count → Updates tested S log entry Q r exit → (l : List ℕ) × (length l / 12 ≡ k) × Updates tested S l entry Q (updated.Done count) exit
-done-first tested S log entry Q exit (whole count) e = (log, refl, e)
-done-first tested S log entry Q exit (early k count) e =
+done-first tested S log entry Q exit (allDone count) e = (log, refl, e)
+done-first tested S log entry Q exit (stoppedAt k count) e =
     let s = what-an-update-call-says tested S log entry Q (updated.Refused NoRoom k count) exit e .stopped refl in
-    let h = s .inLog in
+    let h = s .first .inLog in
     (firstOf k log, omega (arith, length-take-le (12 * k) log (omega arith)), s .before)
 
--- after any log, honest or foolish, that is answered Done or NO_ROOM (0 or 14), lists and count pass 9 to 12 again
-pub left-is-taken : (tested : Tested) (S : Scene) (log : List ℕ) (entry : Lists) (Q : ℕ) (a : Answer) (exit : Lists)
-    → member (a .number) (0 ∷ 14 ∷ []) ≡ true → outcome a exit ≡ updateMesh tested S log entry Q → lentVerdict S exit (a .quads) ≡ fine
-left-is-taken tested S log entry Q a exit h e =
-    subst (λ (o : Outcome). lentVerdict S (o .lists) (o .answer .quads) ≡ fine) (sym e)
-    (left-lent tested S log entry Q (subst (λ (o : Outcome). member (o .answer .number) (0 ∷ 14 ∷ []) ≡ true) e h))
-
+-- after any log, honest or foolish, that is answered Done or NO_ROOM, lists and count pass 9 to 12 again
 pub what-an-update-leaves-is-taken : (tested : Tested) (S : Scene) (log : List ℕ) (entry : Lists) (Q : ℕ) (r : Updated) (k : ℕ) (count : Count)
     (exit : Lists) → Did log r k count → Updates tested S log entry Q r exit → lentVerdict S exit (count .quads) ≡ fine
 what-an-update-leaves-is-taken tested S log entry Q r k count exit d e = by d e
   where
     by : {r : Updated} {k : ℕ} {count : Count} → Did log r k count → Updates tested S log entry Q r exit → lentVerdict S exit (count .quads) ≡ fine
-    by (whole count) e = left-is-taken tested S log entry Q (answered (count .quads) (count .moved)) exit refl e
-    by (early k count) e = left-is-taken tested S log entry Q (answer 14 k (count .quads) (count .moved)) exit refl e
+    by (allDone count) e = left-is-taken tested S log entry Q (answered (count .quads) (count .moved)) exit refl e
+    by (stoppedAt k count) e = left-is-taken tested S log entry Q (answer 14 k (count .quads) (count .moved)) exit refl e
 
 -- so the next update, by any log in either mode, can refuse that log alone: 13, or 14
 pub the-next-update-refuses-its-log-alone : (tested next : Tested) (S : Scene) (log : List ℕ) (entry : Lists) (Q : ℕ) (r : Updated) (k : ℕ) (count : Count)
@@ -93,33 +88,8 @@ the-next-update-refuses-its-log-alone tested next S log entry Q r k count exit m
 
 -- ---- NO_ROOM exactly, both ways
 module _ (tested : Tested) (S : Scene) (log : List ℕ) (entry : Lists) (Q : ℕ) where
-  abbrev works : ℕ → Work
-  works j = work tested (world S) (entryAt log j)
-
-  abbrev lent : List Quad
-  lent = decode (span S) Q entry
-
   abbrev c : Course
   c = course tested S log entry Q
-
-  -- a course that comes through: each entry found its room
-  all-found : c .full ≡ none → (j : ℕ) → j < length log / 12 → FindsRoom tested S log entry Q j
-  all-found f j h =
-      let z : 0 + j ≡ j = omega arith in rw z at (through (room S entry) works 0 (length log / 12) lent 0 Q f .found j h)
-
-  -- one that stops at k: k is the first that did not
-  first-without : (k : ℕ) → c .full ≡ some k → FirstWithout tested S log entry Q k
-  first-without k f =
-      let s = stops (room S entry) works 0 (length log / 12) lent 0 Q k f in
-      let z : s .before ≡ k = omega (arith, s .place) in
-      let t = through (room S entry) works 0 (s .before) lent 0 Q (ap (λ (c : Course). c .full) (s .through)) in
-      let left : c .quads ≡ meshAfter works 0 k lent =
-      sym (ap (λ (c : Course). c .quads) (s .through)) ∙ t .left ∙ ap (λ (n : ℕ). meshAfter works 0 n lent) z in
-      record {
-        inLog = omega (arith, s .early);
-        before = λ j h. let y : 0 + j ≡ j = omega arith in rw y at (t .found j (omega arith));
-        without = subst (λ (m : List Quad). room S entry < needed (works k) m) left (s .tight);
-      }
 
   -- Done means that the log is accepted and every entry found its room
   pub done-exactly : (r : Updated) (exit : Lists) → Updates tested S log entry Q r exit
@@ -131,12 +101,12 @@ module _ (tested : Tested) (S : Scene) (log : List ℕ) (entry : Lists) (Q : ℕ
           → (updateVerdict S log entry Q ≡ fine) × ((j : ℕ) → j < length log / 12 → FindsRoom tested S log entry Q j)
       told count d =
           let a = what-an-update-call-says tested S log entry Q (updated.Done count) exit (ap (λ (x : Updated). outcomeOf x exit) (sym d) ∙ e) in
-          (a .accepted, all-found (a .ended))
+          (a .accepted, all-found tested S log entry Q (a .ended))
 
       found : updateVerdict S log entry Q ≡ fine → ((j : ℕ) → j < length log / 12 → FindsRoom tested S log entry Q j) → (o : Option ℕ) → c .full ≡ o
           → (count : Count) × (r ≡ updated.Done count)
       found a h none f = an-update-is-done-if-nothing-refuses tested S log entry Q r exit a f e
-      found a h (some k) f = let w = first-without k f in let l = w .without in let m = h k (w .inLog) in absurd (omega arith)
+      found a h (some k) f = let w = first-without tested S log entry Q k f in let l = w .without in let m = h k (w .inLog) in absurd (omega arith)
 
   -- out of room at entry k means that the log is accepted and entry k is the first that did not find its room
   pub no-room-exactly : (r : Updated) (exit : Lists) (k : ℕ) → Updates tested S log entry Q r exit
@@ -146,8 +116,8 @@ module _ (tested : Tested) (S : Scene) (log : List ℕ) (entry : Lists) (Q : ℕ
       told : (count : Count) → r ≡ updated.Refused NoRoom k count → (updateVerdict S log entry Q ≡ fine) × FirstWithout tested S log entry Q k
       told count d =
           let a = what-an-update-call-says tested S log entry Q (updated.Refused NoRoom k count) exit (ap (λ (x : Updated). outcomeOf x exit) (sym d) ∙ e)
-          .stopped refl .ran in
-          (a .accepted, first-without k (a .ended))
+          .stopped refl in
+          (a .ran .accepted, a .first)
 
       -- there is one first
       alike : (i j : ℕ) → FirstWithout tested S log entry Q i → FirstWithout tested S log entry Q j → i ≤ j
@@ -159,9 +129,9 @@ module _ (tested : Tested) (S : Scene) (log : List ℕ) (entry : Lists) (Q : ℕ
 
       found : updateVerdict S log entry Q ≡ fine → FirstWithout tested S log entry Q k → (o : Option ℕ) → c .full ≡ o
           → (count : Count) × (r ≡ updated.Refused NoRoom k count)
-      found a w none f = let l = w .without in let m = all-found f k (w .inLog) in absurd (omega arith)
+      found a w none f = let l = w .without in let m = all-found tested S log entry Q f k (w .inLog) in absurd (omega arith)
       found a w (some i) f =
-          let x = first-without i f in
+          let x = first-without tested S log entry Q i f in
           let same : i ≡ k = omega (arith, alike i k x w, alike k i w x) in
           let count : Count = record { quads = length (c .quads); moved = c .moved } in
           (count, sym (update-reads r exit) ∙ ap readUpdate e ∙ (rw (a, f)) ∙ ap (λ (i : ℕ). updated.Refused NoRoom i count) same)

@@ -1,6 +1,6 @@
 -- A log that stops for want of room has done the log of its earlier entries, whole. Assumes nothing.
 use Prim.Native.Nat.{ℕ, zero, suc, _+_, _-_, _*_, _/_, _%_, _≤_, _<_}
-use mathlib.Core.Path.{_≡_, refl, sym, ap, _∙_}
+use mathlib.Core.Path.{_≡_, refl, sym, ap, _∙_, subst}
 use mathlib.Core.Bool.{Bool, true, false, cond, not}
 use mathlib.Core.List.{List, [], _∷_, _++_}
 use mathlib.Core.Option.{Option, none, some}
@@ -12,12 +12,13 @@ use borrow.Author.Tests.{leb-false, eq-eqb}
 use Rattle.rules.specs.Lists.{each, table, every, part}
 use Rattle.rules.specs.Cells.{cells}
 use Rattle.rules.specs.Mesh.{Quad, Lists, layout, decode}
-use Rattle.rules.specs.Update.{Entry, Work, Course, Tested, u32At, entryAt, work, ops, run, moves, highest, needed, courseFrom}
+use Rattle.rules.specs.Update.{Entry, Work, Course, Tested, u32At, entryAt, work, ops, run, moves, highest, needed, courseFrom, meshAfter}
 use Rattle.rules.specs.Answers.{fine, refuseLowest, BAD-SIZE, badNeighbour, badEntry, BAD-ENTRY}
 use Rattle.rules.specs.Calls.{Scene, answered, world, span, faces, room, typesVerdict, lentVerdict, updateVerdict, entriesOf, course, updateBy, updateMesh}
 use Rattle.rules.proofs.ListLaws.{each-same, each-split}
 use Rattle.rules.proofs.Checking.{then-fine, fine-then, fine-if, lowest-fine, fine-lowest}
-use Rattle.rules.proofs.Courses.{course-alike}
+use Rattle.rules.proofs.Courses.{through, course-alike}
+use Rattle.demands.specs.Room.{FindsRoom, FirstWithout}
 
 some-is : {a b : ℕ} → _≡_ {A = Option ℕ} (some a) (some b) → a ≡ b
 some-is e = cc
@@ -28,7 +29,7 @@ none-is-not {a = a} e = let z : _≡_ {A = ℕ} 0 1 = cc in absurd (omega arith)
 -- ---- a course that stops
 
 -- at entry k of n from i on: it has gone through those before, which left what it leaves, and k asks for more than the room
-pub record Stops (room : ℕ) (work : ℕ → Work) (i n : ℕ) (m : List Quad) (v p k : ℕ) : Type 0 where
+record Stops (room : ℕ) (work : ℕ → Work) (i n : ℕ) (m : List Quad) (v p k : ℕ) : Type 0 where
   pub before : ℕ
   pub place : k ≡ i + before
   pub early : before < n
@@ -36,7 +37,7 @@ pub record Stops (room : ℕ) (work : ℕ → Work) (i n : ℕ) (m : List Quad) 
       courseFrom room work i before m v p ≡ record { full = none; quads = c .quads; moved = c .moved; highest = c .highest }
   pub tight : room < needed (work k) ((courseFrom room work i n m v p) .quads)
 
-pub stops : (room : ℕ) (work : ℕ → Work) (i n : ℕ) (m : List Quad) (v p k : ℕ) → (courseFrom room work i n m v p) .full ≡ some k
+stops : (room : ℕ) (work : ℕ → Work) (i n : ℕ) (m : List Quad) (v p k : ℕ) → (courseFrom room work i n m v p) .full ≡ some k
     → Stops room work i n m v p k
 unfolding courseFrom
 stops room work i zero m v p k e = none-is-not e
@@ -121,6 +122,32 @@ entries-first log k h =
     ap (λ (n : ℕ). table n (entryAt log)) sum ∙ each-split k (length log / 12 - k) 0 (λ j. entryAt log j ∷ [])
     ∙ (λ i. same i ++ each (length log / 12 - k) (from i) (λ j. entryAt log j ∷ []))
 
+-- ---- which entry finds no room
+module _ (tested : Tested) (S : Scene) (log : List ℕ) (B : Lists) (Q : ℕ) where
+  abbrev works : ℕ → Work
+  works j = work tested (world S) (entryAt log j)
+
+  abbrev lent : List Quad
+  lent = decode (span S) Q B
+
+  -- a course that comes through: each entry found its room
+  pub all-found : (course tested S log B Q) .full ≡ none → (j : ℕ) → j < length log / 12 → FindsRoom tested S log B Q j
+  all-found f j h = let z : 0 + j ≡ j = omega arith in rw z at (through (room S B) works 0 (length log / 12) lent 0 Q f .found j h)
+
+  -- one that stops at k: k is the first that did not
+  pub first-without : (k : ℕ) → (course tested S log B Q) .full ≡ some k → FirstWithout tested S log B Q k
+  first-without k f =
+      let s = stops (room S B) works 0 (length log / 12) lent 0 Q k f in
+      let z : s .before ≡ k = omega (arith, s .place) in
+      let t = through (room S B) works 0 (s .before) lent 0 Q (ap (λ (c : Course). c .full) (s .through)) in
+      let left : (course tested S log B Q) .quads ≡ meshAfter works 0 k lent =
+      sym (ap (λ (c : Course). c .quads) (s .through)) ∙ t .left ∙ ap (λ (n : ℕ). meshAfter works 0 n lent) z in
+      record {
+        inLog = omega (arith, s .early);
+        before = λ j h. let y : 0 + j ≡ j = omega arith in rw y at (t .found j (omega arith));
+        without = subst (λ (m : List Quad). room S B < needed (works k) m) left (s .tight);
+      }
+
 -- ---- an update that stops at entry k
 module _ (tested : Tested) (S : Scene) (log : List ℕ) (B : Lists) (Q k : ℕ) (accepted : updateVerdict S log B Q ≡ fine)
     (full : (course tested S log B Q) .full ≡ some k) where
@@ -130,12 +157,8 @@ module _ (tested : Tested) (S : Scene) (log : List ℕ) (B : Lists) (Q k : ℕ) 
   stopped : Stops (room S B) (workOf log) 0 (length log / 12) (decode (span S) Q B) 0 Q k
   stopped = stops (room S B) (workOf log) 0 (length log / 12) (decode (span S) Q B) 0 Q k full
 
-  pub in-log : k < length log / 12
+  in-log : k < length log / 12
   in-log = omega (arith, stopped .place, stopped .early)
-
-  -- the entry asks for more quads than there is room
-  pub no-room-there : room S B < needed (work tested (world S) (entryAt log k)) ((course tested S log B Q) .quads)
-  no-room-there = stopped .tight
 
   abbrev first : List ℕ
   first = take (12 * k) log

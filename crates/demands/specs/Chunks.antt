@@ -53,8 +53,8 @@ LogFor Itself = FillingLog
 abbrev pub mendedTo : Scene → List ℕ → Chunk → Count → Lists → Chunk
 mendedTo S log k count exit = record { grid = gridAfter S log (k .grid); lists = exit; quads = count .quads }
 
--- n update calls in one mode lead from one chunk to another, each for such a log and each answered Done
-pub data Mended (mode : Tested) (S : Scene) (from : Chunk) : ℕ → Chunk → Type 0 where
-  untouched : Mended mode S from 0 from
-  oneMore : {n : ℕ} {k : Chunk} (log : List ℕ) (count : Count) (exit : Lists) → Mended mode S from n k → LogFor mode S (k .grid) log
-      → Updates (testedBy mode) S log (k .lists) (k .quads) (Done count) exit → Mended mode S from (suc n) (mendedTo S log k count exit)
+-- n update calls lead from one chunk to another, each in a mode of its own, for such a log, and answered Done
+pub data Mended (S : Scene) (from : Chunk) : ℕ → Chunk → Type 0 where
+  untouched : Mended S from 0 from
+  oneMore : {n : ℕ} {k : Chunk} (mode : Tested) (log : List ℕ) (count : Count) (exit : Lists) → Mended S from n k → LogFor mode S (k .grid) log
+      → Updates (testedBy mode) S log (k .lists) (k .quads) (Done count) exit → Mended S from (suc n) (mendedTo S log k count exit)

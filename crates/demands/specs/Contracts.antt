@@ -21,11 +21,11 @@ use Rattle.exports.specs.Answers.{testedFrom, answer, cubeOut, outcome}
 abbrev pub Cubes : Shape → List ℕ → Cubed → List ℕ → Type 0
 Cubes shape room r exit = cube.outcome r exit ≡ generateVoxelMesh shape room
 
--- mesh_grid answers r
+-- mesh_grid answers r, and leaves the lists at exit
 abbrev pub Meshes : Scene → List ℕ → List ℕ → Bool → Lists → Meshed → Lists → Type 0
 Meshes S outer grid culling B r exit = mesh.outcome r exit ≡ meshGrid S outer grid culling B
 
--- update_mesh answers r for a mesh of Q quads, by the side tested
+-- update_mesh answers r for a mesh of Q quads, by the side tested, and leaves the lists at exit
 abbrev pub Updates : Tested → Scene → List ℕ → Lists → ℕ → Updated → Lists → Type 0
 Updates tested S log B Q r exit = outcomeOf r exit ≡ updateMesh tested S log B Q
 

@@ -10,21 +10,21 @@ use Rattle.mending.specs.declared.Count.{Count}
 use Rattle.update.specs.declared.Updated.{Updated}
 use Rattle.update.specs.declared.Updated.the-variants.{Done, Refused}
 
--- what entry k asks for: Q, less its own removed quads, plus the new ones it draws, on the mesh that the entries before it left
-abbrev pub asks : Tested → Scene → List ℕ → Lists → ℕ → ℕ → ℕ
-asks tested S log B Q k =
+-- what entry k needs: Q, less its own removed quads, plus the new ones it draws, on the mesh that the entries before it left
+abbrev pub neededAt : Tested → Scene → List ℕ → Lists → ℕ → ℕ → ℕ
+neededAt tested S log B Q k =
     needed (work tested (world S) (entryAt log k)) (meshAfter (λ j. work tested (world S) (entryAt log j)) 0 k (decode (span S) Q B))
 
 abbrev pub FindsRoom : Tested → Scene → List ℕ → Lists → ℕ → ℕ → Type 0
-FindsRoom tested S log B Q k = asks tested S log B Q k ≤ room S B
+FindsRoom tested S log B Q k = neededAt tested S log B Q k ≤ room S B
 
 -- entry k is the first that does not
 pub record FirstWithout (tested : Tested) (S : Scene) (log : List ℕ) (B : Lists) (Q k : ℕ) : Type 0 where
   pub inLog : k < length log / 12
   pub before : (j : ℕ) → j < k → FindsRoom tested S log B Q j
-  pub without : room S B < asks tested S log B Q k
+  pub without : room S B < neededAt tested S log B Q k
 
 -- an answer tells that the first k entries of a log were done, all or those before one out of room, with this count
 pub data Did (log : List ℕ) : Updated → ℕ → Count → Type 0 where
-  whole : (count : Count) → Did log (Done count) (length log / 12) count
-  early : (k : ℕ) (count : Count) → Did log (Refused NoRoom k count) k count
+  allDone : (count : Count) → Did log (Done count) (length log / 12) count
+  stoppedAt : (k : ℕ) (count : Count) → Did log (Refused NoRoom k count) k count
