@@ -23,7 +23,7 @@ use Rattle.rules.proofs.Laying.{Fits, Sized, keyAt, link-inside, length-laid, l
 use Rattle.rules.proofs.Checking.{then-fine, if-fine}
 use Rattle.rules.proofs.Courses.{Sane, course-sane, fits-new}
 use Rattle.rules.proofs.Demands.{words-sized, limits, sound, room-for, lent-sane, entry-inside}
-use Rattle.rules.proofs.Refusals.{Within, UPDATE, update-numbers, zero-fine}
+use Rattle.rules.proofs.Refusals.{Within, UPDATE-FIRST, update-numbers, zero-fine}
 use Rattle.lines.specs.Written.{OfFaces, quadsOf}
 use Rattle.lines.proofs.Writing.{room-as}
 use Rattle.lines.proofs.Lining.{lines-decoded, lines-room}
@@ -35,9 +35,9 @@ module _ (S : Scene) (log : List ℕ) (B : Lists) (Q : ℕ) where
   abbrev c : Course
   c = course source S log B Q
 
-  fine-of-zero : (v : Verdict) → Within UPDATE v → (updateBy v S c B) .answer .number ≡ 0 → v ≡ fine
+  fine-of-zero : (v : Verdict) → Within UPDATE-FIRST v → (updateBy v S c B) .answer .number ≡ 0 → v ≡ fine
   fine-of-zero fine w e = refl
-  fine-of-zero (refuse n p) w e = zero-fine UPDATE refl (refuse n p) w e
+  fine-of-zero (refuse n p) w e = zero-fine UPDATE-FIRST refl (refuse n p) w e
 
   accepted : (updateMesh source S log B Q) .answer .number ≡ 0 → updateVerdict S log B Q ≡ fine
   accepted e = fine-of-zero (updateVerdict S log B Q) (update-numbers S log B Q) e

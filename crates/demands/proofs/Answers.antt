@@ -18,7 +18,7 @@ use Rattle.rules.specs.Update.{Tested, work, entryAt, needed, Course}
 use Rattle.rules.specs.Answers as rules
 use Rattle.rules.specs.Answers.{fine, refuse}
 use Rattle.rules.specs.Calls.{CubeOutcome, cubeVerdict, cubeBy, Scene, world, span, faces, room, Outcome, freshMesh, meshVerdict, meshBy, updateVerdict, course, courseAnswer, updateBy, checkVerdict, checkBy}
-use Rattle.rules.proofs.Refusals.{Within, given, CUBE, MESH, UPDATE, CHECK, cube-numbers, mesh-numbers, update-numbers, check-numbers}
+use Rattle.rules.proofs.Refusals.{Within, given, CUBE, MESH, UPDATE-FIRST, CHECK, cube-numbers, mesh-numbers, update-numbers, check-numbers}
 use Rattle.answers.specs.declared.Refusal.{Refusal}
 use Rattle.answers.specs.declared.Refusal.the-variants.{NoRoom}
 use Rattle.answers.specs.declared.Verdict.{Verdict}
@@ -144,7 +144,7 @@ pub record Stopped (tested : Tested) (S : Scene) (log : List ℕ) (entry : Lists
 
 -- a refusal counts nothing and changes nothing; NO_ROOM alone, 14, tells what the entries before it did, and keeps them
 pub record Turned (tested : Tested) (S : Scene) (log : List ℕ) (entry : Lists) (Q number place : ℕ) (count : Count) (exit : Lists) : Type 0 where
-  pub refused : number ≢ 14 → Refuses UPDATE (updateVerdict S log entry Q) number place
+  pub refused : number ≢ 14 → Refuses UPDATE-FIRST (updateVerdict S log entry Q) number place
   pub kept : number ≢ 14 → exit ≡ entry
   pub uncounted : number ≢ 14 → count ≡ record { quads = 0; moved = 0 }
   pub stopped : number ≡ 14 → Stopped tested S log entry Q place count exit
@@ -189,7 +189,7 @@ what-an-update-call-says tested S log entry Q r exit e =
           };
         }
 
-    go : (r : Updated) (v : rules.Verdict) → updateVerdict S log entry Q ≡ v → Within UPDATE v
+    go : (r : Updated) (v : rules.Verdict) → updateVerdict S log entry Q ≡ v → Within UPDATE-FIRST v
         → outcomeOf r exit ≡ updateBy v S c entry → UpdateSays tested S log entry Q r exit
     go r fine t w e = through r t (c .full) refl e
     go (updated.Done count) (refuse n p) t w e = unlisted refl w (ap (λ (o : Outcome). o .answer .number) e)

@@ -59,9 +59,9 @@ a-c-mesh-call-tells-a-number-of-its-own S outer grid culling B a exit e =
     subst (λ (o : Outcome). member (o .answer .number) (0 ∷ MESH) ≡ true) (sym e) (mesh-number S outer grid culling B)
 
 pub a-c-update-call-tells-a-number-of-its-own : (tested : ℕ) (S : Scene) (log : List ℕ) (B : Lists) (Q : ℕ) (a : Answer) (exit : Lists)
-    → TellsUpdate tested S log B Q a exit → member (a .number) (0 ∷ UPDATE ++ (14 ∷ [])) ≡ true
+    → TellsUpdate tested S log B Q a exit → member (a .number) (0 ∷ UPDATE) ≡ true
 a-c-update-call-tells-a-number-of-its-own tested S log B Q a exit e =
-    subst (λ (o : Outcome). member (o .answer .number) (0 ∷ UPDATE ++ (14 ∷ [])) ≡ true) (sym e) (update-number (testedFrom tested) S log B Q)
+    subst (λ (o : Outcome). member (o .answer .number) (0 ∷ UPDATE) ≡ true) (sym e) (update-number (testedFrom tested) S log B Q)
 
 pub a-c-check-call-tells-a-number-of-its-own : (S : Scene) (outer grid : List ℕ) (B : Lists) (Q number place : ℕ)
     → TellsCheck S outer grid B Q number place → member number (0 ∷ CHECK) ≡ true

@@ -1,12 +1,13 @@
 -- Demand 2 of fresh meshes: what they hold. Demand 3, "every culled fresh mesh passes for its own outer list". Assumes nothing.
 use Prim.Native.Nat.{ℕ}
-use mathlib.Core.Path.{_≡_, sym, ap, subst}
+use mathlib.Core.Path.{_≡_, sym, ap, _∙_, subst}
 use mathlib.Core.Bool.{Bool, true, false, cond}
 use mathlib.Core.List.{List}
 use Rattle.rules.specs.Mesh.{Lists, drawn, allSides, decode}
 use Rattle.rules.specs.Check.{Holds}
-use Rattle.rules.specs.Calls.{Scene, Outcome, answered, world, span, checkMesh}
-use Rattle.rules.proofs.Demands.{fresh-holds, fresh-accepted}
+use Rattle.rules.specs.Answers.{fine}
+use Rattle.rules.specs.Calls.{Scene, Outcome, answered, world, span, lentVerdict, checkMesh}
+use Rattle.rules.proofs.Demands.{fresh-holds, fresh-lent, fresh-accepted}
 use Rattle.answers.specs.declared.Verdict.{Verdict}
 use Rattle.answers.specs.declared.Verdict.the-variants.{Fine}
 use Rattle.meshem.specs.declared.Meshed.the-variants.{Done}
@@ -31,6 +32,13 @@ a-culled-mesh-holds-what-shows S outer grid B exit quads = holds S outer grid tr
 pub a-naive-mesh-holds-all-sides : (S : Scene) (outer grid : List ℕ) (B exit : Lists) (quads : ℕ) → Meshes S outer grid false B (Done quads) exit
     → Holds (world S) (allSides (world S) grid) grid (decode (span S) quads exit)
 a-naive-mesh-holds-all-sides S outer grid B exit quads = holds S outer grid false B exit quads
+
+-- a fresh mesh of either algorithm passes 9 to 12: another call can be lent it
+pub a-fresh-mesh-is-taken : (S : Scene) (outer grid : List ℕ) (culling : Bool) (B exit : Lists) (quads : ℕ) → Meshes S outer grid culling B (Done quads) exit
+    → lentVerdict S exit quads ≡ fine
+a-fresh-mesh-is-taken S outer grid culling B exit quads made =
+    let m = what-a-mesh-call-says S outer grid culling B (Done quads) exit made in
+    (λ i. lentVerdict S (m .laid i) (m .counted i)) ∙ fresh-lent S outer grid culling B (m .accepted)
 
 -- the check says Fine
 pub fresh-is-fine : (S : Scene) (outer grid : List ℕ) (B exit : Lists) (quads : ℕ) → Meshes S outer grid true B (Done quads) exit

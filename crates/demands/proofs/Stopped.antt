@@ -17,7 +17,7 @@ use Rattle.rules.specs.Answers.{fine, refuseLowest, BAD-SIZE, badNeighbour, bad
 use Rattle.rules.specs.Calls.{Scene, answered, world, span, faces, room, typesVerdict, lentVerdict, updateVerdict, entriesOf, course, updateBy, updateMesh}
 use Rattle.rules.proofs.ListLaws.{each-same, each-split}
 use Rattle.rules.proofs.Checking.{then-fine, fine-then, fine-if, lowest-fine, fine-lowest}
-use Rattle.rules.proofs.Courses.{through, course-alike}
+use Rattle.rules.proofs.Courses.{found-room, course-alike}
 use Rattle.demands.specs.Room.{FindsRoom, FirstWithout}
 
 some-is : {a b : ℕ} → _≡_ {A = Option ℕ} (some a) (some b) → a ≡ b
@@ -33,7 +33,7 @@ record Stops (room : ℕ) (work : ℕ → Work) (i n : ℕ) (m : List Quad) (v p
   pub before : ℕ
   pub place : k ≡ i + before
   pub early : before < n
-  pub through : let c = courseFrom room work i n m v p in
+  pub found-room : let c = courseFrom room work i n m v p in
       courseFrom room work i before m v p ≡ record { full = none; quads = c .quads; moved = c .moved; highest = c .highest }
   pub tight : room < needed (work k) ((courseFrom room work i n m v p) .quads)
 
@@ -132,14 +132,14 @@ module _ (tested : Tested) (S : Scene) (log : List ℕ) (B : Lists) (Q : ℕ) wh
 
   -- a course that comes through: each entry found its room
   pub all-found : (course tested S log B Q) .full ≡ none → (j : ℕ) → j < length log / 12 → FindsRoom tested S log B Q j
-  all-found f j h = let z : 0 + j ≡ j = omega arith in rw z at (through (room S B) works 0 (length log / 12) lent 0 Q f .found j h)
+  all-found f j h = let z : 0 + j ≡ j = omega arith in rw z at (found-room (room S B) works 0 (length log / 12) lent 0 Q f .found j h)
 
   -- one that stops at k: k is the first that did not
   pub first-without : (k : ℕ) → (course tested S log B Q) .full ≡ some k → FirstWithout tested S log B Q k
   first-without k f =
       let s = stops (room S B) works 0 (length log / 12) lent 0 Q k f in
       let z : s .before ≡ k = omega (arith, s .place) in
-      let t = through (room S B) works 0 (s .before) lent 0 Q (ap (λ (c : Course). c .full) (s .through)) in
+      let t = found-room (room S B) works 0 (s .before) lent 0 Q (ap (λ (c : Course). c .full) (s .through)) in
       let left : (course tested S log B Q) .quads ≡ meshAfter works 0 k lent =
       sym (ap (λ (c : Course). c .quads) (s .through)) ∙ t .left ∙ ap (λ (n : ℕ). meshAfter works 0 n lent) z in
       record {

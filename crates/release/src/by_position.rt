@@ -1,5 +1,5 @@
 // Each C call alone, with its arguments by position, under the word that demands/specs/Contracts gives its contract. A contract speaks by
-// name and C by position: two parameters of one type that are exchanged in a call of exports are refused here.
+// name and C by position: two parameters of one type that are exchanged in a call of exports break here.
 use exports::meshem_check_mesh;
 use exports::meshem_generate_voxel_mesh;
 use exports::meshem_mesh_grid;

@@ -1,4 +1,4 @@
-// Each call alone, under the word that demands/specs/Contracts gives its contract: a contract that says less is refused here.
+// Each call alone, under the word that demands/specs/Contracts gives its contract: a contract that says less breaks here.
 use admit::Scene;
 use answers::Verdict;
 use checking::check_mesh;

@@ -71,7 +71,7 @@ pub fn make_and_check(
     }
 }
 
-// Checks a mesh with no outer face named, mends it by a log, and checks it for the grid that the log left.
+// Checks a mesh with no outer face named, mends it by a log, and checks it for the grid `left`: the one that the log left, for the promise.
 pub fn mend_and_check(
     vertices: &mut [u32],
     triangles: &mut [u32],

@@ -245,17 +245,17 @@ course-sane n s room work i (suc k) m v p f h =
 -- ---- which entries find room
 
 -- a log that comes through: each entry found its room in the mesh that those before it left, and it leaves what all of them leave
-pub record Through (room : ℕ) (work : ℕ → Work) (i n : ℕ) (m : List Quad) (v p : ℕ) : Type 0 where
+pub record FoundRoom (room : ℕ) (work : ℕ → Work) (i n : ℕ) (m : List Quad) (v p : ℕ) : Type 0 where
   pub found : (j : ℕ) → j < n → needed (work (i + j)) (meshAfter work i j m) ≤ room
   pub left : (courseFrom room work i n m v p) .quads ≡ meshAfter work i n m
 
-pub through : (room : ℕ) (work : ℕ → Work) (i n : ℕ) (m : List Quad) (v p : ℕ) → (courseFrom room work i n m v p) .full ≡ none
-    → Through room work i n m v p
+pub found-room : (room : ℕ) (work : ℕ → Work) (i n : ℕ) (m : List Quad) (v p : ℕ) → (courseFrom room work i n m v p) .full ≡ none
+    → FoundRoom room work i n m v p
 unfolding courseFrom
-through room work i zero m v p e = record { found = λ j h. absurd (omega arith); left = refl }
-through room work i (suc n) m v p e =
+found-room room work i zero m v p e = record { found = λ j h. absurd (omega arith); left = refl }
+found-room room work i (suc n) m v p e =
     go (leb (needed (work i) m) room) refl e
-    (through room work (suc i) n (run (ops (work i)) m) (v + moves (ops (work i)) m) (highest p (ops (work i)) m))
+    (found-room room work (suc i) n (run (ops (work i)) m) (v + moves (ops (work i)) m) (highest p (ops (work i)) m))
   where
     after : Course
     after = courseFrom room work (suc i) n (run (ops (work i)) m) (v + moves (ops (work i)) m) (highest p (ops (work i)) m)
@@ -266,8 +266,8 @@ through room work i (suc n) m v p e =
     found here later (suc j) h = let z : i + suc j ≡ suc i + j = omega arith in rw z (later j (omega arith))
 
     go : (b : Bool) → leb (needed (work i) m) room ≡ b → (cond b after (record { full = some i; quads = m; moved = v; highest = p })) .full ≡ none
-        → (after .full ≡ none → Through room work (suc i) n (run (ops (work i)) m) (v + moves (ops (work i)) m) (highest p (ops (work i)) m))
-        → Through room work i (suc n) m v p
+        → (after .full ≡ none → FoundRoom room work (suc i) n (run (ops (work i)) m) (v + moves (ops (work i)) m) (highest p (ops (work i)) m))
+        → FoundRoom room work i (suc n) m v p
     go true t e rest = let s = rest e in record { found = found (leb-true (needed (work i) m) room t) (s .found); left = rw t (s .left) }
     go false t e rest = let z : _≡_ {A = ℕ} 0 1 = cc in absurd (omega arith)
 

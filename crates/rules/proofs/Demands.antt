@@ -12,10 +12,10 @@ use lib.Dec.{eqb, leb, ltb}
 use lib.ListN.{length, getD, set, drop, length-set, length-drop}
 use lib.Seq.{getD-set-same, getD-set-other, length-take-le}
 use borrow.Author.Tests.{eqb-true, eq-eqb, ltb-false, le-ltb, leb-false, lt-leb}
-use Rattle.rules.specs.Lists.{each, table, row, member}
+use Rattle.rules.specs.Lists.{each, only, table, row, member}
 use Rattle.rules.specs.Cells.{Size, cells, keyOf}
 use Rattle.rules.specs.Types.{Types, floats, quadWord, quadWords, cubeOf}
-use Rattle.rules.specs.Mesh.{Quad, World, Lists, drawn, allSides, culled, decode, layout, meshBy as quadsOf}
+use Rattle.rules.specs.Mesh.{Quad, World, Lists, typeAt, drawn, allSides, culled, at, decode, layout, meshBy as quadsOf}
 use Rattle.rules.specs.Update.{Change, Broken, Added, CullFaces, AddFaces, Entry, entryAt, Tested, work, Course, courseFrom, blank, u32At, emptyType, gridBy, gridAfter, gridLog, Told, TrueBy, Honest, Mends, AddsAlike}
 use Rattle.rules.specs.Answers.{Verdict, fine, refuse, _then_, refuseIf, refuseLowest, outOf, badLimits, BAD-SIZE, BAD-GRID, badCounts, badType, BAD-TYPES, BAD-NUMBER, NOT-A-CUBE, BAD-OUTER, BAD-CELL, SHORT-SLOTS, roomOf, BAD-COUNT, BAD-LINKS, BAD-TRIANGLES, badEntry, BAD-ENTRY, NO-ROOM, WRONG-SET, WRONG-VERTEX}
 use Rattle.rules.specs.Check.{linked, Holds, Right}
@@ -24,10 +24,10 @@ use Rattle.rules.proofs.ListLaws.{All, all-of, all-each, split, both-wa
 use Rattle.rules.proofs.Quads.{Once}
 use Rattle.rules.proofs.Laying.{Fits, length-vertices, length-triangles, length-links, length-slots, once-of-distinct, decode-layout}
 use Rattle.rules.proofs.Checking.{then-fine, fine-then, if-fine, fine-if, lowest-fine, fine-lowest, Book, book-of-fine, fine-of-book, book-of-laid, length-decode, key-decode, words-decode, distinct-decode, right-of-fine, fine-of-right, shows-of-right, right-of-shows}
-use Rattle.rules.proofs.Mending.{Sound, Shows, shows-once, no-side, not-drawn, fresh-sides, fresh-shows}
+use Rattle.rules.proofs.Mending.{Sound, Shows, sides-once, no-side, not-drawn, fresh-sides, fresh-shows}
 use Rattle.rules.proofs.Ordered.{fresh-order}
 use Rattle.rules.proofs.Courses.{fits-fresh, fits-new, Sane, course-sane, mends-log, length-log}
-use Rattle.rules.proofs.Refusals.{Within, given, MESH, UPDATE, CHECK, mesh-numbers, update-numbers, check-numbers, zero-fine}
+use Rattle.rules.proofs.Refusals.{Within, given, MESH, UPDATE-FIRST, CHECK, mesh-numbers, update-numbers, check-numbers, zero-fine}
 
 -- ---- what the refusals leave
 module _ (S : Scene) where
@@ -165,71 +165,90 @@ accepts-exactly S outer g B Q eo = (λ e. right e, λ r. ap checkBy (fine-then e
         right-of-fine (world S) outer g (span S) B Q slots-room (c .0) (c .1)
 
 -- ---- fresh meshes
+module _ (S : Scene) (outer g : List ℕ) (culling : Bool) (B : Lists) (accepted : meshVerdict S outer g culling B ≡ fine) where
+  abbrev fresh : List Quad
+  fresh = freshMesh S outer g culling
 
--- LAW: a fresh mesh of either algorithm, laid out, holds exactly the sides that the algorithm draws, once each, in order, with their words
-pub fresh-holds : (S : Scene) (outer g : List ℕ) (culling : Bool) (B : Lists) → meshVerdict S outer g culling B ≡ fine
-    → let m = freshMesh S outer g culling in
-    Holds (world S) (cond culling (drawn (world S) outer g) (allSides (world S) g)) g (decode (span S) (length m) (layout (faces S) (span S) (length m) m B))
-fresh-holds S outer g culling B v = go culling
-  where
-    size-fine : BAD-SIZE (S .size) ≡ fine
-    size-fine = then-fine (BAD-SIZE (S .size)) _ v .0
+  -- the sides that the algorithm draws
+  abbrev drawnBy : Bool → ℕ → ℕ → Bool
+  drawnBy c = cond c (drawn (world S) outer g) (allSides (world S) g)
 
-    snd : Sound (world S)
-    snd =
-        let b = then-fine (BAD-GRID (S .size) g) _ (then-fine (BAD-SIZE (S .size)) _ v .1) .1 in
-        sound S size-fine (then-fine (typesVerdict S) _ b .0)
+  -- what was asked, one by one
+  record Opened : Type 0 where
+    size : BAD-SIZE (S .size) ≡ fine
+    grid : BAD-GRID (S .size) g ≡ fine
+    types : typesVerdict S ≡ fine
+    faces-named : BAD-OUTER outer ≡ fine
+    cells : BAD-CELL (S .types) g ≡ fine
+    slots : SHORT-SLOTS (S .size) B ≡ fine
+    room : length fresh ≤ roomOf (floats (S .types)) B
 
-    whole : length g ≡ cells (S .size)
-    whole =
-        let b = then-fine (BAD-GRID (S .size) g) _ (then-fine (BAD-SIZE (S .size)) _ v .1) .0 in
-        eqb-true (length g) (cells (S .size)) (not-true _ (if-fine (not (eqb (length g) (cells (S .size)))) 2 0 b))
+  opened : Opened
+  opened =
+      let a = then-fine (BAD-SIZE (S .size)) _ accepted in
+      let b = then-fine (BAD-GRID (S .size) g) _ (a .1) in
+      let c = then-fine (typesVerdict S) _ (b .1) in
+      let d = then-fine (BAD-OUTER outer) _ (c .1) in
+      let f = then-fine (BAD-CELL (S .types) g) _ (d .1) in
+      let h = then-fine (SHORT-SLOTS (S .size) B) (NO-ROOM (floats (S .types)) B (length fresh)) (f .1) in
+      record {
+        size = a .0;
+        grid = b .0;
+        types = c .0;
+        faces-named = d .0;
+        cells = f .0;
+        slots = h .0;
+        room = ltb-false (room S B) (length fresh) (if-fine (ltb (room S B) (length fresh)) 14 0 (h .1));
+      }
 
-    by : (test : ℕ → ℕ → Bool) → ((n f : ℕ) → length g ≤ n → test n f ≡ false)
-        → let m = quadsOf (world S) test g in Holds (world S) test g (decode (span S) (length m) (layout (faces S) (span S) (length m) m B))
-    by test out =
-        let m = quadsOf (world S) test g in
-        let small = limits S size-fine .small in
-        subst (Holds (world S) test g)
-        (sym (decode-layout (faces S) (span S) (length m) (omega arith) m B (fits-fresh (world S) snd (span S) (words-sized S) test g)))
-        (record {
-          sides = fresh-sides (world S) g test (λ n f h. out n f (omega (arith, whole)));
-          order = fresh-order (world S) test g;
-        })
+  snd : Sound (world S)
+  snd = sound S (opened .size) (opened .types)
 
-    go : (c : Bool)
-        → let m = freshMesh S outer g c in
-        Holds (world S) (cond c (drawn (world S) outer g) (allSides (world S) g)) g (decode (span S) (length m) (layout (faces S) (span S) (length m) m B))
-    go true = by (drawn (world S) outer g) (not-drawn (world S) snd outer g)
-    go false = by (allSides (world S) g) (no-side (world S) snd g)
+  whole : length g ≡ cells (S .size)
+  whole = eqb-true (length g) (cells (S .size)) (not-true _ (if-fine (not (eqb (length g) (cells (S .size)))) 2 0 (opened .grid)))
+
+  fresh-is : (c : Bool) → freshMesh S outer g c ≡ quadsOf (world S) (drawnBy c) g
+  fresh-is true = refl
+  fresh-is false = refl
+
+  none-beyond : (c : Bool) (n f : ℕ) → cells (S .size) ≤ n → drawnBy c n f ≡ false
+  none-beyond true n f h = not-drawn (world S) snd outer g n f (omega (arith, whole))
+  none-beyond false n f h = no-side (world S) snd g n f (omega (arith, whole))
+
+  sides : (c f : ℕ) → f < 6 → at (keyOf c f) fresh ≡ only (drawnBy culling c f) (wordsIn S (typeAt g c) f c)
+  sides = rw (fresh-is culling) (fresh-sides (world S) g (drawnBy culling) (none-beyond culling))
+
+  sane : Sane (faces S) (span S) (room S B) fresh (length fresh)
+  sane =
+      record {
+        fits = rw (fresh-is culling) (fits-fresh (world S) snd (span S) (words-sized S) (drawnBy culling) g);
+        once = sides-once (world S) (drawnBy culling) g fresh sides;
+        reached = omega arith;
+        within = opened .room;
+      }
+
+  -- LAW: a fresh mesh of either algorithm, laid out, holds exactly the sides that the algorithm draws, once each, in order, with their words
+  pub fresh-holds : let m = freshMesh S outer g culling in
+      Holds (world S) (cond culling (drawn (world S) outer g) (allSides (world S) g)) g (decode (span S) (length m) (layout (faces S) (span S) (length m) m B))
+  fresh-holds =
+      let small = limits S (opened .size) .small in
+      subst (Holds (world S) (drawnBy culling) g) (sym (decode-layout (faces S) (span S) (length fresh) (omega arith) fresh B (sane .fits)))
+      (record { sides = sides; order = rw (fresh-is culling) (fresh-order (world S) (drawnBy culling) g) })
+
+  -- LAW: and passes 9 to 12
+  pub fresh-lent : let m = freshMesh S outer g culling in lentVerdict S (layout (faces S) (span S) (length m) m B) (length m) ≡ fine
+  fresh-lent = laid-lent S B (length fresh) fresh (opened .size) (opened .slots) sane
 
 -- ---- DEMAND 3: every culled fresh mesh passes for its own outer list
 pub fresh-accepted : (S : Scene) (outer g : List ℕ) (B : Lists) → (meshGrid S outer g true B) .answer .number ≡ 0
     → checkMesh S outer g ((meshGrid S outer g true B) .lists) ((meshGrid S outer g true B) .answer .quads) ≡ answered 0 0
 fresh-accepted S outer g B e = go (meshVerdict S outer g true B) refl e
   where
-    fresh : List Quad
-    fresh = culled (world S) outer g
-
     passes : meshVerdict S outer g true B ≡ fine → checkVerdict S outer g (layout (faces S) (span S) (length (culled (world S) outer g)) (culled (world S) outer g) B) (length (culled (world S) outer g)) ≡ fine
     passes v =
-        let a = then-fine (BAD-SIZE (S .size)) _ v in
-        let b = then-fine (BAD-GRID (S .size) g) _ (a .1) in
-        let c = then-fine (typesVerdict S) _ (b .1) in
-        let d = then-fine (BAD-OUTER outer) _ (c .1) in
-        let f = then-fine (BAD-CELL (S .types) g) _ (d .1) in
-        let h = then-fine (SHORT-SLOTS (S .size) B) (NO-ROOM (floats (S .types)) B (length (culled (world S) outer g))) (f .1) in
-        let snd = sound S (a .0) (c .0) in
-        let hg = eqb-true (length g) (cells (S .size)) (not-true _ (if-fine (not (eqb (length g) (cells (S .size)))) 2 0 (b .0))) in
-        let sh = fresh-shows (world S) snd outer g hg in
-        laid-accepted S B (length (culled (world S) outer g)) (culled (world S) outer g) (a .0) (h .0)
-        (record {
-          fits = fits-fresh (world S) snd (span S) (words-sized S) (drawn (world S) outer g) g;
-          once = shows-once (world S) outer g (culled (world S) outer g) sh;
-          reached = omega arith;
-          within = ltb-false (room S B) (length (culled (world S) outer g)) (if-fine (ltb (room S B) (length (culled (world S) outer g))) 14 0 (h .1));
-        })
-        outer g (b .0) (c .0) (d .0) (f .0) sh
+        let o = opened S outer g true B v in
+        laid-accepted S B (length (culled (world S) outer g)) (culled (world S) outer g) (o .size) (o .slots) (sane S outer g true B v) outer g
+        (o .grid) (o .types) (o .faces-named) (o .cells) (fresh-shows (world S) (snd S outer g true B v) outer g (whole S outer g true B v))
 
     go : (v : Verdict) → meshVerdict S outer g true B ≡ v → (meshBy v S (culled (world S) outer g) B) .answer .number ≡ 0
         → checkMesh S outer g ((meshBy v S (culled (world S) outer g) B) .lists) ((meshBy v S (culled (world S) outer g) B) .answer .quads) ≡ answered 0 0
@@ -374,15 +393,15 @@ left-lent tested S log B Q = go (updateVerdict S log B Q) refl (update-numbers S
     counted (some k) = refl
 
     -- 0 and 14 are no refusal of what is lent
-    neither : (n : ℕ) → member n UPDATE ≡ true → member n (0 ∷ 14 ∷ []) ≡ false
+    neither : (n : ℕ) → member n UPDATE-FIRST ≡ true → member n (0 ∷ 14 ∷ []) ≡ false
     neither n h =
         both-ways (member n (0 ∷ 14 ∷ []))
         (λ t. split (λ b. eqb n 0 ≡ b → cond b true (cond (eqb n 14) true false) ≡ true → ⊥) (eqb n 0)
-        (λ x e r. false≢true (ap (λ (i : ℕ). member i UPDATE) (sym (eqb-true n 0 e)) ∙ h))
+        (λ x e r. false≢true (ap (λ (i : ℕ). member i UPDATE-FIRST) (sym (eqb-true n 0 e)) ∙ h))
         (λ x e r. split (λ b. eqb n 14 ≡ b → cond b true false ≡ true → ⊥) (eqb n 14)
-        (λ y f s. false≢true (ap (λ (i : ℕ). member i UPDATE) (sym (eqb-true n 14 f)) ∙ h)) (λ y f s. false≢true s) refl r) refl t)
+        (λ y f s. false≢true (ap (λ (i : ℕ). member i UPDATE-FIRST) (sym (eqb-true n 14 f)) ∙ h)) (λ y f s. false≢true s) refl r) refl t)
 
-    go : (v : Verdict) → updateVerdict S log B Q ≡ v → Within UPDATE v → member ((updateBy v S c B) .answer .number) (0 ∷ 14 ∷ []) ≡ true
+    go : (v : Verdict) → updateVerdict S log B Q ≡ v → Within UPDATE-FIRST v → member ((updateBy v S c B) .answer .number) (0 ∷ 14 ∷ []) ≡ true
         → lentVerdict S ((updateBy v S c B) .lists) ((updateBy v S c B) .answer .quads) ≡ fine
     go fine t w h =
         ap (λ (q : ℕ). lentVerdict S (layout (faces S) (span S) (c .highest) (c .quads) B) q) (counted (c .full)) ∙ ran-lent tested S log B Q t
@@ -403,7 +422,7 @@ module _ (tested : Tested) (S : Scene) (g log : List ℕ) (B : Lists) (Q : ℕ) 
       none-of none q e = q
       none-of (some k) q e = absurd (omega arith)
   through (refuse n p) v e =
-      let f = zero-fine UPDATE refl (updateVerdict S log B Q) (update-numbers S log B Q) (ap (λ (x : Verdict). (checkBy x) .number) v ∙ e) in
+      let f = zero-fine UPDATE-FIRST refl (updateVerdict S log B Q) (update-numbers S log B Q) (ap (λ (x : Verdict). (checkBy x) .number) v ∙ e) in
       let z : _≡_ {A = ℕ} 0 1 = cc in absurd (omega arith)
 
   mended : checkVerdict S [] g B Q ≡ fine → Honest (world S) g (entriesOf log) → Mends (world S) g (entriesOf log)

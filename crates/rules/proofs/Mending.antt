@@ -39,11 +39,16 @@ only-le {ℓ} : {A : Type ℓ} (b : Bool) (x : A) → length (only b x) ≤ 1
 only-le true x = omega arith
 only-le false x = omega arith
 
+-- a mesh that has the sides of a test, and no other, has none twice
+pub sides-once : (W : World) (test : ℕ → ℕ → Bool) (g : List ℕ) (m : List Quad)
+    → ((c f : ℕ) → f < 6 → at (keyOf c f) m ≡ only (test c f) (W .wordsOf (typeAt g c) f c)) → Once m
+sides-once W test g m h k =
+    let e : keyOf (k / 6) (k % 6) ≡ k = omega arith in
+    rw (← e) (rw (h (k / 6) (k % 6) (omega arith)) (only-le (test (k / 6) (k % 6)) (W .wordsOf (typeAt g (k / 6)) (k % 6) (k / 6))))
+
 pub shows-once : (W : World) (outer g : List ℕ) (m : List Quad) → Shows W outer g m → Once m
 unfolding Shows
-shows-once W outer g m h k =
-    let e : keyOf (k / 6) (k % 6) ≡ k = omega arith in
-    rw (← e) (rw (h (k / 6) (k % 6) (omega arith)) (only-le (drawn W outer g (k / 6) (k % 6)) (W .wordsOf (typeAt g (k / 6)) (k % 6) (k / 6))))
+shows-once W outer g m h = sides-once W (drawn W outer g) g m h
 
 -- ---- codes that show and cover nothing: empty types, and 255
 abbrev Bare : World → ℕ → Type 0

@@ -40,9 +40,12 @@ CUBE = 4 ∷ 5 ∷ 7 ∷ 9 ∷ []
 abbrev pub MESH : List ℕ
 MESH = 2 ∷ 3 ∷ 4 ∷ 6 ∷ 7 ∷ 8 ∷ 9 ∷ 14 ∷ []
 
--- before the log is run; 14 is then an entry's
+-- before its log is run, and then
+abbrev pub UPDATE-FIRST : List ℕ
+UPDATE-FIRST = 2 ∷ 3 ∷ 4 ∷ 6 ∷ 9 ∷ 10 ∷ 11 ∷ 12 ∷ 13 ∷ []
+
 abbrev pub UPDATE : List ℕ
-UPDATE = 2 ∷ 3 ∷ 4 ∷ 6 ∷ 9 ∷ 10 ∷ 11 ∷ 12 ∷ 13 ∷ []
+UPDATE = UPDATE-FIRST ++ (14 ∷ [])
 
 abbrev pub CHECK : List ℕ
 CHECK = 2 ∷ 3 ∷ 4 ∷ 6 ∷ 7 ∷ 8 ∷ 9 ∷ 10 ∷ 11 ∷ 12 ∷ 15 ∷ 16 ∷ []
@@ -64,7 +67,7 @@ book-numbers : {ns : List ℕ} → member 11 ns ≡ true → member 12 ns ≡ tr
 unfolding BAD-LINKS
 book-numbers a b S B Q = (if-given _ _ _ a and-then if-given _ _ _ a) and-then if-given _ _ _ b
 
-pub update-numbers : (S : Scene) (log : List ℕ) (B : Lists) (Q : ℕ) → Within UPDATE (updateVerdict S log B Q)
+pub update-numbers : (S : Scene) (log : List ℕ) (B : Lists) (Q : ℕ) → Within UPDATE-FIRST (updateVerdict S log B Q)
 unfolding BAD-ENTRY
 update-numbers S log B Q =
     if-given _ _ _ refl and-then types-numbers refl refl refl S and-then (if-given _ _ _ refl and-then if-given _ _ _ refl and-then book-numbers refl refl S B Q)
@@ -102,19 +105,19 @@ mesh-number S outer g culling B = go (meshVerdict S outer g culling B) (mesh-num
     go (refuse n p) w = own-number MESH (refuse n p) w
 
 pub update-number : (tested : Tested) (S : Scene) (log : List ℕ) (B : Lists) (Q : ℕ)
-    → member ((updateMesh tested S log B Q) .answer .number) (0 ∷ UPDATE ++ (14 ∷ [])) ≡ true
+    → member ((updateMesh tested S log B Q) .answer .number) (0 ∷ UPDATE) ≡ true
 update-number tested S log B Q = go (updateVerdict S log B Q) (update-numbers S log B Q)
   where
     c : Course
     c = course tested S log B Q
 
-    ran : (o : Option ℕ) → member ((courseAnswer c o) .number) (0 ∷ UPDATE ++ (14 ∷ [])) ≡ true
+    ran : (o : Option ℕ) → member ((courseAnswer c o) .number) (0 ∷ UPDATE) ≡ true
     ran none = refl
     ran (some k) = refl
 
-    go : (v : Verdict) → Within UPDATE v → member ((updateBy v S c B) .answer .number) (0 ∷ UPDATE ++ (14 ∷ [])) ≡ true
+    go : (v : Verdict) → Within UPDATE-FIRST v → member ((updateBy v S c B) .answer .number) (0 ∷ UPDATE) ≡ true
     go fine w = ran (c .full)
-    go (refuse n p) w = member-append n (0 ∷ UPDATE) (14 ∷ []) ∙ rw (own-number UPDATE (refuse n p) w)
+    go (refuse n p) w = member-append n (0 ∷ UPDATE-FIRST) (14 ∷ []) ∙ rw (own-number UPDATE-FIRST (refuse n p) w)
 
 pub check-number : (S : Scene) (outer g : List ℕ) (B : Lists) (Q : ℕ) → member ((checkMesh S outer g B Q) .number) (0 ∷ CHECK) ≡ true
 check-number S outer g B Q = own-number CHECK (checkVerdict S outer g B Q) (check-numbers S outer g B Q)

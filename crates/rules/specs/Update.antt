@@ -242,10 +242,11 @@ abbrev pub standing : List ℕ → Option ℕ → ℕ
 standing g none = 255
 standing g (some n) = typeAt g n
 
--- an entry that is true of the grid: it gives what stands beside its cell. That the grid has the cell, and the table its type, BAD_ENTRY asks
+-- an entry gives what stands beside its cell. That the grid has the cell, and the table the type, BAD_ENTRY asks
 abbrev pub Told : World → List ℕ → Entry → Type 0
 Told W g e = (f : ℕ) → f < 6 → givenAt e f ≡ standing g (neighbour (W .size) (e .cell) f)
 
+-- Broken names the type in its cell, and there is an empty type to leave; CullFaces and AddFaces are never honest
 abbrev pub TrueBy : World → List ℕ → Entry → Change → Type 0
 TrueBy W g e Broken = (e .type ≡ typeAt g (e .cell)) × (emptyType W < length (W .kinds))
 TrueBy W g e Added = Unit {0}
