@@ -291,6 +291,8 @@ static void refusals_of_meshes(void) {
     refused_by_both("grid's length", &chunk, &types, lists, MESHEM_BAD_SIZE, 0);
     other = types, other.kinds.len--;
     refused_by_both("kinds' length", &right, &other, lists, MESHEM_BAD_TYPES, 255);
+    other = types, other.covers.len--;
+    refused_by_both("sets' length", &right, &other, lists, MESHEM_BAD_TYPES, 255);
     other = types, other.covers.at = wide;
     refused_by_both("set", &right, &other, lists, MESHEM_BAD_TYPES, SLAB);
     other = types, other.d[1] = INFINITY;
