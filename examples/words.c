@@ -332,6 +332,8 @@ static void refusals_of_updates(void) {
     struct mesh room;
     chunk = right, chunk.height = 0;
     refused("height", mend(lists, FRESH, &chunk, two_entries, tested, &types), MESHEM_BAD_SIZE, 0);
+    other = types, other.kinds.len--;
+    refused("kinds' length", mend(lists, FRESH, &right, two_entries, tested, &other), MESHEM_BAD_TYPES, 255);
     other = types, other.covers.len--;
     refused("sets' length", mend(lists, FRESH, &right, two_entries, tested, &other), MESHEM_BAD_TYPES, 255);
     other = types, other.d[2] = INFINITY;
