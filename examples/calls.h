@@ -97,8 +97,8 @@ static inline struct answer mesh(const struct chunk *c, const struct types *t, e
 }
 
 /* `count` is the mesh's number of quads; the chunk's grid and outer list are not asked for. */
-static inline struct answer mend(struct mesh m, uint64_t count, const struct chunk *c, struct bytes log, enum meshem_tested tested,
-                                 const struct types *t) {
+static inline struct answer mend(struct mesh m, uint64_t count, const struct chunk *c, struct bytes log,
+                                 enum meshem_tested tested, const struct types *t) {
     struct answer told = {0, 0, 0, 0};
     told.number = meshem_update_mesh(
         m.vertices.at, m.vertices.len,

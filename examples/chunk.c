@@ -9,7 +9,7 @@ enum { AIR, ROCK, SLAB, TYPES };
 enum { WIDTH = 3, HEIGHT = 2, LENGTH = 4, CELLS = WIDTH * HEIGHT * LENGTH };
 enum { QUADS = 16, FLOATS = 12, CUBE = 24 * FLOATS };
 
-/* a cell is y, then z, then x: these three are neighbours, the second to the Right of the first, the third on top of the second */
+/* cells go by y, then z, then x. The second of these is to the Right of the first, the third on top of the second */
 enum { DUG = (0 * LENGTH + 2) * WIDTH + 1, KEPT = DUG + 1, ABOVE = KEPT + LENGTH * WIDTH };
 
 static uint32_t cubes[TYPES * CUBE];
@@ -20,7 +20,8 @@ static const struct mesh lists = {
 static const uint8_t kinds[TYPES] = {NOTHING, NORMAL_CUBE, NORMAL_CUBE};
 static const uint8_t covers[TYPES] = {0, 63, 1 << BOTTOM}; /* nothing, all six sides, its underside */
 static const struct types types = {
-    {kinds, TYPES}, {covers, TYPES}, {cubes, TYPES * CUBE}, {1, 0.75f, 4}, {10, 20, 30}, 1};
+    .kinds = {kinds, TYPES}, .covers = {covers, TYPES}, .cubes = {cubes, TYPES * CUBE},
+    .d = {1, 0.75f, 4}, .centre = {10, 20, 30}, .coloured = 1};
 
 /* a cube as wide and long as a cell; its tiles are of column `column`, a row for each face, in an atlas of 4 by 8 */
 static struct answer build_type(int type, uint32_t column, float height, float middle) {
@@ -31,7 +32,9 @@ static struct answer build_type(int type, uint32_t column, float height, float m
         texture[3 * face + 2] = face;
     }
     struct voxel voxel = {
-        {types.d[0], height, types.d[2]}, {types.centre[0], middle, types.centre[2]}, 4, 8, {texture, 18}, 0.125f, 0.5f, 0.75f, 1};
+        .d = {types.d[0], height, types.d[2]}, .centre = {types.centre[0], middle, types.centre[2]},
+        .atlas_width = 4, .atlas_height = 8, .texture = {texture, 18},
+        .padding = 0.125f, .coloured = 1, .colour = 0.5f, .alpha = 0.75f};
     return build(&voxel, (struct words){cubes + type * CUBE, CUBE});
 }
 

@@ -46,7 +46,8 @@ static uint32_t floats(uint32_t coloured) {
 
 static struct types types_of(uint32_t coloured) {
     return (struct types){
-        {kinds, TYPES}, {covers, TYPES}, {cubes, TYPES * 24 * floats(coloured)}, {1, 0.75f, 4}, {10, 20, 30}, coloured};
+        .kinds = {kinds, TYPES}, .covers = {covers, TYPES}, .cubes = {cubes, TYPES * 24 * floats(coloured)},
+        .d = {1, 0.75f, 4}, .centre = {10, 20, 30}, .coloured = coloured};
 }
 
 static struct mesh lists_of(uint32_t coloured) {
@@ -56,8 +57,12 @@ static struct mesh lists_of(uint32_t coloured) {
 
 /* a slab is the lower half of its cell */
 static struct voxel voxel_of(int type, uint32_t coloured) {
-    struct voxel rock = {{1, 0.75f, 4}, {10, 20, 30}, 8, 4, {rock_texture, 18}, 0.125f, 0.25f, 0.5f, coloured};
-    struct voxel slab = {{1, 0.375f, 4}, {10, 19.8125f, 30}, 2, 16, {slab_texture, 18}, 0.0625f, 0.375f, 0.75f, coloured};
+    struct voxel rock = {
+        .d = {1, 0.75f, 4}, .centre = {10, 20, 30}, .atlas_width = 8, .atlas_height = 4, .texture = {rock_texture, 18},
+        .padding = 0.125f, .coloured = coloured, .colour = 0.25f, .alpha = 0.5f};
+    struct voxel slab = {
+        .d = {1, 0.375f, 4}, .centre = {10, 19.8125f, 30}, .atlas_width = 2, .atlas_height = 16, .texture = {slab_texture, 18},
+        .padding = 0.0625f, .coloured = coloured, .colour = 0.375f, .alpha = 0.75f};
     return type == ROCK ? rock : slab;
 }
 

@@ -1,5 +1,5 @@
-//! Every word of the four calls, held to document 01's formulas. Sizes, d, centre, atlas, padding, colour and alpha all differ, so that
-//! no two numbers can change places between these tests and the library without a word or an answer that shows it.
+//! Every word of the four calls, held to document 01's formulas. Sizes, d, centre, atlas, padding, colour and alpha all differ. So no
+//! two numbers can change places on their way to the library without a word or an answer that shows it.
 
 mod kept;
 
@@ -49,7 +49,7 @@ fn floats(coloured: bool) -> usize {
     }
 }
 
-/// A cube that fills its cell, or the lower half of one. Of the slab's tiles the last for a face wins, Top's, and Forward is not named.
+/// A cube that fills its cell, or the lower half of one. The slab names Top twice, so that the last tile wins, and Forward never.
 fn shape(voxel: u8, coloured: bool) -> Shape {
     match voxel {
         ROCK => Shape {
@@ -239,8 +239,9 @@ fn a_mesh_tells_its_vertices_apart() {
     assert_eq!(metadata.get_quad_index(Right, 8), None);
 }
 
-/// A slab is laid on rock, and its five sides come last, 20 quads by then. Testing the side itself the rock loses its Top, quad 0, whose
-/// place the last quad takes. The rock beside it is dug, each of whose four quads gives way to the last, and the Right behind it comes.
+/// A slab is laid on rock. Its five sides come last, 20 quads by then. Testing the side itself, the rock loses its Top, quad 0, and the
+/// last quad takes that place. The rock beside it is dug: the last takes the place of each of its four. Then the Right behind it comes.
+/// The third entry finds no room.
 fn log_of(entries: usize) -> Log {
     let mut log = Log::new();
     let all = [
