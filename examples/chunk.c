@@ -3,86 +3,94 @@
  * ground. Then a half-height slab is filled in on the other, testing either side: Meshem's leaves a face too many.
  */
 #include <stdio.h>
-#include <string.h>
-#include "../include/meshem.h"
+#include "calls.h"
 
-enum { AIR, ROCK, SLAB, TYPES, OUTSIDE = 255 };
-enum { BROKEN, ADDED };
-enum { WIDTH = 2, HEIGHT = 3, LENGTH = 1, CELLS = WIDTH * HEIGHT * LENGTH };
-enum { QUADS = 16, FLOATS = 8, CUBE = 24 * FLOATS };
+enum { AIR, ROCK, SLAB, TYPES };
+enum { WIDTH = 3, HEIGHT = 2, LENGTH = 4, CELLS = WIDTH * HEIGHT * LENGTH };
+enum { QUADS = 16, FLOATS = 12, CUBE = 24 * FLOATS };
 
-/* a voxel's size and centre; a slab is half as high, with its centre at a quarter, so that its top is at the voxel's centre */
-static const float DX = 1, DY = 0.75f, DZ = 4, CX = 0.5f, CY = 0.375f, CZ = 2;
-static const float SLAB_DY = 0.375f, SLAB_CY = 0.1875f;
+/* cells go by y, then z, then x. The second of these is to the Right of the first, the third on top of the second */
+enum { DUG = (0 * LENGTH + 2) * WIDTH + 1, KEPT = DUG + 1, ABOVE = KEPT + LENGTH * WIDTH };
 
 static uint32_t cubes[TYPES * CUBE];
 static uint32_t vertices[QUADS * 4 * FLOATS], triangles[QUADS * 6], links[QUADS], slots[CELLS * 6];
+static const struct mesh lists = {
+    {vertices, QUADS * 4 * FLOATS}, {triangles, QUADS * 6}, {links, QUADS}, {slots, CELLS * 6}};
 
-static const uint8_t kinds[TYPES] = {0, 1, 1};   /* Null, NormalCube, NormalCube */
-static const uint8_t covers[TYPES] = {0, 63, 2}; /* nothing, all six sides, Bottom */
+static const uint8_t kinds[TYPES] = {NOTHING, NORMAL_CUBE, NORMAL_CUBE};
+static const uint8_t covers[TYPES] = {0, 63, 1 << BOTTOM}; /* nothing, all six sides, its underside */
+static const struct types types = {
+    .kinds = {kinds, TYPES}, .covers = {covers, TYPES}, .cubes = {cubes, TYPES * CUBE},
+    .d = {1, 0.75f, 4}, .centre = {10, 20, 30}, .coloured = 1};
 
-static uint32_t bits(float number) {
-    uint32_t word;
-    memcpy(&word, &number, sizeof word);
-    return word;
+/* a cube as wide and long as a cell; its tiles are of column `column`, a row for each face, in an atlas of 4 by 8 */
+static struct answer build_type(int type, uint32_t column, float height, float middle) {
+    uint32_t texture[18];
+    for (uint32_t face = 0; face < 6; face++) {
+        texture[3 * face] = face;
+        texture[3 * face + 1] = column;
+        texture[3 * face + 2] = face;
+    }
+    struct voxel voxel = {
+        .d = {types.d[0], height, types.d[2]}, .centre = {types.centre[0], middle, types.centre[2]},
+        .atlas_width = 4, .atlas_height = 8, .texture = {texture, 18},
+        .padding = 0.125f, .coloured = 1, .colour = 0.5f, .alpha = 0.75f};
+    return build(&voxel, (struct words){cubes + type * CUBE, CUBE});
 }
 
-static uint32_t build(int type, float dy, float cy) {
-    uint32_t texture[18] = {0};
-    uint64_t place;
-    for (uint32_t face = 0; face < 6; face++) texture[3 * face] = face;
-    return meshem_generate_voxel_mesh(bits(DX), bits(dy), bits(DZ), 1, 1, texture, 18, bits(CX), bits(cy), bits(CZ), 0, 0, 0, 0,
-                                      cubes + type * CUBE, CUBE, &place);
+static struct chunk chunk_of(const uint8_t *grid) {
+    return (struct chunk){WIDTH, HEIGHT, LENGTH, {NULL, 0}, {grid, CELLS}};
 }
 
-static uint32_t mesh(const uint8_t *grid, uint64_t *quads) {
-    uint64_t place;
-    return meshem_mesh_grid(WIDTH, HEIGHT, LENGTH, NULL, 0, grid, CELLS, kinds, TYPES, covers, TYPES, cubes, TYPES * CUBE, 0,
-                            bits(DX), bits(DY), bits(DZ), bits(CX), bits(CY), bits(CZ), 1, vertices, QUADS * 4 * FLOATS,
-                            triangles, QUADS * 6, links, QUADS, slots, CELLS * 6, &place, quads);
-}
-
-static uint32_t mend(const uint8_t *log, size_t bytes, uint32_t tested, uint64_t *quads, uint64_t *moved) {
-    uint64_t place;
-    return meshem_update_mesh(vertices, QUADS * 4 * FLOATS, triangles, QUADS * 6, links, QUADS, slots, CELLS * 6, *quads,
-                              WIDTH, HEIGHT, LENGTH, log, bytes, tested, kinds, TYPES, covers, TYPES, cubes, TYPES * CUBE, 0,
-                              bits(DX), bits(DY), bits(DZ), bits(CX), bits(CY), bits(CZ), &place, quads, moved);
-}
-
-static uint32_t check(const uint8_t *grid, uint64_t quads) {
-    uint64_t place;
-    return meshem_check_mesh(WIDTH, HEIGHT, LENGTH, NULL, 0, grid, CELLS, kinds, TYPES, covers, TYPES, cubes, TYPES * CUBE, 0,
-                             bits(DX), bits(DY), bits(DZ), bits(CX), bits(CY), bits(CZ), vertices, QUADS * 4 * FLOATS,
-                             triangles, QUADS * 6, links, QUADS, slots, CELLS * 6, quads, &place);
-}
-
-static void mended(const char *what, const uint8_t *entry, uint32_t tested, uint64_t *quads) {
-    uint64_t moved;
-    uint32_t answer = mend(entry, 12, tested, quads, &moved);
-    printf("%s: %u quads %u moved %u\n", what, answer, (unsigned)*quads, (unsigned)moved);
+static void mended(const char *what, const uint8_t *entry, enum meshem_tested tested, uint64_t *quads) {
+    struct chunk chunk = chunk_of(NULL);
+    struct answer told = mend(lists, *quads, &chunk, (struct bytes){entry, 12}, tested, &types);
+    *quads = told.quads;
+    printf("%s: %s quads %u moved %u\n", what, name(told.number), (unsigned)told.quads, (unsigned)told.moved);
 }
 
 static void checked(const char *what, const uint8_t *grid, uint64_t quads) {
-    uint32_t answer = check(grid, quads);
-    printf("check %s: %u%s\n", what, answer, answer == MESHEM_WRONG_SET ? " WRONG_SET" : "");
+    struct chunk chunk = chunk_of(grid);
+    struct answer told = check(&chunk, &types, lists, quads);
+    printf("check %s: %s", what, name(told.number));
+    if (told.number == MESHEM_WRONG_SET) printf(", cell %u face %u", (unsigned)told.place / 6, (unsigned)told.place % 6);
+    printf("\n");
+}
+
+/* the index says at which vertex the quad of a face starts, if it is drawn */
+static void show(uint32_t cell, enum face face) {
+    uint32_t first = slots[6 * cell + face];
+    if (first == UINT32_MAX) return;
+    for (uint32_t vertex = first; vertex < first + 4; vertex++) {
+        float f[FLOATS];
+        memcpy(f, vertices + FLOATS * vertex, sizeof f);
+        printf("  at %g %g %g facing %g %g %g uv %g %g colour %g %g %g %g\n", f[0], f[1], f[2], f[3], f[4], f[5], f[6], f[7],
+               f[8], f[9], f[10], f[11]);
+    }
 }
 
 int main(void) {
-    /* by x, then z, then y: what isn't named is air */
-    const uint8_t ground[CELLS] = {ROCK, ROCK}, dug[CELLS] = {AIR, ROCK}, laid[CELLS] = {AIR, ROCK, AIR, SLAB};
+    /* what isn't named is air */
+    const uint8_t ground[CELLS] = {[DUG] = ROCK, [KEPT] = ROCK}, dug[CELLS] = {[KEPT] = ROCK},
+                  laid[CELLS] = {[KEPT] = ROCK, [ABOVE] = SLAB};
     /* the cell in four bytes, the change, the type, its neighbours at Top, Bottom, Right, Left, Back, Forward */
-    const uint8_t dig[12] = {0, 0, 0, 0, BROKEN, ROCK, AIR, OUTSIDE, ROCK, OUTSIDE, OUTSIDE, OUTSIDE};
-    const uint8_t lay[12] = {3, 0, 0, 0, ADDED, SLAB, AIR, ROCK, OUTSIDE, AIR, OUTSIDE, OUTSIDE};
-    const uint8_t lift[12] = {3, 0, 0, 0, BROKEN, SLAB, AIR, ROCK, OUTSIDE, AIR, OUTSIDE, OUTSIDE};
+    const uint8_t dig[12] = {DUG, 0, 0, 0, BROKEN, ROCK, AIR, OUTSIDE, ROCK, AIR, AIR, AIR};
+    const uint8_t lay[12] = {ABOVE, 0, 0, 0, ADDED, SLAB, OUTSIDE, ROCK, OUTSIDE, AIR, AIR, AIR};
+    const uint8_t lift[12] = {ABOVE, 0, 0, 0, BROKEN, SLAB, OUTSIDE, ROCK, OUTSIDE, AIR, AIR, AIR};
+    struct chunk chunk = chunk_of(ground);
+    struct answer rock, slab, told;
     uint64_t quads;
-    uint32_t answer;
     if (meshem_abi() != MESHEM_ABI) {
         fprintf(stderr, "the library linked is of level %u, and meshem.h of level %u\n", meshem_abi(), MESHEM_ABI);
         return 1;
     }
-    printf("cubes: %u %u\n", build(ROCK, DY, CY), build(SLAB, SLAB_DY, SLAB_CY));
-    answer = mesh(ground, &quads);
-    printf("mesh: %u quads %u\n", answer, (unsigned)quads);
+    /* a slab is half as high, with its centre a quarter lower, so that its top is at the cell's centre */
+    rock = build_type(ROCK, 2, types.d[1], types.centre[1]);
+    slab = build_type(SLAB, 3, types.d[1] / 2, types.centre[1] - types.d[1] / 4);
+    printf("cubes: %s %s\n", name(rock.number), name(slab.number));
+    told = mesh(&chunk, &types, CULLING, lists);
+    quads = told.quads;
+    printf("mesh: %s quads %u\n", name(told.number), (unsigned)quads);
     checked("the ground", ground, quads);
     mended("dig", dig, MESHEM_TESTED_OPPOSITE, &quads);
     checked("the dug ground", dug, quads);
@@ -93,5 +101,7 @@ int main(void) {
     checked("the dug ground", dug, quads);
     mended("lay it, testing the side itself", lay, MESHEM_TESTED_ITSELF, &quads);
     checked("the slab", laid, quads);
+    printf("the slab's Right:\n");
+    show(ABOVE, RIGHT);
     return 0;
 }

@@ -90,6 +90,23 @@ mod tests {
         assert_eq!(Reason::from_number(17), None);
     }
 
+    /// Document 01's table, and the header's enumerators.
+    #[test]
+    #[rustfmt::skip]
+    fn names_go_with_numbers() {
+        let names = [
+            "BAD_FILE", "BAD_SIZE", "BAD_TYPES", "BAD_NUMBER", "BAD_ATLAS", "NOT_A_CUBE", "BAD_FACE", "BAD_CELL",
+            "SHORT_ROOM", "BAD_COUNT", "BAD_LINKS", "BAD_TRIANGLES", "BAD_ENTRY", "NO_ROOM", "WRONG_SET", "WRONG_VERTEX",
+        ];
+        assert_eq!(Reason::ALL.map(Reason::name), names);
+        let header = include_str!("../../../include/meshem.h");
+        let enumerators = header.split_once("enum meshem_refusal {").and_then(|(_, rest)| rest.split_once("};")).unwrap().0;
+        let due: Vec<String> = Reason::ALL.map(|reason| format!("MESHEM_{} = {}", reason.name(), reason.number())).into();
+        let told: Vec<&str> = enumerators.split(',').map(str::trim).collect();
+        assert_eq!(told[0], "MESHEM_DONE = 0");
+        assert_eq!(told[1..], due);
+    }
+
     #[test]
     fn a_refusal_says_its_name_and_place() {
         let told = Refusal { reason: Reason::BadCell, place: 7 }.to_string();

@@ -132,6 +132,9 @@ fn refusals_of_meshing() {
     assert_eq!(refusal((3, 1, 1), &[ROCK, 3, 9]), (Reason::BadCell, 1));
     let empty = VoxelRegistry::new([1.0; 3], [0.0; 3], false);
     assert_eq!(refused(mesh_grid((1, 1, 1), &[], &[0], &empty, MeshingAlgorithm::Culling)), (Reason::BadTypes, 255));
+    let mut endless = VoxelRegistry::new([1.0, f32::INFINITY, 1.0], [0.0; 3], false);
+    endless.add(VoxelMesh::Null, Sides::NONE).unwrap();
+    assert_eq!(refused(mesh_grid((1, 1, 1), &[], &[0], &endless, MeshingAlgorithm::Culling)), (Reason::BadNumber, 0));
     let mut apart = VoxelRegistry::new([1.0; 3], [2.0; 3], false);
     apart.add(VoxelMesh::Null, Sides::NONE).unwrap();
     apart.add(VoxelMesh::NormalCube(&cube(None)), Sides::ALL).unwrap();
@@ -263,6 +266,31 @@ fn a_lent_update_out_of_room_keeps_what_it_did() {
     assert_eq!(answer, Err(UpdateError::NoRoom { entry: 2, kept: Updated { quads: 12, moved: 0 } }));
     assert_eq!(answer.unwrap_err().to_string(), "NO_ROOM at 2 (the entries before it are done, and left 12 quads)");
     assert_eq!(lent::check_mesh(dims, &[], &[ROCK, AIR, ROCK, AIR, AIR], &registry, kept.room().lists(), 12), Ok(()));
+}
+
+#[test]
+fn damaged_lists_are_refused_where_they_are_damaged() {
+    let (registry, dims, grid) = (registry(), (2, 1, 1), [ROCK; 2]);
+    let mut right = Kept::new(10, 2);
+    assert_eq!(lent::mesh_grid(dims, &[], &grid, &registry, MeshingAlgorithm::Culling, &mut right.room()), Ok(10));
+    let told = |damage: fn(&mut Kept)| {
+        let mut kept = right.clone();
+        damage(&mut kept);
+        let checked = lent::check_mesh(dims, &[], &grid, &registry, kept.lists(), 10);
+        (checked, lent::update_mesh(&mut kept.room(), 10, dims, &Log::new(), &registry))
+    };
+    let both = |reason, place| {
+        let refusal = Refusal { reason, place };
+        (Err(refusal), Err(UpdateError::Refused(refusal)))
+    };
+    assert_eq!(told(|kept| kept.links[4] ^= 1), both(Reason::BadLinks, 4));
+    assert_eq!(told(|kept| kept.slots[2] = 0), both(Reason::BadLinks, 10));
+    assert_eq!(told(|kept| kept.triangles[6 * 3 + 2] ^= 1), both(Reason::BadTriangles, 3));
+    // no update reads a vertex
+    let unread = Ok(Updated { quads: 10, moved: 0 });
+    let wrong = Refusal { reason: Reason::WrongVertex, place: 5 };
+    assert_eq!(told(|kept| kept.vertices[32 * 5 + 7] += 1.0), (Err(wrong), unread));
+    assert_eq!(told(|_| ()), (Ok(()), unread));
 }
 
 #[test]

@@ -1,6 +1,7 @@
 //! Lists that a test keeps and lends.
+#![allow(dead_code, reason = "a file of tests uses what it needs of it")]
 
-use nalumoce::lent::Room;
+use nalumoce::lent::{Lists, Room};
 
 #[derive(Clone, PartialEq, Debug)]
 pub struct Kept {
@@ -11,10 +12,19 @@ pub struct Kept {
 }
 
 impl Kept {
+    /// Without colour.
     pub fn new(quads: usize, cells: usize) -> Kept {
-        Kept { vertices: vec![7.0; 32 * quads], triangles: vec![7; 6 * quads], links: vec![7; quads], slots: vec![7; 6 * cells] }
+        Kept::with_floats(8, quads, cells)
+    }
+    /// As many floats a vertex.
+    pub fn with_floats(floats: usize, quads: usize, cells: usize) -> Kept {
+        let vertices = vec![7.0; 4 * floats * quads];
+        Kept { vertices, triangles: vec![7; 6 * quads], links: vec![7; quads], slots: vec![7; 6 * cells] }
     }
     pub fn room(&mut self) -> Room<'_> {
         Room { vertices: &mut self.vertices, triangles: &mut self.triangles, links: &mut self.links, slots: &mut self.slots }
+    }
+    pub fn lists(&self) -> Lists<'_> {
+        Lists { vertices: &self.vertices, triangles: &self.triangles, links: &self.links, slots: &self.slots }
     }
 }
