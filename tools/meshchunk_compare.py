@@ -6,9 +6,9 @@ built first if it is not there.
 import collections
 import random
 import struct
-import subprocess
 import sys
 
+from chunkfile import answer_of
 from plain_program import bits_of, expected
 
 PROGRAM = "tools/meshchunk"
@@ -97,7 +97,7 @@ def main():
     agreed, answers = 0, collections.Counter()
     for case in range(cases):
         file = random_file(rng)
-        told = subprocess.run([PROGRAM], input=file, capture_output=True, check=True).stdout.decode()
+        told = answer_of(PROGRAM, file)
         if told == expected(file):
             agreed += 1
         else:

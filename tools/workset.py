@@ -24,11 +24,10 @@ import itertools
 import os
 import random
 import struct
-import subprocess
 import sys
 
 sys.dont_write_bytecode = True  # no folder of bytecode beside the tools
-from chunkfile import ROOT, chunk_in, read_input
+from chunkfile import ROOT, answer_of, chunk_in, read_input
 from plain_program import expected
 from sure import sure
 from workfiles import CUBE, NULL, ONE, Bytes, File, named_bad_files, trailer, type_bytes, words
@@ -452,14 +451,10 @@ def stored():
     return read_set(read_input(os.path.join(ROOT, SET)).decode())
 
 
-def printed(program, data):
-    return subprocess.run([program], input=data, stdout=subprocess.PIPE, check=True).stdout.decode()
-
-
 def test(program):
     files, right, told = stored(), 0, 0
     for one in files:
-        answer = printed(program, one.data)
+        answer = answer_of(program, one.data)
         if one.is_wrong:
             told += answer != one.told
         elif answer == one.told:
