@@ -40,6 +40,7 @@ import sys
 import zlib
 
 sys.dont_write_bytecode = True  # no folder of bytecode beside the tools
+from sure import sure
 from workfiles import File, good_files, trailer, words
 
 FACES = ["top", "bottom", "right", "left", "back", "forward"]
@@ -498,13 +499,13 @@ def read_input(path):
         return file.read()
 
 
-def answer_of(program, chunk):
-    return subprocess.run([program], input=chunk.bytes(), stdout=subprocess.PIPE, check=True).stdout.decode()
+def answer_of(program, file):
+    return subprocess.run([program], input=file, stdout=subprocess.PIPE, check=True).stdout.decode()
 
 
 def write_picture(path, out, program, turn):
     chunk = chunk_in(read_input(path))
-    quads = quads_of(answer_of(program, chunk))
+    quads = quads_of(answer_of(program, chunk.bytes()))
     with open(out + ".png", "wb") as file:
         file.write(picture(chunk, quads, turn))
     with open(out + ".obj", "w") as file:
@@ -529,26 +530,29 @@ BAD = {
 }
 
 
+def said_of(text):
+    """What is said of a bad description; nothing of a good one."""
+    try:
+        Reader(text).read()
+    except Bad as error:
+        return str(error)
+
+
 def test(program):
     worked = File(log=words(0) + bytes([0, 1, 255, 255, 1, 255, 255, 255]))
-    assert chunk_in((SMALL + "break 0 0 0\n").encode()).bytes() == worked.text, "document 01's file"
+    sure(chunk_in((SMALL + "break 0 0 0\n").encode()).bytes() == worked.text, "document 01's file")
     sides = chunk_in((SMALL + "cull 0 0 0 right\ndraw 0 0 0 right top\nadd . 1 0 0\nbreak 1 0 0\n").encode())
     folder = os.path.join(ROOT, "examples")
     examples = [read_input(os.path.join(folder, name)) for name in sorted(os.listdir(folder)) if name.endswith(".chunk")]
     files = [file.text for file in good_files()] + [sides.bytes()] + [chunk_in(text).bytes() for text in examples]
     for file in files:
         text = "\n".join(description(read_workfile(file)))
-        assert Reader(text).read().bytes() == file, text
+        sure(Reader(text).read().bytes() == file, text)
     for text, expected in BAD.items():
-        try:
-            Reader(text).read()
-        except Bad as error:
-            assert str(error) == expected, (str(error), expected)
-        else:
-            raise AssertionError(expected)
+        sure(said_of(text) == expected, said_of(text), expected)
     print("%d round trips, %d bad descriptions" % (len(files), len(BAD)))
     dug = chunk_in(read_input(os.path.join(folder, "dug.chunk")))
-    assert answer_of(program, dug) == read_input(os.path.join(folder, "dug.stdout")).decode(), "the answer to examples/dug.chunk"
+    sure(answer_of(program, dug.bytes()) == read_input(os.path.join(folder, "dug.stdout")).decode(), "the answer to examples/dug.chunk")
     print("the program answers examples/dug.chunk rightly")
 
 

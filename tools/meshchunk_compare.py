@@ -1,209 +1,19 @@
 #!/usr/bin/env python3
-"""tools/meshchunk_compare.py [CASES [SEED]]: runs meshchunk on work files made at random and holds each answer to a plain reading of
-document 01, written from its text and not from the rules. Prints how many agreed, and how often each answer came. Run it at the
-repository's root; meshchunk is proved and built first if it is not there.
+"""tools/meshchunk_compare.py [CASES [SEED]]: runs meshchunk on work files made at random and holds each answer to plain_program.py, a plain
+reading of document 01. Prints how many agreed, and how often each answer came. Run it at the repository's root; meshchunk is proved and
+built first if it is not there.
 """
 import collections
-import math
 import random
 import struct
-import subprocess
 import sys
 
+from chunkfile import answer_of
+from plain_program import bits_of, expected
+
 PROGRAM = "tools/meshchunk"
-TOP, BOTTOM, RIGHT, LEFT, BACK, FORWARD = range(6)
-STEPS = [(0, 1, 0), (0, -1, 0), (1, 0, 0), (-1, 0, 0), (0, 0, 1), (0, 0, -1)]
-CORNERS = ["-++ +++ ++- -+-", "--- +-- +-+ --+", "++- +++ +-+ +--", "--- --+ -++ -+-", "+++ -++ --+ +-+", "+-- --- -+- ++-"]
-ROOM = 128
-
-
-# ---- floats of 32 bits
-
-def of_bits(bits):
-    return struct.unpack("<f", struct.pack("<I", bits))[0]
-
-
-def bits_of(number):
-    return struct.unpack("<I", struct.pack("<f", number))[0]
-
-
-def single(number):
-    try:
-        return struct.unpack("<f", struct.pack("<f", number))[0]
-    except OverflowError:
-        return math.copysign(math.inf, number)
-
-
-# ---- the file
-
-class Refused(Exception):
-    pass
-
-
-def words_at(file, at, count):
-    return list(struct.unpack("<%dI" % count, file[at:at + 4 * count]))
-
-
-class Work:
-    def __init__(self, file):
-        if len(file) < 92 or len(file) > 8192:
-            raise Refused(1, 0)
-        body = len(file) - 92
-        t = words_at(file, body, 23)
-        self.types, self.entries, self.size = t[3], t[4], tuple(t[5:8])
-        self.cells = t[5] * t[6] * t[7]
-        grid = 74 * self.types
-        log = grid + self.cells
-        if (t[0], t[1] + grid, t[2] + log, log + 12 * self.entries) != (body,) * 4:
-            raise Refused(1, 0)
-        if t[22] != 92 or t[19] > 1 or t[9] > 1 or t[8] > 63 or self.types > 8 or self.cells > 512 or not self.types or not self.cells:
-            raise Refused(1, 0)
-        self.outer, self.culling = t[8], t[9] == 1
-        self.d = [of_bits(b) for b in t[10:13]]
-        self.centre = [of_bits(b) for b in t[13:16]]
-        self.atlas, self.padding = t[16:18], of_bits(t[18])
-        self.kinds = [file[74 * i] for i in range(self.types)]
-        self.covers = [file[74 * i + 1] for i in range(self.types)]
-        self.textures = [words_at(file, 74 * i + 2, 18) for i in range(self.types)]
-        self.grid = file[grid:log]
-        self.log = [file[log + 12 * i:log + 12 * i + 12] for i in range(self.entries)]
-
-    # ---- cubes
-
-    def build(self):
-        for texture in self.textures:
-            if not all(map(math.isfinite, self.d + self.centre + [self.padding])):
-                raise Refused(4, 0)
-            if not all(1 <= a <= 4096 for a in self.atlas) or any(texture[i] > 4095 for i in range(18) if i % 3):
-                raise Refused(5, 0)
-            for i in range(6):
-                if texture[3 * i] > 5:
-                    raise Refused(7, i)
-
-    def is_cube(self):
-        high = [single(single(d / 2) + c) for d, c in zip(self.d, self.centre)]
-        low = [single(h - d) for h, d in zip(high, self.d)]
-        if not all(map(math.isfinite, high + low)):
-            return False
-        for face in range(6):
-            at = [[high[a] if sign == "+" else low[a] for a, sign in enumerate(corner)] for corner in CORNERS[face].split()]
-            for triangle in ((0, 1, 3), (2, 3, 1)):
-                if self.class_of([at[i] for i in triangle]) != face:
-                    return False
-        return True
-
-    def class_of(self, corners):
-        for axis, (up, down) in enumerate(((RIGHT, LEFT), (TOP, BOTTOM), (BACK, FORWARD))):
-            if corners[0][axis] == corners[1][axis] == corners[2][axis]:
-                return down if self.centre[axis] > corners[0][axis] else up
-        return None
-
-    # ---- the mesh: quads by cell and face
-
-    def neighbour(self, cell, face):
-        w, h, l = self.size
-        x, z, y = cell % w, cell // w % l, cell // (w * l)
-        x, y, z = x + STEPS[face][0], y + STEPS[face][1], z + STEPS[face][2]
-        return y * l * w + z * w + x if 0 <= x < w and 0 <= y < h and 0 <= z < l else None
-
-    def is_normal(self, code):
-        return self.kinds[code] == 1
-
-    def covering(self, code, face):
-        return self.covers[code] >> face & 1 == 1
-
-    def is_drawn(self, cell, face):
-        if not self.is_normal(self.grid[cell]):
-            return False
-        beside = self.neighbour(cell, face)
-        if not self.culling:
-            return True
-        if beside is None:
-            return self.outer >> face & 1 == 0
-        return not self.covering(self.grid[beside], face ^ 1)
-
-    def mesh(self):
-        for i in range(self.types):
-            if self.kinds[i] > 2 or self.covers[i] > 63:
-                raise Refused(3, i)
-        for i in range(self.types):
-            if self.is_normal(i) and not self.is_cube():
-                raise Refused(6, i)
-        for cell, code in enumerate(self.grid):
-            if code >= self.types:
-                raise Refused(8, cell)
-        self.quads = [(c, f) for c in range(self.cells) for f in range(6) if self.is_drawn(c, f)]
-        if len(self.quads) > ROOM:
-            raise Refused(14, 0)
-
-    # ---- the update
-
-    def update(self):
-        self.moved = 0
-        for i, e in enumerate(self.log):
-            neighbours = e[6:]
-            if struct.unpack("<I", e[:4])[0] >= self.cells or e[4] > 3 or e[5] >= self.types:
-                raise Refused(13, i)
-            if any(n >= self.types and n != 255 for n in neighbours):
-                raise Refused(13, i)
-        for i, e in enumerate(self.log):
-            self.enter(i, struct.unpack("<I", e[:4])[0], e[4], e[5], e[6:])
-
-    def enter(self, i, cell, change, code, given):
-        own, new, facing = [], [], []
-        sides = [(cell, f) for f in range(6)]
-        if change == 0:
-            own = sides
-            for f in range(6):
-                beside = self.neighbour(cell, f)
-                if self.covering(code, f) and given[f] != 255 and self.is_normal(given[f]) and beside is not None:
-                    new.append((beside, f ^ 1))
-        elif change == 1 and self.is_normal(code):
-            own = sides
-            new = [(cell, f) for f in range(6) if given[f] == 255 or not self.covering(given[f], f ^ 1)]
-            for f in range(6):
-                beside = self.neighbour(cell, f)
-                if beside is not None and self.covering(code, f ^ 1):
-                    facing.append((beside, f ^ 1))
-        elif change == 2:
-            own = [(cell, f) for f in range(6) if given[f] != 255]
-        elif change == 3 and self.is_normal(code):
-            new = [(cell, f) for f in range(6) if given[f] != 255]
-        left = [q for q in self.quads if q not in own]
-        if new and len(left) + len([q for q in new if q not in left]) > ROOM:
-            raise Refused(14, i)
-        for quad in own:
-            self.remove(quad)
-        for quad in new:
-            if quad not in self.quads:
-                self.quads.append(quad)
-        for quad in facing:
-            self.remove(quad)
-
-    def remove(self, quad):
-        if quad not in self.quads:
-            return
-        q, count = self.quads.index(quad), len(self.quads)
-        if count - q <= 6:
-            del self.quads[q]
-            self.moved += count - 1 - q
-        else:
-            self.quads[q] = self.quads[-1]
-            del self.quads[-1]
-            self.moved += 1
-
-
-def expected(file):
-    try:
-        work = Work(file)
-        work.build()
-        work.mesh()
-        work.update()
-    except Refused as refused:
-        return "refused %d at %d\n" % refused.args
-    lines = ["quads %d moved %d" % (len(work.quads), work.moved)]
-    lines += ["%d %d %d" % (i, cell, face) for i, (cell, face) in enumerate(work.quads)]
-    return "\n".join(lines) + "\n"
+FULL = 8192
+SPARE = FULL - 92  # what types, grid and log may have
 
 
 # ---- files at random
@@ -242,14 +52,24 @@ def random_entry(rng, cells, types):
     return struct.pack("<I", cell) + bytes([change, code] + given)
 
 
-def random_file(rng):
-    size = random_size(rng)
-    cells = size[0] * size[1] * size[2]
+def usual_shape(rng):
+    """How many types, the size of the grid, and how many entries."""
+    return rng.randrange(1, 9), random_size(rng), rng.choice((0, 1, 2, 5, 30, 200))
+
+
+def full_shape(rng):
+    """The same for a file of 8,192 bytes."""
     types = rng.randrange(1, 9)
+    cells = (SPARE - 74 * types) % 12 or 12
+    return types, (cells, 1, 1), (SPARE - 74 * types - cells) // 12
+
+
+def random_file(rng):
+    types, size, entries = full_shape(rng) if rng.randrange(40) == 0 else usual_shape(rng)
+    cells = size[0] * size[1] * size[2]
     filled = rng.choice((1, 2, 4, 10))
     grid = bytes(rarely(rng, rng.randrange(types) if rng.randrange(filled) == 0 else 0, lambda: rng.randrange(256), 3000) for _ in range(cells))
     texts = b"".join(random_type(rng) for _ in range(types))
-    entries = rng.choice((0, 1, 2, 5, 30, 200))
     log = b"".join(random_entry(rng, cells, types) for _ in range(entries))
     body = len(texts) + len(grid) + len(log)
     floats = [rarely(rng, bits_of(1.0), lambda: random_float(rng), 6) for _ in range(3)]
@@ -262,9 +82,13 @@ def random_file(rng):
     file = texts + grid + log + struct.pack("<23I", *t)
     if rng.randrange(200) == 0:
         file = file[:rng.randrange(len(file))]
-    if rng.randrange(200) == 0:
-        file += bytes(rng.randrange(20000))
-    return file
+    return rarely(rng, file, lambda: padded(rng, file), 2 if len(file) == FULL else 100)
+
+
+def padded(rng, file):
+    """The file with bytes too many. Cut at 8,192, read from its end alone or in its first parts alone it would be a file that is answered."""
+    more = bytes(rng.randrange(256) for _ in range(rng.choice((1, 2, 12, 92, rng.randrange(1, 9000)))))
+    return rng.choice((file + more, more + file, file[:-92] + more + file[-92:], file + file[-92:], file + file))
 
 
 def main():
@@ -273,7 +97,7 @@ def main():
     agreed, answers = 0, collections.Counter()
     for case in range(cases):
         file = random_file(rng)
-        told = subprocess.run([PROGRAM], input=file, capture_output=True, check=True).stdout.decode()
+        told = answer_of(PROGRAM, file)
         if told == expected(file):
             agreed += 1
         else:
@@ -284,4 +108,5 @@ def main():
     return 0 if agreed == cases else 1
 
 
-sys.exit(main())
+if __name__ == "__main__":
+    sys.exit(main())

@@ -8,6 +8,8 @@ Run it at the repository's root.
 """
 import struct
 
+from sure import sure
+
 
 def words(*numbers):
     return struct.pack("<%dI" % len(numbers), *numbers)
@@ -33,12 +35,31 @@ def trailer(types, grid, log, size, **other):
 
 
 class File:
+    """A work file, part by part: a type, the grid, an entry, bytes that belong to nothing, the trailer."""
+
     def __init__(self, types=(NULL, CUBE), grid=b"\1\1", log=BROKEN, size=(2, 1, 1), spare=b"", **other):
         self.grid, self.log = grid, log
-        self.text = b"".join(types) + grid + log + spare + trailer(b"".join(types), grid, log, size, **other)
+        self.parts = [("type", one) for one in types] + [("grid", grid)] + [("entry", log[at:at + 12]) for at in range(0, len(log), 12)]
+        self.parts += [("bytes", spare), ("trailer", trailer(b"".join(types), grid, log, size, **other))]
+
+    @property
+    def text(self):
+        return b"".join(data for _, data in self.parts)
 
     def told(self):
         return words(len(self.text)) + self.text + self.grid + self.log
+
+    def followed(self, *parts):
+        """This file with more at its end."""
+        self.parts += parts
+        return self
+
+
+class Bytes(File):
+    """A file that has none of the parts."""
+
+    def __init__(self, data):
+        self.parts = [("bytes", data)]
 
 
 def good_files():
@@ -50,44 +71,48 @@ def good_files():
     yield File(types=(CUBE,), grid=b"\0" * 10, log=BROKEN * 668, size=(10, 1, 1))  # 8,192 bytes
 
 
-def bad_files():
+def named_bad_files():
     whole = File().text
-    yield b""
-    yield whole[-91:]
-    yield trailer(b"", b"", b"", (0, 0, 0))
-    yield File(types=(CUBE,), grid=b"\0" * 11, log=BROKEN * 668, size=(11, 1, 1)).text  # 8,193 bytes
+    yield "no_bytes", Bytes(b"")
+    yield "91_bytes", Bytes(whole[-91:])
+    yield "92_bytes", File(types=(), grid=b"", log=b"", size=(0, 0, 0))
+    yield "8193_bytes", File(types=(CUBE,), grid=b"\0" * 11, log=BROKEN * 668, size=(11, 1, 1))
     for number in (91, 93, 0):
-        yield File(w22=number).text
+        yield "word_22_is_%d" % number, File(w22=number)
     body = len(whole) - 92
-    for at, distance in ((0, body), (1, body - 148), (2, 12)):
-        yield File(**{"w%d" % at: distance - 1}).text
-        yield File(**{"w%d" % at: distance + 1}).text
-    yield File(w4=0).text
-    yield File(w4=2).text
-    yield File(w3=1).text
-    yield File(spare=b"\0").text
-    yield whole[:-92] + b"\0" + whole[-92:]
-    yield whole + b"\0"
-    yield File(w19=2).text
-    yield File(w9=2).text
-    yield File(w8=64).text
-    yield File(w8=0xFFFFFFFF).text
-    yield File(types=(CUBE,) * 9).text
-    yield File(grid=b"\0" * 513, size=(513, 1, 1)).text
-    yield File(grid=b"\0" * 520, size=(1, 26, 20)).text
-    yield File(types=()).text
+    for at, part, distance in ((0, "types", body), (1, "grid", body - 148), (2, "log", 12)):
+        yield part + "_too_near", File(**{"w%d" % at: distance - 1})
+        yield part + "_too_far", File(**{"w%d" % at: distance + 1})
+    yield "an_entry_not_counted", File(w4=0)
+    yield "an_entry_not_there", File(w4=2)
+    yield "a_type_not_counted", File(w3=1)
+    yield "a_byte_before_the_trailer", File(spare=b"\0")
+    yield "a_byte_before_the_trailer_again", Bytes(whole[:-92] + b"\0" + whole[-92:])
+    yield "a_byte_at_the_end", File().followed(("bytes", b"\0"))
+    yield "flag_2", File(w19=2)
+    yield "algorithm_2", File(w9=2)
+    yield "outer_64", File(w8=64)
+    yield "outer_most", File(w8=0xFFFFFFFF)
+    yield "9_types", File(types=(CUBE,) * 9)
+    yield "513_cells", File(grid=b"\0" * 513, size=(513, 1, 1))
+    yield "520_cells", File(grid=b"\0" * 520, size=(1, 26, 20))
+    yield "no_types", File(types=())
     for size in ((0, 1, 1), (1, 0, 1), (1, 1, 0), (0, 0, 0)):
-        yield File(grid=b"", size=size).text
+        yield "size_%d_%d_%d" % size, File(grid=b"", size=size)
     # a product that is 2 in 32 bits, one that is 512 in 64 bits, and the most
-    yield File(size=(2, 0x80000001, 1)).text
-    yield File(grid=b"\0" * 512, size=(48912491 * 64, 2971 * 683 * 11, 3 * 11 * 8)).text
-    yield File(size=(0xFFFFFFFF, 0xFFFFFFFF, 0xFFFFFFFF)).text
+    yield "cells_2_in_32_bits", File(size=(2, 0x80000001, 1))
+    yield "cells_512_in_64_bits", File(grid=b"\0" * 512, size=(48912491 * 64, 2971 * 683 * 11, 3 * 11 * 8))
+    yield "cells_most", File(size=(0xFFFFFFFF, 0xFFFFFFFF, 0xFFFFFFFF))
     # types and entries so many that the bytes they ask for wrap 32 bits
-    yield File(w3=2 + 0x80000000).text
-    yield File(w4=1 + 0x40000000).text
+    yield "types_2_in_31_bits", File(w3=2 + 0x80000000)
+    yield "entries_1_in_30_bits", File(w4=1 + 0x40000000)
 
 
-assert 48912491 * 64 * 2971 * 683 * 11 * 3 * 11 * 8 == 2**64 + 512
+sure(48912491 * 64 * 2971 * 683 * 11 * 3 * 11 * 8 == 2**64 + 512)
+
+
+def bad_files():
+    return [file.text for _, file in named_bad_files()]
 
 
 def cases():
