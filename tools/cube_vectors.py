@@ -5,7 +5,7 @@ Every expected word is computed here, from document 01's sentences, with no code
 twice, once on exact fractions rounded to the nearest f32 (ties to even) and once on doubles rounded to f32, which is
 exact for a single +, -, * or /; the two must agree. The last cubes are those of oracle/vectors/rust_answers.bin: there the 24
 vertices are the Rust's, and nothing is written unless they are also the ones computed here; the two answers are 01's alone.
-Run it at the repository's root.
+Run it at the repository's root; stored.py says where it writes.
 """
 import math
 import random
@@ -13,6 +13,7 @@ import struct
 from fractions import Fraction
 
 from rust_list import answers
+from stored import counted, keep, spoiled
 
 ONE, MAX, TINY, INF, NAN = 0x3F800000, 0x7F7FFFFF, 1, 0x7F800000, 0x7FC00000
 NEG = 0x80000000
@@ -287,15 +288,78 @@ for word, coordinate, d in ((0, 0, NEG | ONE), (NEG, 0, NEG | ONE), (TINY, 1, TI
 for _ in range(40):
     try_moved(some_float(), rng.randint(0, 1023), some_float())
 
+
+
+# ---- wrong on purpose, each in one thing: a comparison that is left out counts one of them right
+
+purposely_wrong = []
+
+
+def wrong(kind, words):
+    record(kind, words)
+    purposely_wrong.append(kind)
+
+
+def spoil(kind, words, *places):
+    for at in places:
+        wrong(kind, spoiled(words, at))
+
+
+def last():
+    """The words of the last record, taken back."""
+    return records.pop()[2:]
+
+
+def wrong_cubes():
+    try_cube(shape(coloured=True, colour=ONE, alpha=bits(0.5)), 300)
+    made = last()
+    spoil(0, made, 14, 36, -1)  # its number; its first and its last word
+    wrong(0, made[:13] + [513] + made[14:])  # more room than is lent
+    try_cube(shape(texture=NAMED[:6] + [6] + NAMED[7:]))
+    refused = last()
+    assert refused[14:16] == [7, 2]
+    spoil(0, refused, 14, 15)
+    wrong(0, refused + UNIT)  # a refused cube is not written
+    try_cube(shape(d=f(-1, -2.5, -0.75)))
+    unclassed = last()
+    assert unclassed[16:18] == [6, 0]
+    spoil(0, unclassed, 16, 17)
+    wrong(0, refused[:12] + [19] + refused[13:])  # a texture that is cut short
+    wrong(0, made[:17])
+
+
+def wrong_types():
+    try_types(kinds=[3, 1], covers=[0, 64], d=f(1, 2, 3))
+    refused = last()
+    spoil(1, refused, 9, 10)
+    for kinds, covers in ((257, 0), (0, 257)):
+        try_types(kinds=[0] * kinds, covers=[0] * covers, cubes=[])
+        wrong(1, last())  # more than the program has room for
+    wrong(1, refused[:14])  # sets that are cut short
+    wrong(1, refused[:10])
+
+
+def wrong_moved():
+    try_moved(ONE, 3, ONE)
+    right = last()
+    spoil(2, right, 3)
+    for word, coordinate, d in ((INF, 1, ONE), (ONE, 1025, ONE), (ONE, 1, INF)):
+        try_moved(word, coordinate, d)
+        wrong(2, last())
+    wrong(2, right[:3])
+
+
 if __name__ == "__main__":
     # ---- the Rust's cubes
     for s, vertices in answers()[0]:
         assert try_cube(s, 300)[0] == vertices
+    wrong_cubes()
+    wrong_types()
+    wrong_moved()
     data = b"".join(struct.pack("<%dI" % len(r), *r) for r in records)
-    with open("crates/cube_run/stdin", "wb") as out:
-        out.write(data)
-    counts = [sum(r[1] == k for r in records) for k in range(3)]
-    with open("crates/cube_run/stdout", "w") as out:
-        for name, n in zip(("cubes", "types", "moved"), counts):
-            out.write("%s %d right %d wrong 0\n" % (name, n, n))
-    print(len(data), "bytes,", counts)
+    told = ""
+    for kind, name in enumerate(("cubes", "types", "moved")):
+        bad = purposely_wrong.count(kind)
+        told += counted(name, sum(r[1] == kind for r in records) - bad, bad)
+    keep("cube_run", data, told)
+    print(len(data), "bytes;", told.replace("\n", "; "))

@@ -2,7 +2,7 @@
 """Writes what the program damage_run reads and must print: crates/damage_run/stdin and stdout.
 
 Good meshes are damaged, most of them one word at a time, and checked; every expected answer comes from trials.py's check, from document 01's
-sentences, and what 01 says of a kind of damage stands here as an assert. Run it at the repository's root.
+sentences, and what 01 says of a kind of damage stands here as an assert. Run it at the repository's root; stored.py says where it writes.
 """
 import random
 from collections import Counter

@@ -2,7 +2,7 @@
 """Writes what the program log_run reads and must print: crates/log_run/stdin and stdout.
 
 Every expected word comes from trials.py, from document 01's sentences; where 01 itself works a case, its figures stand here as asserts.
-Run it at the repository's root.
+Run it at the repository's root; stored.py says where it writes.
 """
 import random
 
@@ -122,7 +122,7 @@ ODD = call(dims=[2, 2, 1], grid=[1, 0, 2, 5], **KINDS)
 count = base(ODD, 8)
 for change in (BROKEN, ADDED, CULL_FACES, ADD_FACES):
     for code in range(7):
-        for given in (0, 1, 2, 4):
+        for given in (0, 1, 2, 4) if change in (BROKEN, ADDED) else (0, 1):  # the other two ask only whether one is given
             add(UPDATE, count, entry(0, change, code, *((given,) * 6)))
     for cell in range(4):
         add(UPDATE, count, entry(cell, change, 1, *ALONE))  # as if the cell were alone

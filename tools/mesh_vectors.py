@@ -2,16 +2,18 @@
 """Writes what the program mesh_run reads and must print: crates/mesh_run/stdin and stdout.
 
 Every expected word is computed here, from document 01's sentences, with no code of the crates; cubes, float steps and the
-types' tests are those of cube_vectors.py. Run it at the repository's root.
+types' tests are those of cube_vectors.py. Run it at the repository's root; stored.py says where it writes.
 """
 import random
 import struct
 
 from cube_vectors import INF, MAX, NAN, NEG, ONE, bits, cube, f, op, shape, types_answer
+from stored import counted, keep, spoiled
 
 NONE = 0xFFFFFFFF
 STEPS = [(0, 1, 0), (0, -1, 0), (1, 0, 0), (-1, 0, 0), (0, 0, 1), (0, 0, -1)]  # Top, Bottom, Right, Left, Back, Forward
 RECORD, REGISTRY, LENT = 32768, 73440, (32768, 4096, 4096, 8192)  # what the program has room for
+HEAD, NUMBER, LENGTHS = 30, 21, 26  # how many words come before a record's lists; where the answer starts, and the lengths of what is expected
 
 
 def floats(m):
@@ -65,6 +67,12 @@ def answer(m):
     return (14, 0) if len(faces(m)) > room else (0, 0)
 
 
+def check_answer(m):
+    """What the check says of the mesh: a naive one may have faces too many."""
+    extra = [6 * cell + face for cell, at, face in faces(m) if not is_drawn(dict(m, culling=True), at, face)]
+    return (15, extra[0]) if extra else (0, 0)
+
+
 def quad(m, code, at, face):
     """The words of a quad's four vertices, drawn from a type's cube."""
     n = floats(m)
@@ -101,8 +109,8 @@ def add(m):
     quads = len(lists[2])
     r = m["dims"] + [int(m["coloured"])] + m["d"] + m["centre"] + [int(m["culling"])]
     r += [len(x) for x in (m["outer"], m["grid"], m["kinds"], m["covers"], given)] + [len(m["cubes"])] + list(m["lent"])
-    r += [number, place, quads] + [len(x) for x in lists]
-    assert len(r) == 28 and max(m["outer"] + m["grid"] + m["kinds"] + m["covers"] + [0]) < 256
+    r += [number, place, quads] + list(check_answer(m) if number == 0 else (0, 0)) + [len(x) for x in lists]
+    assert len(r) == HEAD and max(m["outer"] + m["grid"] + m["kinds"] + m["covers"] + [0]) < 256
     r += m["outer"] + m["grid"] + m["kinds"] + m["covers"] + given + sum(lists, [])
     assert len(r) <= RECORD and len(m["cubes"]) <= REGISTRY and all(n <= most for n, most in zip(m["lent"], LENT))
     records.append([len(r)] + r)
@@ -287,11 +295,45 @@ for turn in range(32):
     if quads and turn % 11 == 0:
         assert add(dict(m, lent=fit(m, quads - 1))) == (14, 0)
 
+
+
+# ---- wrong on purpose, each in one thing: a comparison that is left out counts one of them right
+
+
+def last():
+    """The words of the last record, taken back."""
+    return records.pop()[1:]
+
+
+def expecting(words, k, more=(), less=0):
+    """The record with more words expected at the end of one of the four lists, or less of them."""
+    end = len(words) - sum(words[LENGTHS + k + 1:HEAD])
+    words = words[:end - less] + list(more) + words[end:]
+    words[LENGTHS + k] += len(more) - less
+    return words
+
+
+def wrong_meshes():
+    assert add(longer(call(grid=[0], kinds=[1], covers=[63], cubes=UNIT, outer=[2], culling=False), 5, 5, 5, 5)) == (0, 6)
+    naive = last()
+    assert naive[NUMBER:LENGTHS] == [0, 0, 6, 15, 2]
+    out = [spoiled(naive, at) for at in range(NUMBER, LENGTHS)]
+    starts = [len(naive) - sum(naive[LENGTHS + k:HEAD]) for k in range(5)]
+    for k in range(4):
+        out += [spoiled(naive, starts[k]), spoiled(naive, starts[k + 1] - 1)]
+        out += [expecting(naive, k, more=[0]), expecting(naive, k, less=1)]  # what lies past the words is as it was
+    # The program's room for triangles is full of the word that it empties it with, and one more is expected.
+    out.append(expecting(naive, 1, more=[0xA5A5A5A5] * (LENT[1] + 1 - naive[LENGTHS + 1])))
+    assert add(call(grid=[1, 0, 2])) == (8, 2)
+    refused = last()
+    return out + [spoiled(refused, NUMBER), spoiled(refused, NUMBER + 1), naive[:HEAD - 1]]
+
+
 if __name__ == "__main__":
+    right = len(records)
+    purposely_wrong = wrong_meshes()
+    records += [[len(r)] + r for r in purposely_wrong]
     data = b"".join(struct.pack("<%dI" % len(r), *r) for r in records)
-    assert len(data) < 1000000
-    with open("crates/mesh_run/stdin", "wb") as out:
-        out.write(data)
-    with open("crates/mesh_run/stdout", "w") as out:
-        out.write("meshes %d right %d wrong 0\n" % (len(records), len(records)))
-    print(len(data), "bytes,", len(records), "records, at most", max(map(len, records)), "words")
+    told = counted("meshes", right, len(purposely_wrong))
+    keep("mesh_run", data, told)
+    print(len(data), "bytes; at most", max(map(len, records)), "words a record;", told, end="")

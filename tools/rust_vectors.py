@@ -8,7 +8,7 @@ Q, every word of the first Q places of vertices, triangles and links, and all si
 trials.py gives each of them too, and nothing is written unless the two agree. The Rust has no refusal, no `moved` and no lent room, so these are
 document 01's alone: the answer's number and place, which are 0; `moved`; the places past Q that are zero after a log; that what lies further is as
 it was.
-Run it at the repository's root.
+Run it at the repository's root; stored.py says where it writes.
 """
 from mesh_vectors import floats
 from rust_list import answers

@@ -8,12 +8,14 @@ import struct
 
 import mesh_vectors
 from cube_vectors import types_answer
-from mesh_vectors import NONE, STEPS, faces, floats, mesh
+from mesh_vectors import NONE, STEPS, call, faces, floats, mesh
+from stored import counted, keep, spoiled
 
 NAIVE, CULLING, UPDATE, CHECK, UPDATE_ITSELF = range(5)
 BROKEN, ADDED, CULL_FACES, ADD_FACES = range(4)
 OUTSIDE = 255
 HEAD, ROOM = 19, 32768
+LENGTHS, TOLD = 11, 14  # where a base has the lengths of its lists, and a trial its answer
 PARTS = ("grid", "kinds", "covers", "cubes", "vertices", "triangles", "links", "slots")
 
 known = {}
@@ -286,16 +288,66 @@ class Trials:
         self.tried += 1
         return told
 
+    def only_made(self, told, *what, **more):
+        """A trial with this answer that is not kept."""
+        assert self.add(*what, **more) == told
+        self.tried -= 1
+        return self.records.pop()
+
     def write(self, program, name):
+        purposely_wrong = add_wrong(self)
         data = b"".join(struct.pack("<%dI" % (len(r) + 1), len(r), *r) for r in self.records)
-        assert len(data) < 1500000, len(data)
-        with open("crates/%s/stdin" % program, "wb") as out:
-            out.write(data)
-        with open("crates/%s/stdout" % program, "w") as out:
-            out.write("%s %d right %d wrong 0\n" % (name, self.tried, self.tried))
-        print(len(data), "bytes,", self.tried, "trials on", len(self.records) - self.tried, "bases")
+        told = counted(name, self.tried, purposely_wrong)
+        keep(program, data, told)
+        print(len(data), "bytes;", told, end="")
 
 
 def spare(lists, *more):
     """The lists with more words each, no two alike."""
     return [words + [0xA5000000 + 65536 * k + i for i in range(n)] for k, (words, n) in enumerate(zip(lists, more))]
+
+
+# ---- wrong on purpose
+
+
+def headed(trial, **words):
+    """The trial with other words in its head, by their places, as w3=1."""
+    trial = list(trial)
+    for name, word in words.items():
+        trial[int(name[1:])] = word
+    return trial
+
+
+def wrong_answers(trials):
+    """An update that stops for want of room, wrong in one thing each: the answer, and the first and last word of each list."""
+    log = entry(1, CULL_FACES, 1, 255, 255, 255, 255, 1, 255) + entry(1, ADD_FACES, 1, 255, 255, 255, 1, 1, 255)
+    stopped = trials.only_made((14, 1, 9, 1), UPDATE, 10, log)
+    ends = [trials.start[name] + k for name, n in zip(PARTS[4:], trials.size[4:]) for k in (0, n - 1)]
+    return [spoiled(stopped, TOLD + k) for k in range(4)] + [stopped + [at, 1, trials.image[at] ^ 1] for at in ends]
+
+
+def ill_formed(trials, fine):
+    """Trials that are right but for their form; `fine` is one that is right."""
+    outer = trials.only_made((7, 0, 0, 0), CHECK, 10, outer=(6, 0, 0, 0))
+    naive = trials.only_made((14, 0, 0, 0), NAIVE, 0)
+    last = len(trials.kept) - 1
+    return [
+        headed(fine, w0=2), headed(naive, w1=5), headed(fine, w2=2),
+        headed(outer, w12=5), headed(fine, w13=1), headed(fine + [HEAD, 1, 1], w18=4),  # an outer list, a log and patches that are cut short
+        headed(fine, w4=fine[4] + 1), headed(fine, w11=fine[11] + 1),  # more of the first list, and of the last, than there is
+        headed(fine + [1], w18=1), fine + [1],  # half a patch, before the call and after
+        fine + [HEAD, 2, 1], fine + [last, 2, trials.kept[last], 0],  # a patch of fewer words than it says, and one past the base
+        fine + [0, 1, 0], fine + [LENGTHS, 1, trials.kept[LENGTHS]], fine + [HEAD - 1, 1, trials.kept[HEAD - 1]],  # of the tag, of lengths
+        fine[:HEAD - 1]]
+
+
+def add_wrong(trials):
+    """Adds trials that are wrong in one thing each: a program that leaves a comparison out counts one of them right. Answers how many."""
+    m = call(grid=[1, 1])
+    trials.base(m, spare(mesh(m), 5, 1, 2, 3))
+    fine = trials.only_made((0, 0, 0, 0), CHECK, 10)
+    wrong = wrong_answers(trials) + ill_formed(trials, fine)
+    trials.records += wrong
+    for base in (trials.kept + [0], trials.kept[:HEAD - 1]):  # with a word too many, and too short
+        trials.records += [base, fine]
+    return len(wrong) + 2

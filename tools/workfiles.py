@@ -3,11 +3,13 @@
 file, which meshchunk reads: crates/meshchunk/stdin.
 
 A case is its kind and its length as u32, then its bytes. Kinds: 0 a file that is bad; 1 the length of a file that is good, the
-file, its grid and its log; 2 a number and its decimal; 3 a refusal's number and place, and its line; 4 a set, and its faces.
-Run it at the repository's root.
+file, its grid and its log; 2 a number and its decimal; 3 a refusal's number and place, and its line; 4 a set, and its faces; 5 the
+lines of the worked example.
+Run it at the repository's root; stored.py says where it writes.
 """
 import struct
 
+from stored import counted, keep
 from sure import sure
 
 
@@ -22,6 +24,7 @@ def type_bytes(kind, sides, tile=0):
 ONE = 0x3F800000
 NULL, CUBE = type_bytes(0, 0), type_bytes(1, 63)
 BROKEN = words(0) + bytes([0, 1, 255, 255, 1, 255, 255, 255])
+EXAMPLE = b"quads 6 moved 14\n0 1 5\n1 1 4\n2 1 0\n3 1 1\n4 1 2\n5 1 3\n"
 
 
 def trailer(types, grid, log, size, **other):
@@ -126,19 +129,38 @@ def cases():
         yield 3, words(number, place) + b"refused %d at %d\n" % (number, place)
     for sides in range(64):
         yield 4, words(sides) + bytes(f for f in range(6) if sides >> f & 1)
+    yield 5, EXAMPLE
+
+
+def wrong_cases():
+    """Each is wrong in one thing, so that a comparison that is left out counts it right."""
+    file = File()
+    told = file.told()
+    parts = len(file.grid) + len(file.log)
+    yield 0, file.text
+    yield 1, words(len(file.text)) + File(w22=93).text + file.grid + file.log
+    for at in (-parts, -len(file.log) - 1, -len(file.log), -1):  # the first and last byte of the grid, and of the log
+        yield 1, told[:at] + bytes([told[at] ^ 1]) + told[at:][1:]
+    yield 1, told[:-1]
+    yield 1, told + b"\0"
+    yield 1, told[:-parts]
+    yield 1, words(len(told)) + told[4:]
+    yield 1, told[:3]
+    for kind, right in ((2, words(14) + b"14"), (3, words(14, 2) + b"refused 14 at 2\n"), (4, words(5) + b"\0\2"), (5, EXAMPLE)):
+        yield kind, right[:-1] + bytes([right[-1] ^ 1])
+        yield kind, right[:-1]
+        yield kind, right + right[-1:]
+        yield kind, right[:3]
+    yield 6, EXAMPLE
 
 
 def main():
-    told = list(cases())
-    assert len(File(types=(CUBE,), grid=b"\0" * 10, log=BROKEN * 668, size=(10, 1, 1)).text) == 8192
-    with open("crates/workfile_run/stdin", "wb") as out:
-        for kind, case in told:
-            out.write(words(kind, len(case)) + case)
-    with open("crates/meshchunk/stdin", "wb") as out:
-        out.write(File().text)
-    # and the worked example, which the program holds
-    with open("crates/workfile_run/stdout", "w") as out:
-        out.write("cases %d right %d\n" % (len(told) + 1, len(told) + 1))
+    right, wrong = list(cases()), list(wrong_cases())
+    sure(len(File(types=(CUBE,), grid=b"\0" * 10, log=BROKEN * 668, size=(10, 1, 1)).text) == 8192)
+    cut_short = words(5, len(EXAMPLE) + 1) + EXAMPLE
+    stored = b"".join(words(kind, len(case)) + case for kind, case in right + wrong) + cut_short
+    keep("workfile_run", stored, counted("cases", len(right), len(wrong) + 1))
+    keep("meshchunk", File().text)
 
 
 if __name__ == "__main__":

@@ -286,7 +286,7 @@ fn main() {
     let mut kinds = bytes_of();
     let mut covers = bytes_of();
     let tally = run(&mut bytes, &mut words, &mut room, &mut kinds, &mut covers);
-    say(b"cubes", tally.cubes);
-    say(b"types", tally.types);
-    say(b"moved", tally.moved);
+    say(b"cubes (11 wrong on purpose):", tally.cubes);
+    say(b"types (6 wrong on purpose):", tally.types);
+    say(b"moved (5 wrong on purpose):", tally.moved);
 }

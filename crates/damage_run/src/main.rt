@@ -2,5 +2,5 @@
 use trials::replay;
 
 fn main() {
-    replay(b"damages");
+    replay(b"damages (30 wrong on purpose):");
 }

@@ -1,11 +1,12 @@
-// Runs faces and the grid beside plain counts of its own, and says whether they agree.
+// Runs faces and the grid beside plain counts of its own, and says how many are right.
 use check::expect;
 use face::Cell;
 use face::Face;
 use face::FoundFace;
-use libc::STDOUT_FILENO;
 use util::Dimensions;
 use util::Neighbor;
+use vectors::Count;
+use vectors::say;
 ghost use mathlib.Core.Option.{Option·getD};
 ghost use mathlib.Core.Path.{_≡_};
 ghost use Prim.Native.Nat.{_≤_, _<_};
@@ -52,20 +53,31 @@ fn smaller_in(set: u8, face: u32) -> u8
     count
 }
 
-fn sets_agree() -> bool {
+fn is_rank(set: u8, face: Face, n: u8) -> bool
+    requires { ⌜ set < 64 ⌝ }
+{
+    face::rank(set, face) == n
+}
+
+fn is_size(set: u8, n: u8) -> bool
+    requires { ⌜ set < 64 ⌝ }
+{
+    face::quads_of(set) == n as u32
+}
+
+fn try_sets() -> Count {
+    let mut count = Count::none();
     let mut place: u32 = 0;
     while place < 384 {
         let set = (place / 6) as u8;
         let face = place % 6;
-        if face::rank(set, face_at(face)) != smaller_in(set, face) {
-            return false;
-        }
-        if face::quads_of(set) != smaller_in(set, 6) as u32 {
-            return false;
-        }
+        let smaller = smaller_in(set, face);
+        let all = smaller_in(set, 6);
+        count = count.and(is_rank(set, face_at(face), smaller));
+        count = count.and(is_size(set, all));
         place += 1;
     }
-    true
+    count
 }
 
 // ---- the neighbours of all cells of a grid of 3 by 3 by 3
@@ -96,36 +108,42 @@ fn found(cell: u32, face: Face, dims: Dimensions) -> u32
     }
 }
 
-fn cords_agree(cell: u32, dims: Dimensions) -> bool
+fn is_neighbor(cell: u32, face: Face, n: u32) -> bool
+    requires { ⌜ cell < 27 ⌝ }
+{
+    found(cell, face, size(3, 3, 3)) == n
+}
+
+// Whether a cell's coordinates are those of the cell n.
+fn is_cell(cell: u32, n: u32) -> bool
+    requires { ⌜ cell < 27 ⌝ }
+{
+    cell_again(cell, size(3, 3, 3)) == n
+}
+
+fn cell_again(cell: u32, dims: Dimensions) -> u32
     requires { ⌜ Within (sizeOf dims) × (cell < cells (sizeOf dims)) ⌝ }
 {
     let cords = util::three_d_cords(Cell(cell), dims);
-    util::one_d_cords(cords, dims).0 == cell
+    util::one_d_cords(cords, dims).0
 }
 
-fn neighbors_agree() -> bool {
-    let cube = size(3, 3, 3);
+fn try_neighbors(tried: Count) -> Count {
+    let mut count = tried;
     let mut place: u32 = 0;
     while place < 162 {
         let cell = place / 6;
         let face = face_at(place % 6);
-        if found(cell, face, cube) != expected(cell, face) {
-            return false;
-        }
-        if !cords_agree(cell, cube) {
-            return false;
-        }
+        count = count.and(is_neighbor(cell, face, expected(cell, face)));
+        count = count.and(is_cell(cell, cell));
         place += 1;
     }
-    true
+    count
 }
 
 // ---- what is packed is read again
 
-fn link_agrees(cell: u32, face: Face) -> bool
-    requires { ⌜ cell < 536870912 ⌝ }
-{
-    let link = face::link(Cell(cell), face);
+fn is_link(link: u32, cell: u32, face: Face) -> bool {
     match face::face_of(link) {
         FoundFace::Face(read) => {
             (face::cell_of(link).0 == cell) & (read.number() == face.number())
@@ -134,17 +152,17 @@ fn link_agrees(cell: u32, face: Face) -> bool
     }
 }
 
-fn links_agree(cell: u32) -> bool
+fn try_links(tried: Count, cell: u32) -> Count
     requires { ⌜ cell < 536870912 ⌝ }
 {
-    let mut face = 0;
-    while face < 6 {
-        if !link_agrees(cell, face_at(face)) {
-            return false;
-        }
-        face += 1;
+    let mut count = tried;
+    let mut number: u32 = 0;
+    while number < 6 {
+        let face = face_at(number);
+        count = count.and(is_link(face::link(Cell(cell), face), cell, face));
+        number += 1;
     }
-    true
+    count
 }
 
 fn examples() {
@@ -154,17 +172,29 @@ fn examples() {
     expect(face::link(Cell(5), Face::Top) == 2_684_354_565);
 }
 
+// ---- wrong on purpose: a comparison that is left out counts one of them right
+
+fn try_wrong(tried: Count) -> Count {
+    let mut count = tried;
+    count = count.and(is_rank(63, Face::Forward, 4));
+    count = count.and(is_size(63, 5));
+    count = count.and(is_neighbor(0, Face::Top, 3));
+    count = count.and(is_neighbor(0, Face::Left, 0));
+    count = count.and(is_cell(13, 12));
+    count = count.and(is_link(2_684_354_565, 4, Face::Top));
+    count = count.and(is_link(2_684_354_565, 5, Face::Bottom));
+    count.and(is_link(3_221_225_477, 5, Face::Top))
+}
+
 fn main() {
     examples();
-    if sets_agree()
-        & neighbors_agree()
-        & links_agree(0)
-        & links_agree(5)
-        & links_agree(1_048_575)
-        & links_agree(536_870_911)
-    {
-        io::write_all(STDOUT_FILENO, b"faces, neighbours and links agree\n");
-    } else {
-        io::write_all(STDOUT_FILENO, b"faces, neighbours or links differ\n");
-    }
+    let mut count = try_neighbors(try_sets());
+    count = try_links(count, 0);
+    count = try_links(count, 5);
+    count = try_links(count, 1_048_575);
+    count = try_links(count, 536_870_911);
+    say(
+        b"faces, neighbours and links (8 wrong on purpose):",
+        try_wrong(count),
+    );
 }

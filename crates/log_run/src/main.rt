@@ -2,5 +2,5 @@
 use trials::replay;
 
 fn main() {
-    replay(b"logs");
+    replay(b"logs (30 wrong on purpose):");
 }

@@ -1,11 +1,11 @@
-// Runs the vectors that tools/mesh_vectors.py wrote: calls of mesh_grid, each held to its answer and to all words of the lent lists.
-use answers::Verdict;
-use answers::is_refusal;
+// Runs the vectors that tools/mesh_vectors.py wrote: calls of mesh_grid, each held to its answer, to all words of the lent lists and to what
+// the check says of them.
 use checking::check_mesh;
 use meshem::mesh_grid;
 use trials::Told;
 use trials::algorithm_of;
 use trials::scene_at;
+use trials::told_by_check;
 use trials::told_by_mesh;
 use vectors::Count;
 use vectors::empty;
@@ -21,9 +21,9 @@ ghost use Prim.Native.Nat.{_+_, _*_, _≤_, _<_};
 ghost use lib.ListN.{length};
 
 // A record: dims, coloured, d, centre, algorithm (0 to 10); the lengths of outer list, grid, kinds, sets, cube words given (11 to 15);
-// the registry's length (16) and the lent ones (17 to 20); number, place, quads (21 to 23); the lengths of the words expected in the four
-// lent lists (24 to 27); then these nine lists.
-const HEAD: usize = 28;
+// the registry's length (16) and the lent ones (17 to 20); number, place, quads (21 to 23); number and place of the check's answer to the
+// mesh (24, 25); the lengths of the words expected in the four lent lists (26 to 29); then these nine lists.
+const HEAD: usize = 30;
 
 // Where each list ends in the record.
 struct Ends {
@@ -39,8 +39,8 @@ struct Ends {
 }
 
 fn ends_of(r: &[u32]) -> Ends
-    requires { ⌜ 28 ≤ length (now r) ⌝ }
-    ensures { λ e. ⌜ (28 ≤ e .outer) × (e .outer ≤ e .grid) × (e .grid ≤ e .kinds) × (e .kinds ≤ e .covers) × (e .covers ≤ e .cubes)
+    requires { ⌜ 30 ≤ length (now r) ⌝ }
+    ensures { λ e. ⌜ (30 ≤ e .outer) × (e .outer ≤ e .grid) × (e .grid ≤ e .kinds) × (e .kinds ≤ e .covers) × (e .covers ≤ e .cubes)
         × (e .cubes ≤ e .vertices) × (e .vertices ≤ e .triangles) × (e .triangles ≤ e .links) × (e .links ≤ e .slots)
         × (e .slots ≤ length (now (r .entry))) ⌝ }
 {
@@ -49,10 +49,10 @@ fn ends_of(r: &[u32]) -> Ends
     let kinds = end_after(r, grid, 13);
     let covers = end_after(r, kinds, 14);
     let cubes = end_after(r, covers, 15);
-    let vertices = end_after(r, cubes, 24);
-    let triangles = end_after(r, vertices, 25);
-    let links = end_after(r, triangles, 26);
-    let slots = end_after(r, links, 27);
+    let vertices = end_after(r, cubes, 26);
+    let triangles = end_after(r, vertices, 27);
+    let links = end_after(r, triangles, 28);
+    let slots = end_after(r, links, 29);
     Ends {
         outer,
         grid,
@@ -107,7 +107,7 @@ fn mesh_lists(
     links: &mut [u32],
     slots: &mut [u32],
 ) -> Told
-    requires { ⌜ 28 ≤ length (now r) ⌝ }
+    requires { ⌜ 30 ≤ length (now r) ⌝ }
 {
     let algorithm = algorithm_of(r[10]);
     let typed = least(size(r[16]), registry.len());
@@ -140,7 +140,7 @@ fn meshed(
     links: &mut [u32],
     slots: &mut [u32],
 ) -> Told
-    requires { ⌜ (28 ≤ length (now r)) × (length (now low) ≡ length (now r)) ⌝ }
+    requires { ⌜ (30 ≤ length (now r)) × (length (now low) ≡ length (now r)) ⌝ }
 {
     empty_lists(vertices, triangles, links, slots);
     let e = ends_of(r);
@@ -174,15 +174,15 @@ fn check_lists(
     triangles: &[u32],
     links: &[u32],
     slots: &[u32],
-) -> Verdict
-    requires { ⌜ 28 ≤ length (now r) ⌝ }
+) -> Told
+    requires { ⌜ 30 ≤ length (now r) ⌝ }
 {
     let typed = least(size(r[16]), registry.len());
     let v = least(size(r[17]), vertices.len());
     let t = least(size(r[18]), triangles.len());
     let l = least(size(r[19]), links.len());
     let s = least(size(r[20]), slots.len());
-    check_mesh(
+    told_by_check(check_mesh(
         scene_at(r, 0),
         outer,
         grid,
@@ -194,10 +194,16 @@ fn check_lists(
         &links[..l],
         &slots[..s],
         quads,
-    )
+    ))
 }
 
-// Whether the check passes the mesh; a refused or naive one is not tried.
+fn is_verdict(told: Told, r: &[u32]) -> bool
+    requires { ⌜ 30 ≤ length (now r) ⌝ }
+{
+    (told.number == r[24]) & (told.place == size(r[25]))
+}
+
+// Whether the check answers as it should; where no mesh was made it is not tried.
 fn is_checked(
     told: Told,
     r: &[u32],
@@ -208,9 +214,9 @@ fn is_checked(
     links: &[u32],
     slots: &[u32],
 ) -> bool
-    requires { ⌜ (28 ≤ length (now r)) × (length (now low) ≡ length (now r)) ⌝ }
+    requires { ⌜ (30 ≤ length (now r)) × (length (now low) ≡ length (now r)) ⌝ }
 {
-    if (told.number != 0) | (r[10] != 1) {
+    if told.number != 0 {
         return true;
     }
     let e = ends_of(r);
@@ -218,7 +224,7 @@ fn is_checked(
     let grid = e.grid;
     let kinds = e.kinds;
     let covers = e.covers;
-    !is_refusal(check_lists(
+    let checked = check_lists(
         told.quads,
         r,
         &low[HEAD..outer],
@@ -230,11 +236,12 @@ fn is_checked(
         triangles,
         links,
         slots,
-    ))
+    );
+    is_verdict(checked, r)
 }
 
 fn is_told(told: Told, r: &[u32]) -> bool
-    requires { ⌜ 28 ≤ length (now r) ⌝ }
+    requires { ⌜ 30 ≤ length (now r) ⌝ }
 {
     (told.number == r[21]) & (told.place == size(r[22])) & (told.quads == size(r[23]))
 }
@@ -246,7 +253,7 @@ fn hold_expected(
     links: &[u32],
     slots: &[u32],
 ) -> bool
-    requires { ⌜ 28 ≤ length (now r) ⌝ }
+    requires { ⌜ 30 ≤ length (now r) ⌝ }
 {
     let e = ends_of(r);
     let from = e.cubes;
@@ -261,7 +268,7 @@ fn hold_expected(
 }
 
 fn fill_registry(r: &[u32], registry: &mut [u32])
-    requires { ⌜ 28 ≤ length (now r) ⌝ }
+    requires { ⌜ 30 ≤ length (now r) ⌝ }
 {
     let e = ends_of(r);
     let covers = e.covers;
@@ -280,7 +287,7 @@ fn is_shown(
     links: &[u32],
     slots: &[u32],
 ) -> bool
-    requires { ⌜ (28 ≤ length (now r)) × (length (now low) ≡ length (now r)) ⌝ }
+    requires { ⌜ (30 ≤ length (now r)) × (length (now low) ≡ length (now r)) ⌝ }
 {
     is_told(told, r)
         & hold_expected(r, vertices, triangles, links, slots)
@@ -296,7 +303,7 @@ fn is_right_mesh(
     links: &mut [u32],
     slots: &mut [u32],
 ) -> bool
-    requires { ⌜ (28 ≤ length (now r)) × (length (now low) ≡ length (now r)) ⌝ }
+    requires { ⌜ (30 ≤ length (now r)) × (length (now low) ≡ length (now r)) ⌝ }
 {
     let told = meshed(r, low, registry, vertices, triangles, links, slots);
     is_shown(told, r, low, registry, vertices, triangles, links, slots)
@@ -402,5 +409,5 @@ fn main() {
         &mut links,
         &mut slots,
     );
-    say(b"meshes", count);
+    say(b"meshes (25 wrong on purpose):", count);
 }

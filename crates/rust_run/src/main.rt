@@ -2,5 +2,5 @@
 use trials::replay;
 
 fn main() {
-    replay(b"rust answers");
+    replay(b"rust answers (30 wrong on purpose):");
 }

@@ -209,7 +209,7 @@ fn told_by_update(answer: Updated) -> Told {
     }
 }
 
-fn told_by_check(verdict: Verdict) -> Told {
+pub fn told_by_check(verdict: Verdict) -> Told {
     match verdict {
         Verdict::Fine => refused(0, 0),
         Verdict::Refuse(why, place) => refused(why.number(), place),

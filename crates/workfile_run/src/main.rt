@@ -1,15 +1,15 @@
-// Runs the cases that tools/workfiles.py wrote, and the lines of document 01's worked example; prints how many are right.
+// Runs the cases that tools/workfiles.py wrote; prints how many are right.
 use check::same;
 use libc::STDIN_FILENO;
-use libc::STDOUT_FILENO;
-use std::num::wrapping_add_u64;
+use vectors::Count;
+use vectors::say;
 ghost use mathlib.Core.Path.{_≡_};
 ghost use mathlib.Core.Bool.{true};
 ghost use Prim.Native.Nat.{_+_, _≤_, _<_};
 ghost use lib.ListN.{length};
 ghost use Rattle.workfile.specs.Work.{Good};
 
-// Cell 1 with faces 5, 4, 0, 1, 2, 3.
+// Document 01's worked example: cell 1 with faces 5, 4, 0, 1, 2, 3.
 const EXAMPLE_LINKS: [u32; 6] = [
     1,
     536_870_913,
@@ -96,14 +96,11 @@ fn is_right_set(case: &[u8]) -> bool {
     same(&out[..end], &case[4..])
 }
 
-fn is_right_example() -> bool {
+fn is_right_example(case: &[u8]) -> bool {
     let links = EXAMPLE_LINKS;
     let mut out = io::buffer();
     let end = lines::write_lines(&links, 6, 14, &mut out, 0);
-    same(
-        &out[..end],
-        b"quads 6 moved 14\n0 1 5\n1 1 4\n2 1 0\n3 1 1\n4 1 2\n5 1 3\n",
-    )
+    same(&out[..end], case)
 }
 
 fn is_right(kind: u32, case: &[u8]) -> bool {
@@ -113,34 +110,14 @@ fn is_right(kind: u32, case: &[u8]) -> bool {
         2 => is_right_decimal(case),
         3 => is_right_refusal(case),
         4 => is_right_set(case),
+        5 => is_right_example(case),
         _ => false,
-    }
-}
-
-struct Count {
-    cases: u64,
-    right: u64,
-}
-
-impl Count {
-    fn and(self, ok: bool) -> Self {
-        let cases = wrapping_add_u64(self.cases, 1);
-        if ok {
-            return Self {
-                cases: cases,
-                right: wrapping_add_u64(self.right, 1),
-            };
-        }
-        Self {
-            cases: cases,
-            right: self.right,
-        }
     }
 }
 
 // A case is its kind, its length and its bytes.
 fn run(input: &[u8]) -> Count {
-    let mut count = Count { cases: 0, right: 0 };
+    let mut count = Count::none();
     let mut at: usize = 0;
     while 8 <= input.len() - at {
         let start = at + 8;
@@ -157,15 +134,10 @@ fn run(input: &[u8]) -> Count {
 
 fn run_all(bytes: &mut [u8]) -> Count {
     let n = io::read_full(STDIN_FILENO, bytes);
-    run(&bytes[..n]).and(is_right_example())
+    run(&bytes[..n])
 }
 
 fn main() {
     let mut bytes = io::large_buffer();
-    let count = run_all(&mut bytes);
-    io::write_all(STDOUT_FILENO, b"cases ");
-    io::print_decimal(STDOUT_FILENO, count.cases);
-    io::write_all(STDOUT_FILENO, b" right ");
-    io::print_decimal(STDOUT_FILENO, count.right);
-    io::write_all(STDOUT_FILENO, b"\n");
+    say(b"cases (29 wrong on purpose):", run_all(&mut bytes));
 }

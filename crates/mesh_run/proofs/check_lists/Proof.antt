@@ -71,6 +71,9 @@ slice-aggregate-check-mesh-5 c = sym (length-take-le _ _ (search needs))
 check-mesh-requires : tie.Need-check-mesh-requires
 check-mesh-requires c κs = search needs
 
+told-by-check-requires : tie.Need-told-by-check-requires
+told-by-check-requires c κs = search needs
+
 returns : tie.Need-returns
 returns c = search needs
 
@@ -100,4 +103,5 @@ check-lists-spec =
     slice-aggregate-check-mesh-4
     slice-aggregate-check-mesh-5
     check-mesh-requires
+    told-by-check-requires
     returns)

@@ -45,9 +45,6 @@ array-share-prefix-out c = end-inside (c .before .write-lines .ensures) (lines (
 slice-aggregate-same : tie.Need-slice-aggregate-same
 slice-aggregate-same c = sym (length-take-le _ _ (end-inside (c .before .before .write-lines .ensures) (lines (c .before .before .before .before .before .buffer .ensures))))
 
-slice-aggregate-same-2 : tie.Need-slice-aggregate-same-2
-slice-aggregate-same-2 c = search needs
-
 same-requires : tie.Need-same-requires
 same-requires c κs = search needs
 
@@ -64,6 +61,5 @@ is-right-example-spec =
     write-lines-requires
     array-share-prefix-out
     slice-aggregate-same
-    slice-aggregate-same-2
     same-requires
     returns)

@@ -12,6 +12,9 @@ Inv-loop input count₀ at₀ count at = at ≤ length input
 abbrev μ-loop : tie.MeasureT-loop
 μ-loop input count₀ at₀ count at = length input - at
 
+none-requires : tie.Need-none-requires Inv-loop μ-loop
+none-requires c κs = search needs
+
 loop-holds : tie.Need-loop-holds Inv-loop μ-loop
 loop-holds c = omega arith
 
@@ -72,6 +75,7 @@ run-spec =
     (tie.spec
     Inv-loop
     μ-loop
+    none-requires
     loop-holds
     sub-loop
     add-start

@@ -4,8 +4,8 @@ use borrow.Author.Needs.{needs}
 use Rattle.rules.specs.Cells.{Triple}
 use Rattle.util.specs.Grid.{sizeOf}
 use Rattle.rules.proofs.Neighbours.{inside-of}
-use Rattle.ground_run.proofs.cords_agree.Statement.{statement}
-use Rattle.ground_run.proofs.cords_agree.Tie as tie
+use Rattle.ground_run.proofs.cell_again.Statement.{statement}
+use Rattle.ground_run.proofs.cell_again.Tie as tie
 
 three-d-cords-requires : tie.Need-three-d-cords-requires
 three-d-cords-requires c κs = search needs
@@ -23,5 +23,5 @@ one-d-cords-requires c κs =
 returns : tie.Need-returns
 returns c = search needs
 
-pub cords-agree-spec : {M : Type 1} → statement M
-cords-agree-spec = tie.close (tie.spec three-d-cords-requires one-d-cords-requires returns)
+pub cell-again-spec : {M : Type 1} → statement M
+cell-again-spec = tie.close (tie.spec three-d-cords-requires one-d-cords-requires returns)
