@@ -19,3 +19,7 @@ pub use mesh::{check_mesh, mend_mesh, mesh_grid, update_mesh, Mesh, MeshMD, Mesh
 pub use raw::meshem_abi;
 pub use refusal::{Reason, Refusal};
 pub use registry::{generate_voxel_mesh, Cube, VoxelMesh, VoxelRegistry};
+
+#[cfg(doctest)]
+#[doc = include_str!("../../../README.md")]
+struct Readme;
