@@ -33,7 +33,7 @@ record Stops (room : ℕ) (work : ℕ → Work) (i n : ℕ) (m : List Quad) (v p
   pub before : ℕ
   pub place : k ≡ i + before
   pub early : before < n
-  pub found-room : let c = courseFrom room work i n m v p in
+  pub through : let c = courseFrom room work i n m v p in
       courseFrom room work i before m v p ≡ record { full = none; quads = c .quads; moved = c .moved; highest = c .highest }
   pub tight : room < needed (work k) ((courseFrom room work i n m v p) .quads)
 
