@@ -292,20 +292,20 @@ def bad_cells():
 
 def bad_entries():
     good = entry(0, ADD_FACES, 1, *NONE_GIVEN)
-    fields = {
-        "cell_1": (entry(1, BROKEN, 1, *around(left=1)), None),
-        "cell_2": (entry(2, BROKEN, 1, *NONE_GIVEN), 2),
-        "cell_most": (entry(MOST, BROKEN, 1, *NONE_GIVEN), 2),
-        "change_4": (entry(0, 4, 1, *NONE_GIVEN), 2),
-        "change_255": (entry(0, 255, 1, *NONE_GIVEN), 2),
-        "entry_type_2": (entry(0, BROKEN, 2, *NONE_GIVEN), 2),
-        "entry_type_255": (entry(0, CULL_FACES, 255, *NONE_GIVEN), 2),
-        "neighbour_254": (entry(0, ADDED, 0, *around(back=254)), 2),
+    yield "cell_1", row(1, 1, log=good * 2 + entry(1, BROKEN, 1, *around(left=1))), quads(6)
+    bad = {
+        "cell_2": entry(2, BROKEN, 1, *NONE_GIVEN),
+        "cell_most": entry(MOST, BROKEN, 1, *NONE_GIVEN),
+        "change_4": entry(0, 4, 1, *NONE_GIVEN),
+        "change_255": entry(0, 255, 1, *NONE_GIVEN),
+        "entry_type_2": entry(0, BROKEN, 2, *NONE_GIVEN),
+        "entry_type_255": entry(0, CULL_FACES, 255, *NONE_GIVEN),
+        "neighbour_254": entry(0, ADDED, 0, *around(back=254)),
     }
     for face in FACES:
-        fields["neighbour_2_%s" % face] = entry(0, CULL_FACES, 1, *around(**{face: 2})), 2
-    for name, (one, at) in fields.items():
-        yield name, row(1, 1, log=good * 2 + one), quads(6) if at is None else refused(13, at)
+        bad["neighbour_2_" + face] = entry(0, CULL_FACES, 1, *around(**{face: 2}))
+    for name, one in bad.items():
+        yield name, row(1, 1, log=good * 2 + one), refused(13, 2)
     yield "two_bad_entries", row(1, 1, log=good + (good[:4] + b"\4" + good[5:]) * 2), refused(13, 1)
     yield "entry_667", row(*[0] * 10, types=(CUBE,), log=entry(0, CULL_FACES, 0, *NONE_GIVEN) * 667 + entry(10, 0, 0, *NONE_GIVEN)), refused(13, 667)
 
