@@ -27,17 +27,19 @@ import struct
 import sys
 
 sys.dont_write_bytecode = True  # no folder of bytecode beside the tools
-from chunkfile import ROOT, answer_of, chunk_in, read_input
+from chunkfile import FACES, OUTSIDE, ROOT, TRAILER_BYTES, answer_of, chunk_in, read_input
 from plain_program import expected
 from sure import sure
+from workfiles import BROKEN as DIG
 from workfiles import CUBE, NULL, ONE, Bytes, File, named_bad_files, trailer, type_bytes, words
 
 SET = "examples/workfiles.txt"
 REACHED = {1, 3, 4, 5, 6, 7, 8, 13, 14}
-OUT, MOST = 255, 0xFFFFFFFF
+MOST = 0xFFFFFFFF
 INF, NAN, MAX, NEG = 0x7F800000, 0x7FC00000, 0x7F7FFFFF, 0x80000000
 BROKEN, ADDED, CULL_FACES, ADD_FACES = range(4)
 CUSTOM = type_bytes(2, 63)
+NONE_GIVEN = [OUTSIDE] * 6
 
 
 # ---- how a set is written
@@ -116,7 +118,7 @@ def entry(cell, change, code, *given):
 
 def around(**given):
     """Six neighbours, outside but for those named."""
-    return [given.get(face, OUT) for face in ("top", "bottom", "right", "left", "back", "forward")]
+    return [given.get(face, OUTSIDE) for face in FACES]
 
 
 def textured(kind, sides, **entries):
@@ -135,12 +137,9 @@ def row(*codes, **more):
     return grid_file((len(codes), 1, 1), codes, **more)
 
 
-DIG = entry(0, BROKEN, 1, *around(right=1))
-
-
 def long_row(size):
     """A file of that many bytes: a row of cubes, its first dug 662 times."""
-    cells = size - len(trailer(b"", b"", b"", (0, 0, 0))) - len(NULL + CUBE) - 662 * len(DIG)
+    cells = size - TRAILER_BYTES - len(NULL + CUBE) - 662 * len(DIG)
     return row(*[1] * cells, log=DIG * 662)
 
 
@@ -247,10 +246,9 @@ def bad_types():
 
 
 def bad_numbers():
-    names = ["d", "d", "d", "centre", "centre", "centre", "atlas", "atlas", "padding"]
-    for at in (10, 11, 12, 13, 14, 15, 18):
+    for at, name in ((10, "d_x"), (11, "d_y"), (12, "d_z"), (13, "centre_x"), (14, "centre_y"), (15, "centre_z"), (18, "padding")):
         for number, word in (("inf", INF), ("minus_inf", NEG | INF), ("nan", NAN)):
-            yield "%s_%d_%s" % (names[at - 10], at, number), row(1, 1, **{"w%d" % at: word}), refused(4)
+            yield "%s_%s" % (name, number), row(1, 1, **{"w%d" % at: word}), refused(4)
     yield "padding_most", row(1, 1, w18=MAX), quads(10, 0)
     yield "colour_nan_unused", row(1, 1, w20=NAN, w21=INF), quads(10, 0)
     yield "colour_nan", row(1, 1, w19=1, w20=NAN, w21=INF), quads(10, 0)
@@ -293,23 +291,23 @@ def bad_cells():
 
 
 def bad_entries():
-    good = entry(0, ADD_FACES, 1, *[OUT] * 6)
-    fields = {
-        "cell_1": (entry(1, BROKEN, 1, *around(left=1)), None),
-        "cell_2": (entry(2, BROKEN, 1, *[OUT] * 6), 2),
-        "cell_most": (entry(MOST, BROKEN, 1, *[OUT] * 6), 2),
-        "change_4": (entry(0, 4, 1, *[OUT] * 6), 2),
-        "change_255": (entry(0, 255, 1, *[OUT] * 6), 2),
-        "entry_type_2": (entry(0, BROKEN, 2, *[OUT] * 6), 2),
-        "entry_type_255": (entry(0, CULL_FACES, 255, *[OUT] * 6), 2),
-        "neighbour_254": (entry(0, ADDED, 0, *around(back=254)), 2),
+    good = entry(0, ADD_FACES, 1, *NONE_GIVEN)
+    yield "cell_1", row(1, 1, log=good * 2 + entry(1, BROKEN, 1, *around(left=1))), quads(6)
+    bad = {
+        "cell_2": entry(2, BROKEN, 1, *NONE_GIVEN),
+        "cell_most": entry(MOST, BROKEN, 1, *NONE_GIVEN),
+        "change_4": entry(0, 4, 1, *NONE_GIVEN),
+        "change_255": entry(0, 255, 1, *NONE_GIVEN),
+        "entry_type_2": entry(0, BROKEN, 2, *NONE_GIVEN),
+        "entry_type_255": entry(0, CULL_FACES, 255, *NONE_GIVEN),
+        "neighbour_254": entry(0, ADDED, 0, *around(back=254)),
     }
-    for face in ("top", "bottom", "right", "left", "back", "forward"):
-        fields["neighbour_2_%s" % face] = entry(0, CULL_FACES, 1, *around(**{face: 2})), 2
-    for name, (one, at) in fields.items():
-        yield name, row(1, 1, log=good * 2 + one), quads(6) if at is None else refused(13, at)
+    for face in FACES:
+        bad["neighbour_2_" + face] = entry(0, CULL_FACES, 1, *around(**{face: 2}))
+    for name, one in bad.items():
+        yield name, row(1, 1, log=good * 2 + one), refused(13, 2)
     yield "two_bad_entries", row(1, 1, log=good + (good[:4] + b"\4" + good[5:]) * 2), refused(13, 1)
-    yield "entry_667", row(*[0] * 10, types=(CUBE,), log=entry(0, CULL_FACES, 0, *[OUT] * 6) * 667 + entry(10, 0, 0, *[OUT] * 6)), refused(13, 667)
+    yield "entry_667", row(*[0] * 10, types=(CUBE,), log=entry(0, CULL_FACES, 0, *NONE_GIVEN) * 667 + entry(10, 0, 0, *NONE_GIVEN)), refused(13, 667)
 
 
 # Four by twelve cubes in one layer have 2·48 + 2·4 + 2·12 = 128 quads. A cube that leaves its Right side open shows one more.
@@ -343,12 +341,12 @@ def no_room():
 
 def in_order():
     """Two refusals that apply: the one that is tried first is told."""
-    bad_cube = dict(w10=INF)
+    infinite = dict(w10=INF)
     face_6 = textured(0, 0, e1=(6, 0, 0))
     tile_4096 = textured(1, 63, e0=(0, 4096, 0))
-    entry_4 = entry(0, 4, 0, *[OUT] * 6)
-    yield "flag_2_before_nan", row(1, 1, w19=2, **bad_cube), BAD_FILE
-    yield "number_before_atlas", row(1, 1, w16=0, **bad_cube), refused(4)
+    entry_4 = entry(0, 4, 0, *NONE_GIVEN)
+    yield "flag_2_before_nan", row(1, 1, w19=2, **infinite), BAD_FILE
+    yield "number_before_atlas", row(1, 1, w16=0, **infinite), refused(4)
     yield "atlas_before_face", row(1, 1, types=(face_6, CUBE), w16=0), refused(5)
     yield "tile_before_face", row(1, 1, types=(NULL, textured(1, 63, e0=(6, 0, 0), e5=(5, 4096, 0)))), refused(5)
     yield "type_0_before_type_1", row(1, 1, types=(face_6, tile_4096)), refused(7, 1)
@@ -364,7 +362,7 @@ def described(text):
     """The file of a description, as chunkfile.py reads it."""
     chunk = chunk_in(text)
     parts = [("type", one.bytes()) for one in chunk.types] + [("grid", chunk.grid)] + [("entry", one) for one in chunk.log]
-    return Bytes(b"").followed(*parts, ("trailer", chunk.bytes()[-92:]))
+    return Bytes(b"").followed(*parts, ("trailer", chunk.bytes()[-TRAILER_BYTES:]))
 
 
 def honest(seed):
@@ -383,7 +381,7 @@ def foolish(seed):
     """Sixty entries of all four changes, their neighbours drawn by lot."""
     rng = random.Random(seed)
     types = NULL, CUBE, type_bytes(1, 38), type_bytes(1, 0), type_bytes(0, 21), CUSTOM
-    log = [entry(rng.randrange(12), rng.randrange(4), rng.randrange(6), *[rng.choice((OUT, rng.randrange(6))) for _ in range(6)]) for _ in range(60)]
+    log = [entry(rng.randrange(12), rng.randrange(4), rng.randrange(6), *[rng.choice((OUTSIDE, rng.randrange(6))) for _ in range(6)]) for _ in range(60)]
     return grid_file((3, 2, 2), [rng.randrange(6) for _ in range(12)], b"".join(log), types=types)
 
 
