@@ -4,6 +4,8 @@ Run what imports it at the repository's root.
 """
 import struct
 
+from sure import sure
+
 CUBE, REGISTRY, GRID = 1, 2, 3
 
 
@@ -13,7 +15,7 @@ class Reader:
 
     def many(self, n):
         start, self.at = self.at, self.at + n
-        assert self.at <= len(self.words)
+        sure(self.at <= len(self.words))
         return self.words[start:self.at]
 
     def one(self):
@@ -22,7 +24,7 @@ class Reader:
     def bytes(self, n):
         words = self.many((n + 3) // 4)
         data = struct.pack("<%dI" % len(words), *words)
-        assert not any(data[n:])
+        sure(not any(data[n:]))
         return data[:n]
 
     def is_done(self):
@@ -67,7 +69,7 @@ def answers():
     with open("oracle/vectors/rust_answers.bin", "rb") as file:
         data = file.read()
     words = Reader(list(struct.unpack("<%dI" % (len(data) // 4), data)))
-    assert words.many(2) == [int.from_bytes(b"MSHS", "little"), 1]
+    sure(words.many(2) == [int.from_bytes(b"MSHS", "little"), 1])
     cubes, grids, types = [], [], None
     for _ in range(words.one()):
         tag = words.one()
@@ -77,8 +79,8 @@ def answers():
         elif tag == REGISTRY:
             types = registry(record)
         else:
-            assert tag == GRID
+            sure(tag == GRID)
             grids.append(grid(record, types))
-        assert record.is_done()
-    assert words.is_done()
+        sure(record.is_done())
+    sure(words.is_done())
     return cubes, grids
