@@ -14,6 +14,7 @@ from fractions import Fraction
 
 from rust_list import answers
 from stored import counted, keep, spoiled
+from sure import sure
 
 ONE, MAX, TINY, INF, NAN = 0x3F800000, 0x7F7FFFFF, 1, 0x7F800000, 0x7FC00000
 NEG = 0x80000000
@@ -54,12 +55,12 @@ def op(kind, a, b):
     """a + b, a - b, a * b or a / b of f32s, as bits; b is no zero where it divides."""
     x, y = value(a), value(b)
     d = {"+": lambda: x + y, "-": lambda: x - y, "*": lambda: x * y, "/": lambda: x / y}[kind]()
-    assert not math.isnan(d)
+    sure(not math.isnan(d))
     got = bits(d)
     if math.isfinite(x) and math.isfinite(y):
         p, q = Fraction(x), Fraction(y)
         exact = {"+": lambda: p + q, "-": lambda: p - q, "*": lambda: p * q, "/": lambda: p / q}[kind]()
-        assert nearest(exact, math.copysign(1, d) < 0) == got, (kind, hex(a), hex(b))
+        sure(nearest(exact, math.copysign(1, d) < 0) == got, (kind, hex(a), hex(b)))
     return got
 
 
@@ -149,7 +150,7 @@ records = []
 
 
 def record(kind, words):
-    assert len(words) < 1024
+    sure(len(words) < 1024)
     records.append([1 + len(words), kind] + words)
 
 
@@ -194,25 +195,25 @@ def f(*xs):
 
 # ---- accepted cubes
 UNIT, passed = try_cube(shape())
-assert passed == (0, 0) and UNIT[:8] == f(-0.5, 0.5, 0.5, 0, 1, 0, 0, 0)
+sure(passed == (0, 0) and UNIT[:8] == f(-0.5, 0.5, 0.5, 0, 1, 0, 0, 0))
 COLOURED, _ = try_cube(shape(coloured=True, colour=ONE, alpha=bits(0.5)), 300)
 ODD = shape(d=f(1.1, 0.3, 7.25), centre=f(0.1, -3.7, 0.001), atlas=[7, 13], padding=bits(0.01))
 try_cube(dict(ODD, texture=[0, 6, 12, 3, 1, 2, 0, 2, 3, 1, 5, 5, 5, 0, 4, 5, 3, 1]))  # 0 and 5 twice; 2 and 4 unnamed
 try_cube(dict(ODD, texture=[4, 1, 2] * 6, coloured=True, colour=0x7FC00001, alpha=0xFF812345))  # one face named; NaNs with payloads
 try_cube(shape(texture=[w for k in range(6) for w in (3, k, 5 - k)], atlas=[6, 6], padding=bits(0.25)), 500)
-assert try_cube(shape(d=f(-1, -2.5, -0.75)))[1] == (6, 0)
-assert try_cube(shape(d=[TINY, TINY + 2, NEG | 5]))[1] == (6, 0)
-assert try_cube(shape(d=[TINY, 2, 0x00800000], centre=[0, 0, 0]))[1] == (0, 0)
-assert try_cube(shape(d=[0, NEG, 0], centre=[NEG, NEG, 0]))[1] == (6, 0)
-assert try_cube(shape(d=f(2, 2, 2), centre=f(2**24, 2**24, 2**24)))[1] == (0, 0)  # high = centre
-assert try_cube(shape(d=f(2**-26, 1, 1), centre=f(1, 0, 0)))[1] == (6, 0)  # low = centre
-assert try_cube(shape(d=[MAX] * 3, centre=[MAX, NEG | MAX, 0]))[1] == (6, 0)  # high overflows
+sure(try_cube(shape(d=f(-1, -2.5, -0.75)))[1] == (6, 0))
+sure(try_cube(shape(d=[TINY, TINY + 2, NEG | 5]))[1] == (6, 0))
+sure(try_cube(shape(d=[TINY, 2, 0x00800000], centre=[0, 0, 0]))[1] == (0, 0))
+sure(try_cube(shape(d=[0, NEG, 0], centre=[NEG, NEG, 0]))[1] == (6, 0))
+sure(try_cube(shape(d=f(2, 2, 2), centre=f(2**24, 2**24, 2**24)))[1] == (0, 0))  # high = centre
+sure(try_cube(shape(d=f(2**-26, 1, 1), centre=f(1, 0, 0)))[1] == (6, 0))  # low = centre
+sure(try_cube(shape(d=[MAX] * 3, centre=[MAX, NEG | MAX, 0]))[1] == (6, 0))  # high overflows
 try_cube(shape(padding=MAX))  # p·2 overflows
 try_cube(shape(padding=NEG | MAX, atlas=[1, 2]))
 try_cube(shape(padding=TINY, atlas=[3, 4096], coloured=True, colour=NAN, alpha=INF))
 try_cube(shape(texture=[w for k in range(6) for w in (k, 4095, 4095 - k)]))  # tiles past a small atlas
 unfused, _ = try_cube(shape(atlas=[3, 5], padding=0x3DCCCCCD, texture=[w for k in range(6) for w in (k, 3, k)]))
-assert unfused[6] == 0x3F844444  # fused it would be 0x3f844445
+sure(unfused[6] == 0x3F844444)  # fused it would be 0x3f844445
 
 rng = random.Random(1)
 
@@ -243,7 +244,7 @@ for part in NUMBER + ATLAS + FACE:
 for coloured, room in SHORT:
     try_cube(shape(coloured=coloured), room)
 BOTH = dict(texture=[9, 4096, 0] + NAMED[3:])
-assert cube_answer(shape(**BOTH), 192) == (5, 0)
+sure(cube_answer(shape(**BOTH), 192) == (5, 0))
 for part in (dict(NUMBER[0], **ATLAS[0]), dict(NUMBER[6], **ATLAS[4]), dict(NUMBER[3], **FACE[2]), dict(NUMBER[1], **FACE[9]),
              dict(ATLAS[2], **FACE[0]), dict(ATLAS[3], **FACE[9]), BOTH, dict(NUMBER[0], **BOTH)):
     try_cube(shape(**part))
@@ -251,37 +252,37 @@ for part in (NUMBER[2], ATLAS[1], ATLAS[5], FACE[5], FACE[9], FACE[12], dict(NUM
     try_cube(shape(**part), 100)
 
 # ---- the types' tests
-assert try_types() == (0, 0)
-assert try_types(kinds=[], covers=[], cubes=[]) == (3, 255)
-assert try_types(kinds=[3] * 256, covers=[0] * 256, cubes=[]) == (3, 255)
-assert try_types(covers=[0]) == (3, 255)
-assert try_types(cubes=(UNIT + UNIT)[:-1]) == (3, 255)
-assert try_types(cubes=UNIT + UNIT + [0]) == (3, 255)
-assert try_types(coloured=True) == (3, 255)
-assert try_types(kinds=[3, 1], cubes=UNIT) == (3, 255)  # counts before kinds
-assert try_types(kinds=[3, 1], covers=[0, 64]) == (3, 0)
-assert try_types(kinds=[2, 3], covers=[63, 255], d=[INF] * 3) == (3, 1)  # types before numbers
-assert try_types(d=[ONE, ONE, NAN]) == (4, 0)
-assert try_types(centre=[INF, 0, 0], cubes=UNIT + [0] * 192) == (4, 0)  # numbers before cubes
-assert try_types(cubes=UNIT + [0] * 192) == (6, 1)
-assert try_types(kinds=[1, 1], cubes=[0] * 192 + [0] * 192) == (6, 0)
-assert try_types(kinds=[0, 2], cubes=[NAN] * 384) == (0, 0)  # floats of other kinds are ignored
-assert try_types(cubes=[NAN] * 192 + UNIT) == (0, 0)
-assert try_types(d=[0] * 3) == (0, 0)  # d is compared with no shape
-assert try_types(centre=f(0.5, 0.5, 0.5)) == (0, 0)  # centre = high
-assert try_types(centre=f(0, -0.5, 0)) == (6, 1)  # centre = low
-assert try_types(kinds=[1, 1], coloured=True, cubes=COLOURED + COLOURED) == (0, 0)
+sure(try_types() == (0, 0))
+sure(try_types(kinds=[], covers=[], cubes=[]) == (3, 255))
+sure(try_types(kinds=[3] * 256, covers=[0] * 256, cubes=[]) == (3, 255))
+sure(try_types(covers=[0]) == (3, 255))
+sure(try_types(cubes=(UNIT + UNIT)[:-1]) == (3, 255))
+sure(try_types(cubes=UNIT + UNIT + [0]) == (3, 255))
+sure(try_types(coloured=True) == (3, 255))
+sure(try_types(kinds=[3, 1], cubes=UNIT) == (3, 255))  # counts before kinds
+sure(try_types(kinds=[3, 1], covers=[0, 64]) == (3, 0))
+sure(try_types(kinds=[2, 3], covers=[63, 255], d=[INF] * 3) == (3, 1))  # types before numbers
+sure(try_types(d=[ONE, ONE, NAN]) == (4, 0))
+sure(try_types(centre=[INF, 0, 0], cubes=UNIT + [0] * 192) == (4, 0))  # numbers before cubes
+sure(try_types(cubes=UNIT + [0] * 192) == (6, 1))
+sure(try_types(kinds=[1, 1], cubes=[0] * 192 + [0] * 192) == (6, 0))
+sure(try_types(kinds=[0, 2], cubes=[NAN] * 384) == (0, 0))  # floats of other kinds are ignored
+sure(try_types(cubes=[NAN] * 192 + UNIT) == (0, 0))
+sure(try_types(d=[0] * 3) == (0, 0))  # d is compared with no shape
+sure(try_types(centre=f(0.5, 0.5, 0.5)) == (0, 0))  # centre = high
+sure(try_types(centre=f(0, -0.5, 0)) == (6, 1))  # centre = low
+sure(try_types(kinds=[1, 1], coloured=True, cubes=COLOURED + COLOURED) == (0, 0))
 for at in (0, 9, 18, 184, 186):
-    assert try_types(cubes=UNIT + UNIT[:at] + [INF] + UNIT[at + 1:]) == (6, 1)
-assert try_types(cubes=UNIT + UNIT[:3] + [NAN] + UNIT[4:]) == (0, 0)  # a normal is not looked at
+    sure(try_types(cubes=UNIT + UNIT[:at] + [INF] + UNIT[at + 1:]) == (6, 1))
+sure(try_types(cubes=UNIT + UNIT[:3] + [NAN] + UNIT[4:]) == (0, 0))  # a normal is not looked at
 STRADDLE = cube(shape(centre=f(0.5, 0.5, 0.5)))
 ZEROS = [w ^ NEG if w == 0 and k // 8 % 3 == 1 and k % 8 < 3 else w for k, w in enumerate(STRADDLE)]
-assert ZEROS != STRADDLE and try_types(centre=f(0.5, 0.5, 0.5), cubes=UNIT + ZEROS) == (0, 0)  # -0.0 equals +0.0
-assert try_types(cubes=UNIT + UNIT[32:64] + UNIT[:32] + UNIT[64:]) == (6, 1)  # Bottom where Top should be
+sure(ZEROS != STRADDLE and try_types(centre=f(0.5, 0.5, 0.5), cubes=UNIT + ZEROS) == (0, 0))  # -0.0 equals +0.0
+sure(try_types(cubes=UNIT + UNIT[32:64] + UNIT[:32] + UNIT[64:]) == (6, 1))  # Bottom where Top should be
 
 # ---- moved positions
-assert try_moved(0x3D4CCCCD, 3, 0x3DCCCCCD) == 0x3EB33334  # fused it would be 0x3eb33333
-assert try_moved(MAX, 1023, MAX) == INF and try_moved(NEG | MAX, 1023, NEG | MAX) == NEG | INF
+sure(try_moved(0x3D4CCCCD, 3, 0x3DCCCCCD) == 0x3EB33334)  # fused it would be 0x3eb33333
+sure(try_moved(MAX, 1023, MAX) == INF and try_moved(NEG | MAX, 1023, NEG | MAX) == NEG | INF)
 for word, coordinate, d in ((0, 0, NEG | ONE), (NEG, 0, NEG | ONE), (TINY, 1, TINY), (ONE, 1023, NEG | TINY), (NEG, 1, 0),
                             (bits(-0.5), 1, bits(0.5))):
     try_moved(word, coordinate, d)
@@ -317,12 +318,12 @@ def wrong_cubes():
     wrong(0, made[:13] + [513] + made[14:])  # more room than is lent
     try_cube(shape(texture=NAMED[:6] + [6] + NAMED[7:]))
     refused = last()
-    assert refused[14:16] == [7, 2]
+    sure(refused[14:16] == [7, 2])
     spoil(0, refused, 14, 15)
     wrong(0, refused + UNIT)  # a refused cube is not written
     try_cube(shape(d=f(-1, -2.5, -0.75)))
     unclassed = last()
-    assert unclassed[16:18] == [6, 0]
+    sure(unclassed[16:18] == [6, 0])
     spoil(0, unclassed, 16, 17)
     wrong(0, refused[:12] + [19] + refused[13:])  # a texture that is cut short
     wrong(0, made[:17])
@@ -352,7 +353,7 @@ def wrong_moved():
 if __name__ == "__main__":
     # ---- the Rust's cubes
     for s, vertices in answers()[0]:
-        assert try_cube(s, 300)[0] == vertices
+        sure(try_cube(s, 300)[0] == vertices)
     wrong_cubes()
     wrong_types()
     wrong_moved()

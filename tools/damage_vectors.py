@@ -2,13 +2,14 @@
 """Writes what the program damage_run reads and must print: crates/damage_run/stdin and stdout.
 
 Good meshes are damaged, most of them one word at a time, and checked; every expected answer comes from trials.py's check, from document 01's
-sentences, and what 01 says of a kind of damage stands here as an assert. Run it at the repository's root; stored.py says where it writes.
+sentences, and what 01 says of a kind of damage stands here as `sure`. Run it at the repository's root; stored.py says where it writes.
 """
 import random
 from collections import Counter
 
 from cube_vectors import INF, MAX, NAN, NEG, cube, f, shape
 from mesh_vectors import JUNK, UNIT, call, faces, floats, mesh
+from sure import sure
 from trials import ADD_FACES, CHECK, CULL_FACES, CULLING, NAIVE, NONE, OUTSIDE, UPDATE, Trials, entry, spare
 
 trials = Trials()
@@ -50,31 +51,31 @@ def kept(name, place):
 # ---- grid 1,1: every word of every list
 PAIR = call(grid=[1, 1])
 TAKEN = [(0, face) for face in (0, 1, 3, 4, 5)] + [(1, face) for face in (0, 1, 2, 4, 5)]
-assert base(PAIR) == 10 and check(10) == (0, 0)
+sure(base(PAIR) == 10 and check(10) == (0, 0))
 for q, (cell, face) in enumerate(TAKEN):
     for k in range(32):
         word = kept("vertices", 32 * q + k)
-        assert damage(10, "vertices", 32 * q + k, flipped(word) if q == 3 else others(word)) == {(16, q)}
+        sure(damage(10, "vertices", 32 * q + k, flipped(word) if q == 3 else others(word)) == {(16, q)})
     for k in range(6):
         word = kept("triangles", 6 * q + k)
-        assert damage(10, "triangles", 6 * q + k, others(word) + (word + 4, word - 4)) == {(12, q)}
+        sure(damage(10, "triangles", 6 * q + k, others(word) + (word + 4, word - 4)) == {(12, q)})
     links = flipped(kept("links", q)) + [kept("links", other) for other in range(10)] + [cell | code << 29 for cell in (0, 1, 2) for code in range(8)]
-    assert damage(10, "links", q, links) == {(11, q)}
+    sure(damage(10, "links", q, links) == {(11, q)})
     slots = flipped(4 * q) + [4 * other for other in range(13)] + [NONE]
-    assert damage(10, "slots", 6 * cell + face, slots) == {(11, q)}
+    sure(damage(10, "slots", 6 * cell + face, slots) == {(11, q)})
 for empty in (2, 9):
-    assert damage(10, "slots", empty, flipped(NONE) + [4 * q for q in range(13)]) == {(11, 10)}
+    sure(damage(10, "slots", empty, flipped(NONE) + [4 * q for q in range(13)]) == {(11, 10)})
 for name, taken in (("vertices", 320), ("triangles", 60), ("links", 10), ("slots", 12)):
     for place in range(taken, trials.size[dict(vertices=4, triangles=5, links=6, slots=7)[name]]):
-        assert damage(10, name, place, (0, 40, NONE)) == {(0, 0)}  # what lies past the mesh is not looked at
+        sure(damage(10, name, place, (0, 40, NONE)) == {(0, 0)})  # what lies past the mesh is not looked at
 for cell in (0, 1):
-    assert damage(10, "grid", cell, (2, 3, 254, 255)) == {(8, cell)} and damage(10, "grid", cell, (0,)) == {(15, 0 if cell == 0 else 2)}
+    sure(damage(10, "grid", cell, (2, 3, 254, 255)) == {(8, cell)} and damage(10, "grid", cell, (0,)) == {(15, 0 if cell == 0 else 2)})
 for code in (0, 1):
-    assert damage(10, "kinds", code, (3, 255)) == damage(10, "covers", code, (64, 128, 255)) == {(3, code)}
+    sure(damage(10, "kinds", code, (3, 255)) == damage(10, "covers", code, (64, 128, 255)) == {(3, code)})
     damage(10, "kinds", code, (0, 1, 2))
     damage(10, "covers", code, [1 << face for face in range(6)] + [63 ^ 1 << face for face in range(6)] + [0, 63])
 for k in range(192):
-    assert damage(10, "cubes", k, (0, INF)) == {(0, 0)}  # the floats of a Null
+    sure(damage(10, "cubes", k, (0, INF)) == {(0, 0)})  # the floats of a Null
     damage(10, "cubes", 192 + k, others(kept("cubes", 192 + k)) + (INF, NAN))
 
 # ---- the scene's words
@@ -84,25 +85,25 @@ for k in range(3):
     for word in (0, 1, NEG, MAX, INF, NAN, NONE, NEG | INF, trials.kept[5] + 1):
         check(10, before=[(5 + k, word)])
         check(10, before=[(8 + k, word)])
-assert check(10, before=[(1, 1), (2, 2)])[0] == 15 and check(10, before=[(4, 1)]) == (3, 255)
-assert check(10, before=[(8, f(0.5)[0])]) == (0, 0) and check(10, before=[(8, f(-0.5)[0])]) == (6, 1)
+sure(check(10, before=[(1, 1), (2, 2)])[0] == 15 and check(10, before=[(4, 1)]) == (3, 255))
+sure(check(10, before=[(8, f(0.5)[0])]) == (0, 0) and check(10, before=[(8, f(-0.5)[0])]) == (6, 1))
 
 # ---- counts, lengths, outer lists
 for count in range(10):
-    assert check(count) == (11, count)
+    sure(check(count) == (11, count))
 for count in (11, 12):
-    assert check(count) == (11, 10)
+    sure(check(count) == (11, 10))
 for count in (13, 14, 1 << 30, 1 << 31, NONE):
-    assert check(count) == (10, 0)
+    sure(check(count) == (10, 0))
 for short, number in ((dict(grid=1), 2), (dict(grid=0), 2), (dict(kinds=1), 3), (dict(covers=1), 3), (dict(cubes=383), 3), (dict(cubes=192), 3),
                       (dict(slots=11), 9), (dict(slots=0), 9), (dict(vertices=319), 10), (dict(triangles=59), 10), (dict(links=9), 10)):
-    assert check(10, **short)[0] == number
-assert check(10, vertices=320, triangles=60, links=10, slots=12) == (0, 0)
+    sure(check(10, **short)[0] == number)
+sure(check(10, vertices=320, triangles=60, links=10, slots=12) == (0, 0))
 for face in range(6):
     drawn = [6 * cell + side for cell, side in TAKEN if side == face]
-    assert check(10, outer=(face,)) == check(10, outer=(face, face)) == (15, drawn[0])
-    assert check(10, outer=(face, 6, 7)) == (7, 1)
-assert check(10, outer=(255,)) == (7, 0) and check(10, outer=(0, 1, 2, 3, 4, 5) * 9 + (8,)) == (7, 54)
+    sure(check(10, outer=(face,)) == check(10, outer=(face, face)) == (15, drawn[0]))
+    sure(check(10, outer=(face, 6, 7)) == (7, 1))
+sure(check(10, outer=(255,)) == (7, 0) and check(10, outer=(0, 1, 2, 3, 4, 5) * 9 + (8,)) == (7, 54))
 
 # ---- two damages in one call: the order of the refusals
 V, T, L, S, G = (trials.at(name) for name in ("vertices", "triangles", "links", "slots", "grid"))
@@ -111,40 +112,40 @@ FAULTS = [
     (7, 2, [], dict(outer=(0, 1, 6))), (8, 1, [(G + 1, 2)], {}), (9, 0, [], dict(slots=11)), (10, 0, [], dict(triangles=59)),
     (11, 9, [(L + 9, 6 << 29)], {}), (12, 8, [(T + 53, 0)], {}), (15, 1, [], dict(outer=(1,))), (16, 4, [(V + 159, 9)], {})]
 for i, (number, place, patches, more) in enumerate(FAULTS):
-    assert check(10, before=patches, **more) == (number, place)
+    sure(check(10, before=patches, **more) == (number, place))
     for _, _, later, and_more in FAULTS[i + 1:]:
-        assert check(10, before=patches + later, **dict(and_more, **more)) == (number, place)
-assert check(10, before=[(V + 32 * 7, 1), (V + 32 * 5 + 31, 1)]) == (16, 5)
-assert check(10, before=[(T + 6 * 7, 1), (T + 6 * 5 + 5, 1)]) == (12, 5)
-assert check(10, before=[(L + 7, 7 << 29), (L + 5, 7 << 29)]) == (11, 5)
+        sure(check(10, before=patches + later, **dict(and_more, **more)) == (number, place))
+sure(check(10, before=[(V + 32 * 7, 1), (V + 32 * 5 + 31, 1)]) == (16, 5))
+sure(check(10, before=[(T + 6 * 7, 1), (T + 6 * 5 + 5, 1)]) == (12, 5))
+sure(check(10, before=[(L + 7, 7 << 29), (L + 5, 7 << 29)]) == (11, 5))
 
 # ---- with colour: every word, and each bit of one quad
 TINTED = call(grid=[1, 1], coloured=True, cubes=cube(shape(coloured=True, colour=NAN, alpha=0xFFC12345)) * 2)
-assert base(TINTED) == 10 and check(10) == (0, 0)
+sure(base(TINTED) == 10 and check(10) == (0, 0))
 for q in range(10):
     for k in range(48):
         word = kept("vertices", 48 * q + k)
-        assert damage(10, "vertices", 48 * q + k, flipped(word) if q == 6 else (word ^ 1, word ^ NEG)) == {(16, q)}
+        sure(damage(10, "vertices", 48 * q + k, flipped(word) if q == 6 else (word ^ 1, word ^ NEG)) == {(16, q)})
 # -0.0 for +0.0, one NaN for another: as bits they differ
 at = next(k for k in range(48) if kept("vertices", k) == 0)
-assert damage(10, "vertices", at, (NEG,)) == {(16, 0)} and damage(10, "vertices", 8, (NAN | 1, INF)) == {(16, 0)}
+sure(damage(10, "vertices", at, (NEG,)) == {(16, 0)} and damage(10, "vertices", 8, (NAN | 1, INF)) == {(16, 0)})
 
 # ---- faces missing, faces too many, quads in another order: meshes whose index is whole
 MIXED = call(dims=[2, 2, 2], grid=[1, 0, 2, 3, 1, 1, 4, 2], kinds=[0, 1, 1, 0, 2], covers=[0, 63, 21, 63, 42],
              cubes=JUNK + UNIT + cube(shape(atlas=[2, 2])) + JUNK * 2)
 count = base(MIXED)
-assert check(count) == (0, 0)
+sure(check(count) == (0, 0))
 drawn = {6 * cell + face for cell, _, face in faces(MIXED)}
 for cell in range(8):
     for face in range(6):
         change, after = (CULL_FACES, count - 1) if 6 * cell + face in drawn else (ADD_FACES, count + 1)
         given = [OUTSIDE] * face + [1] + [OUTSIDE] * (5 - face)
-        assert trials.add(UPDATE, count, entry(cell, change, 1, *given))[:3] == (0, 0, after)
-        assert check(after, goes_on=True) == (15, 6 * cell + face)
+        sure(trials.add(UPDATE, count, entry(cell, change, 1, *given))[:3] == (0, 0, after))
+        sure(check(after, goes_on=True) == (15, 6 * cell + face))
         # The same for a second face of the grid's last cell: the lowest is named.
-        assert trials.add(UPDATE, after, entry(7, CULL_FACES, 1, *[1] * 6), goes_on=True)[0] == 0
+        sure(trials.add(UPDATE, after, entry(7, CULL_FACES, 1, *[1] * 6), goes_on=True)[0] == 0)
         check(trials.told[2], goes_on=True)
-assert trials.add(NAIVE, 0)[0] == 14 and trials.add(CULLING, 0)[:3] == (0, 0, count) and check(count, goes_on=True) == (0, 0)
+sure(trials.add(NAIVE, 0)[0] == 14 and trials.add(CULLING, 0)[:3] == (0, 0, count) and check(count, goes_on=True) == (0, 0))
 for turn in range(12):
     order = list(range(count))
     rng.shuffle(order)
@@ -154,30 +155,30 @@ for turn in range(12):
         cell, _, face = faces(MIXED)[old]
         before += [(trials.at("vertices", 32 * q + k), fresh[0][32 * old + k]) for k in range(32)]
         before += [(trials.at("links", q), fresh[2][old]), (trials.at("slots", 6 * cell + face), 4 * q)]
-    assert check(count, before=before) == (0, 0)
+    sure(check(count, before=before) == (0, 0))
     q = rng.randrange(count)
-    assert check(count, before=before + [(trials.at("vertices", 32 * q + rng.randrange(32)), 0x12345678)]) == (16, q)
-    assert check(count, before=before + [(trials.at("triangles", 6 * q), 4 * q + 1)]) == (12, q)
+    sure(check(count, before=before + [(trials.at("vertices", 32 * q + rng.randrange(32)), 0x12345678)]) == (16, q))
+    sure(check(count, before=before + [(trials.at("triangles", 6 * q), 4 * q + 1)]) == (12, q))
     a, b = sorted(rng.sample(range(count), 2))
     swapped = [(trials.at("links", a), fresh[2][order[b]]), (trials.at("links", b), fresh[2][order[a]])]
-    assert check(count, before=before + swapped) == (11, a)
+    sure(check(count, before=before + swapped) == (11, a))
 for place, name in [(k, "links") for k in range(count)] + [(k, "slots") for k in range(48)]:
-    assert {number for number, _ in damage(count, name, place, (kept(name, place) ^ 1, kept(name, place) ^ 4, NONE, 0))} == {11}
+    sure({number for number, _ in damage(count, name, place, (kept(name, place) ^ 1, kept(name, place) ^ 4, NONE, 0))} == {11})
 for cell in range(8):
     for code in range(6):
         check(count, before=[(trials.at("grid", cell), code)])
 for q in range(count):
-    assert damage(count, "vertices", 32 * q + rng.randrange(32), (0x12345678,)) == {(16, q)}
+    sure(damage(count, "vertices", 32 * q + rng.randrange(32), (0x12345678,)) == {(16, q)})
 
 # ---- no quads at all
-assert base(call(grid=[0, 0])) == 0 and check(0) == (0, 0) and check(1) == (11, 0)
+sure(base(call(grid=[0, 0])) == 0 and check(0) == (0, 0) and check(1) == (11, 0))
 for place in range(12):
-    assert damage(0, "slots", place, (0, 4, NONE - 1)) == {(11, 0)}
-assert check(0, before=[(trials.at("grid"), 1)]) == (15, 0) and check(0, outer=range(6), before=[(trials.at("grid"), 1)]) == (15, 2)
-assert check(0, outer=range(6), before=[(trials.at("grid"), 1), (trials.at("grid", 1), 1)]) == (0, 0)
-assert check(0, vertices=0, triangles=0, links=0) == (0, 0)
+    sure(damage(0, "slots", place, (0, 4, NONE - 1)) == {(11, 0)})
+sure(check(0, before=[(trials.at("grid"), 1)]) == (15, 0) and check(0, outer=range(6), before=[(trials.at("grid"), 1)]) == (15, 2))
+sure(check(0, outer=range(6), before=[(trials.at("grid"), 1), (trials.at("grid", 1), 1)]) == (0, 0))
+sure(check(0, vertices=0, triangles=0, links=0) == (0, 0))
 
-assert set(answers) == {0, 2, 3, 4, 6, 7, 8, 9, 10, 11, 12, 15, 16}
+sure(set(answers) == {0, 2, 3, 4, 6, 7, 8, 9, 10, 11, 12, 15, 16})
 
 if __name__ == "__main__":
     print(sorted(answers.items()))

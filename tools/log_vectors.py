@@ -1,13 +1,14 @@
 #!/usr/bin/env python3
 """Writes what the program log_run reads and must print: crates/log_run/stdin and stdout.
 
-Every expected word comes from trials.py, from document 01's sentences; where 01 itself works a case, its figures stand here as asserts.
+Every expected word comes from trials.py, from document 01's sentences; where 01 itself works a case, its figures stand here, held by `sure`.
 Run it at the repository's root; stored.py says where it writes.
 """
 import random
 
 from cube_vectors import INF, NAN, cube, f, shape
 from mesh_vectors import JUNK, UNIT, call, faces, floats, mesh, some_types
+from sure import sure
 from trials import (ADD_FACES, ADDED, BROKEN, CHECK, CULL_FACES, CULLING, NAIVE, NONE, OUTSIDE, UPDATE, UPDATE_ITSELF, Trials, beside, cell_count,
                     covers, entry, spare)
 
@@ -52,18 +53,18 @@ def check_goes_on(grid):
 # ---- the worked example, and grid 1,1 with its first cube taken and put back
 PAIR = call(grid=[1, 1])
 BREAK, BUILD = entry(0, BROKEN, 1, *by(2, 1)), entry(0, ADDED, 1, *by(2, 1))
-assert base(PAIR) == 10
-assert add(UPDATE, 10, BREAK) == (0, 0, 6, 14) and keys() == [(1, face) for face in (5, 4, 0, 1, 2, 3)]
-assert check_goes_on([0, 1]) == (0, 0, 0, 0)
-assert add(UPDATE, 10, BREAK + BUILD, **fit(PAIR, 10)) == (14, 1, 6, 14)
-assert add(UPDATE, 10, BREAK + BUILD, **fit(PAIR, 11))[:3] == (0, 0, 10)
-assert check_goes_on([1, 1]) == (0, 0, 0, 0)
-assert add(UPDATE, 10, BREAK + BUILD)[:3] == (0, 0, 10) and add(UPDATE, 10) == (0, 0, 10, 0)
+sure(base(PAIR) == 10)
+sure(add(UPDATE, 10, BREAK) == (0, 0, 6, 14) and keys() == [(1, face) for face in (5, 4, 0, 1, 2, 3)])
+sure(check_goes_on([0, 1]) == (0, 0, 0, 0))
+sure(add(UPDATE, 10, BREAK + BUILD, **fit(PAIR, 10)) == (14, 1, 6, 14))
+sure(add(UPDATE, 10, BREAK + BUILD, **fit(PAIR, 11))[:3] == (0, 0, 10))
+sure(check_goes_on([1, 1]) == (0, 0, 0, 0))
+sure(add(UPDATE, 10, BREAK + BUILD)[:3] == (0, 0, 10) and add(UPDATE, 10) == (0, 0, 10, 0))
 for scarce in ("vertices", "triangles", "links"):
     for more in (0, 31, 32) if scarce == "vertices" else (0, 5, 6) if scarce == "triangles" else (0, 1):
         most = dict(vertices=320, triangles=60, links=10)[scarce] + more
         told = add(UPDATE, 10, BREAK + BUILD, **{scarce: most})
-        assert told[:2] == ((0, 0) if more in (1, 6, 32) else (14, 1))
+        sure(told[:2] == ((0, 0) if more in (1, 6, 32) else (14, 1)))
 
 # ---- one quad removed, from every place of meshes of 6 to 14: Q - q from 1 to 14
 TINTED_CUBE = cube(shape(coloured=True, colour=NAN, alpha=0xFFC12345))
@@ -71,10 +72,10 @@ ROWS = [call(grid=[1] * n) for n in (1, 2, 3)] + [call(grid=[1, 1], coloured=Tru
 for m in ROWS:
     count = base(m, 2)
     for q, (cell, _, face) in enumerate(faces(m)):
-        assert add(UPDATE, count, entry(cell, CULL_FACES, 1, *by(face, 0))) == (0, 0, count - 1, count - 1 - q if count - q <= 6 else 1)
+        sure(add(UPDATE, count, entry(cell, CULL_FACES, 1, *by(face, 0))) == (0, 0, count - 1, count - 1 - q if count - q <= 6 else 1))
 base(ROWS[1], 2)
-assert add(UPDATE, 10, entry(0, CULL_FACES, 0, *by(5, 0)))[3] == 5  # quad 4
-assert add(UPDATE, 10, entry(0, CULL_FACES, 0, *by(4, 0)))[3] == 1 and keys()[3] == (1, 5)  # quad 3
+sure(add(UPDATE, 10, entry(0, CULL_FACES, 0, *by(5, 0)))[3] == 5)  # quad 4
+sure(add(UPDATE, 10, entry(0, CULL_FACES, 0, *by(4, 0)))[3] == 1 and keys()[3] == (1, 5))  # quad 3
 for q in range(10):  # bits of no number go with their quad
     add(UPDATE, 10, entry(0, CULL_FACES, 1, *by(3, 1)) + BREAK, before=[(trials.at("vertices", 32 * q + k), 0x7F800001 + 977 * k) for k in range(32)])
 
@@ -82,39 +83,39 @@ for q in range(10):  # bits of no number go with their quad
 for covering, quads, fresh in ((2, 11, 10), (1, 10, 11)):
     m = call(dims=[1, 2, 1], grid=[1, 0], kinds=[0, 1, 1], covers=[0, 63, covering], cubes=JUNK + UNIT * 2)
     base(m)
-    assert add(UPDATE, 6, entry(1, ADDED, 2, *by(1, 1)))[2] == quads
-    assert check_goes_on([1, 2])[0] == 15
-    assert add(UPDATE_ITSELF, 6, entry(1, ADDED, 2, *by(1, 1)))[2] == fresh
-    assert check_goes_on([1, 2])[0] == 0
-    assert add(CULLING, 0, before=[(trials.at("grid", 1), 2)])[2] == fresh and add(NAIVE, 0, before=[(trials.at("grid", 1), 2)])[2] == 12
+    sure(add(UPDATE, 6, entry(1, ADDED, 2, *by(1, 1)))[2] == quads)
+    sure(check_goes_on([1, 2])[0] == 15)
+    sure(add(UPDATE_ITSELF, 6, entry(1, ADDED, 2, *by(1, 1)))[2] == fresh)
+    sure(check_goes_on([1, 2])[0] == 0)
+    sure(add(CULLING, 0, before=[(trials.at("grid", 1), 2)])[2] == fresh and add(NAIVE, 0, before=[(trials.at("grid", 1), 2)])[2] == 12)
 base(PAIR)
 for cell in (0, 1):
-    assert add(UPDATE, 10, entry(cell, ADDED, 0, 1, 1, 1, 1, 1, 1)) == (0, 0, 10, 0)
+    sure(add(UPDATE, 10, entry(cell, ADDED, 0, 1, 1, 1, 1, 1, 1)) == (0, 0, 10, 0))
 
 # ---- 3x3x3: every change on every side of a cell at each corner and edge; every cell broken and built again
 BOX = call(dims=[3, 3, 3], grid=[1] * 27)
-assert base(BOX) == 54
+sure(base(BOX) == 54)
 RIM = [c for c in range(27) if sum(k in (0, 2) for k in (c % 3, c // 3 % 3, c // 9)) >= 2]
-assert len(RIM) == 20
+sure(len(RIM) == 20)
 for cell in RIM:
     for face in range(6):
         for change in (BROKEN, ADDED, CULL_FACES, ADD_FACES):
-            assert add(UPDATE, 54, entry(cell, change, 1, *by(face, 1)))[0] == 0
+            sure(add(UPDATE, 54, entry(cell, change, 1, *by(face, 1)))[0] == 0)
 for cell in range(27):
     number, _, quads, _ = add(UPDATE, 54, entry(cell, BROKEN, 1, *around(BOX, BOX["grid"], cell)))
-    assert number == 0
-    assert check_goes_on([0 if c == cell else 1 for c in range(27)])[0] == 0
-    assert add(UPDATE, quads, entry(cell, ADDED, 1, *around(BOX, BOX["grid"], cell)), goes_on=True)[:3] == (0, 0, 54)
-    assert check_goes_on([1] * 27)[0] == 0
+    sure(number == 0)
+    sure(check_goes_on([0 if c == cell else 1 for c in range(27)])[0] == 0)
+    sure(add(UPDATE, quads, entry(cell, ADDED, 1, *around(BOX, BOX["grid"], cell)), goes_on=True)[:3] == (0, 0, 54))
+    sure(check_goes_on([1] * 27)[0] == 0)
 
 CORE = entry(13, BROKEN, 1, 1, 1, 1, 1, 1, 1)  # nothing goes, six come
 CUT = [entry(c, CULL_FACES, 1, *by(1, 1)) for c in (0, 1)]
 for quads in range(54, 61):
     full = quads < 60
-    assert add(UPDATE, 54, CORE, **fit(BOX, quads)) == ((14, 0, 54, 0) if full else (0, 0, 60, 0))
-    assert add(UPDATE, 54, CORE + CUT[0], **fit(BOX, quads))[:2] == ((14, 0) if full else (0, 0))
-    assert add(UPDATE, 54, CUT[0] + CORE + CUT[1], **fit(BOX, quads))[:2] == ((14, 1) if quads < 59 else (0, 0))
-    assert add(UPDATE, 54, CUT[0] + CUT[1] + CORE, **fit(BOX, quads))[:2] == ((14, 2) if quads < 58 else (0, 0))
+    sure(add(UPDATE, 54, CORE, **fit(BOX, quads)) == ((14, 0, 54, 0) if full else (0, 0, 60, 0)))
+    sure(add(UPDATE, 54, CORE + CUT[0], **fit(BOX, quads))[:2] == ((14, 0) if full else (0, 0)))
+    sure(add(UPDATE, 54, CUT[0] + CORE + CUT[1], **fit(BOX, quads))[:2] == ((14, 1) if quads < 59 else (0, 0)))
+    sure(add(UPDATE, 54, CUT[0] + CUT[1] + CORE, **fit(BOX, quads))[:2] == ((14, 2) if quads < 58 else (0, 0)))
 
 # ---- types of every kind: logs of one entry that fit no grid, and of several
 KINDS = dict(kinds=[0, 1, 1, 0, 2, 1, 1], covers=[0, 63, 21, 63, 42, 0, 0b001100], cubes=JUNK + UNIT * 2 + JUNK * 2 + UNIT * 2)
@@ -173,14 +174,14 @@ for turn in range(16):
             places.add((told[1], log[12 * told[1] + 4]))
         else:
             break
-assert {place for place, _ in places} == {0, 1, 2, 3, 4} and {change for _, change in places} == {ADDED, ADD_FACES}, places
+sure({place for place, _ in places} == {0, 1, 2, 3, 4} and {change for _, change in places} == {ADDED, ADD_FACES}, places)
 
 for turn in range(10):
     dims = [rng.choice((1, 2, 3)) for _ in range(3)]
     m = call(dims=dims, grid=[rng.randint(0, 6) for _ in range(dims[0] * dims[1] * dims[2])], **some_types(turn % 2 == 1))
     count = base(m, 20)
     for length in (1, 2, 3, 5, 8, 13):
-        assert add(UPDATE, count, some_log(rng, m, length), **(fit(m, count + 3) if length == 3 else {}))[0] in (0, 14)
+        sure(add(UPDATE, count, some_log(rng, m, length), **(fit(m, count + 3) if length == 3 else {}))[0] in (0, 14))
         check_goes_on(m["grid"])
 
 # ---- long honest logs, in one call and in many, then the check
@@ -192,14 +193,14 @@ for coloured in (False, True):
     for turn in range(3):
         grid = list(m["grid"])
         told = add(UPDATE, count, some_log(rng, m, 200, grid))
-        assert told[0] == 0 and check_goes_on(grid)[0] == 0
+        sure(told[0] == 0 and check_goes_on(grid)[0] == 0)
     grid = list(m["grid"])
     told = add(UPDATE, count, some_log(rng, m, 1, grid))
     for turn in range(12):
         told = add(UPDATE, told[2], some_log(rng, m, 1 + 2 * turn, grid), goes_on=True)
-        assert told[0] == 0 and check_goes_on(grid)[0] == 0
+        sure(told[0] == 0 and check_goes_on(grid)[0] == 0)
     grid[7] = 1 if grid[7] != 1 else 2
-    assert add(CHECK, told[2], goes_on=True, before=[(trials.at("grid", 7), grid[7])])[0] == 15
+    sure(add(CHECK, told[2], goes_on=True, before=[(trials.at("grid", 7), grid[7])])[0] == 15)
 
 # ---- the side itself: slabs of one side and of several amid six cubes; any covers, honest and foolish; cubes alike, where both modes are one
 def either_way(count, log, **lent):
@@ -213,11 +214,11 @@ CROSS = call(dims=[3, 3, 3], grid=[1 if c in (4, 10, 12, 14, 16, 22) else 0 for 
 count = base(CROSS, 8)
 for code in range(2, 10):
     told, itself, same = either_way(count, entry(13, ADDED, code, 1, 1, 1, 1, 1, 1))
-    assert told[0] == itself[0] == 0 and same == is_alike(CROSS, code)
-    assert check_goes_on([code if c == 13 else CROSS["grid"][c] for c in range(27)])[0] == 0
+    sure(told[0] == itself[0] == 0 and same == is_alike(CROSS, code))
+    sure(check_goes_on([code if c == 13 else CROSS["grid"][c] for c in range(27)])[0] == 0)
     told, itself, _ = either_way(count, entry(13, ADDED, code, *ALONE), **fit(CROSS, count + 5))  # room is counted before a facing quad goes
-    assert told == itself == (14, 0, count, 0)
-assert either_way(count, entry(13, ADDED, 1, *ALONE), **fit(CROSS, count + 6))[2] and either_way(count, entry(10, BROKEN, 8, 1, 1, 1, 1, 1, 1))[2]
+    sure(told == itself == (14, 0, count, 0))
+sure(either_way(count, entry(13, ADDED, 1, *ALONE), **fit(CROSS, count + 6))[2] and either_way(count, entry(10, BROKEN, 8, 1, 1, 1, 1, 1, 1))[2])
 for turn in range(2):
     m = call(dims=[2, 3, 1], grid=[rng.randrange(10) for _ in range(6)], **SLABS)
     count = base(m, 20)
@@ -225,13 +226,13 @@ for turn in range(2):
         add(UPDATE_ITSELF, count, some_log(rng, m, length), **(fit(m, count + 2) if length == 9 else {}))
         check_goes_on(m["grid"])
     grid = list(m["grid"])
-    assert either_way(count, some_log(rng, m, 12, grid))[2] and check_goes_on(grid)[0] == 0
+    sure(either_way(count, some_log(rng, m, 12, grid))[2] and check_goes_on(grid)[0] == 0)
     grid = list(m["grid"])
     told, itself, same = either_way(count, some_log(rng, m, 40, grid, any_cube))
-    assert told[0] == itself[0] == 0 and not same and check_goes_on(grid)[0] == 0
+    sure(told[0] == itself[0] == 0 and not same and check_goes_on(grid)[0] == 0)
     for _ in range(2):
         itself = add(UPDATE_ITSELF, itself[2], some_log(rng, m, 3, grid, any_cube), goes_on=True)
-        assert itself[0] == 0 and check_goes_on(grid)[0] == 0
+        sure(itself[0] == 0 and check_goes_on(grid)[0] == 0)
 
 # ---- refusals: each, and each two; the log would change everything
 base(PAIR, 3)
@@ -253,17 +254,17 @@ def refused(*faults):
     return add(UPDATE, 10, before=before, **dict(dict(log=LOG), **more))
 
 
-assert add(UPDATE, 10, LOG)[0] == 0
+sure(add(UPDATE, 10, LOG)[0] == 0)
 for i, fault in enumerate(FAULTS):
-    assert refused(fault)[:2] == fault[:2], fault
+    sure(refused(fault)[:2] == fault[:2], fault)
     for later in FAULTS[i + 1:]:
-        assert refused(fault, later)[:2] == fault[:2], (fault, later)
-assert refused(*FAULTS)[:2] == (2, 0)
-assert add(UPDATE, 10, LOG + BAD, **fit(PAIR, 10))[:2] == (13, 3)  # the entries are tried before the first is done
+        sure(refused(fault, later)[:2] == fault[:2], (fault, later))
+sure(refused(*FAULTS)[:2] == (2, 0))
+sure(add(UPDATE, 10, LOG + BAD, **fit(PAIR, 10))[:2] == (13, 3))  # the entries are tried before the first is done
 
 
 def refusal(number, place, count=10, log=LOG, **more):
-    assert add(UPDATE, count, log, **more) == (number, place, 0, 0), (number, place, more)
+    sure(add(UPDATE, count, log, **more) == (number, place, 0, 0), (number, place, more))
 
 
 for k in range(3):
@@ -302,7 +303,7 @@ refusal(11, 10, before=[(S + 2, 40)])  # one more filled than quads
 refusal(11, 10, before=[(S + 2, 0), (T, 9)])
 refusal(11, 9, count=9)  # its slot is still filled
 refusal(11, 9, before=[(L + 9, 7 << 29), (T, 9)])
-assert add(UPDATE, 9, LOG, before=[(S + 11, NONE)])[0] == 0 and add(UPDATE, 10, LOG, before=[(S + 12, 0), (S + 18, 4)])[0] == 0
+sure(add(UPDATE, 9, LOG, before=[(S + 11, NONE)])[0] == 0 and add(UPDATE, 10, LOG, before=[(S + 12, 0), (S + 18, 4)])[0] == 0)
 refusal(11, 10, count=11)  # what stands in place 10 is no link
 refusal(11, 10, count=11, before=[(L + 10, 0), (T + 60, 0)])
 for bad in [(2,), (NONE,), (0, 4), (0, 255), (0, 1, 2), (0, 1, 255)] + [(0, 2, 0) + (0,) * k + (2,) for k in range(6)] + [(0, 3, 0, 254)]:
@@ -317,8 +318,8 @@ refusal(13, 3, log=LOG + b"\0", **fit(PAIR, 10))
 
 # ---- fresh meshes by the same records
 for outer in ((), (0,), (5, 3, 3)):
-    assert add(CULLING, 0, outer=outer)[0] == 0 and add(NAIVE, 0, outer=outer) == (0, 0, 12, 0)
-assert add(CULLING, 0, outer=(1, 6)) == (7, 1, 0, 0) and add(CULLING, 0, links=9) == (14, 0, 0, 0) and add(CULLING, 0, grid=1) == (2, 0, 0, 0)
+    sure(add(CULLING, 0, outer=outer)[0] == 0 and add(NAIVE, 0, outer=outer) == (0, 0, 12, 0))
+sure(add(CULLING, 0, outer=(1, 6)) == (7, 1, 0, 0) and add(CULLING, 0, links=9) == (14, 0, 0, 0) and add(CULLING, 0, grid=1) == (2, 0, 0, 0))
 
 if __name__ == "__main__":
     trials.write("log_run", "logs")

@@ -12,6 +12,7 @@ Run it at the repository's root; stored.py says where it writes.
 """
 from mesh_vectors import floats
 from rust_list import answers
+from sure import sure
 from trials import CULLING, NAIVE, PARTS, UPDATE, Trials, spare, update
 
 trials = Trials()
@@ -40,9 +41,9 @@ for m, log, fresh, updated in answers()[1]:
     vertices, triangles, links = words_for(m, room_for(m, fresh, log) + 2)
     trials.base(m, spare(([], [], [], []), vertices + 5, triangles + 1, links, len(fresh[3]) + 7))
     trials.add(CULLING if m["culling"] else NAIVE, 0, outer=m["outer"])
-    assert are_left(fresh)
+    sure(are_left(fresh))
     trials.add(UPDATE, len(fresh[2]), log, goes_on=True)
-    assert are_left(updated)
+    sure(are_left(updated))
 
 if __name__ == "__main__":
     trials.write("rust_run", "rust answers")

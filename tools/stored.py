@@ -29,8 +29,6 @@ def folder():
 
 def keep(program, stdin, stdout=None):
     """Stores what a program reads, and what it must print where that is given."""
-    if not __debug__:
-        sys.exit("the makers' asserts add records, and hold them to document 01's figures: run them without -O")
     if len(stdin) > MOST_BYTES:
         sys.exit("%s would read %d bytes" % (program, len(stdin)))
     home = os.path.join(folder(), program)

@@ -10,6 +10,7 @@ import mesh_vectors
 from cube_vectors import types_answer
 from mesh_vectors import NONE, STEPS, call, faces, floats, mesh
 from stored import counted, keep, spoiled
+from sure import sure
 
 NAIVE, CULLING, UPDATE, CHECK, UPDATE_ITSELF = range(5)
 BROKEN, ADDED, CULL_FACES, ADD_FACES = range(4)
@@ -238,12 +239,12 @@ class Trials:
         """Keeps a scene and four lists, spare room and all."""
         parts = [m["grid"], m["kinds"], m["covers"], m["cubes"]] + list(lists)
         head = [0] + m["dims"] + [int(m["coloured"])] + m["d"] + m["centre"] + [len(part) for part in parts]
-        assert len(head) == HEAD and max(m["grid"] + m["kinds"] + m["covers"]) < 256
+        sure(len(head) == HEAD and max(m["grid"] + m["kinds"] + m["covers"]) < 256)
         self.kept = sum(parts, head)
         self.image = self.kept
         self.size = [len(part) for part in parts]
         self.start = {name: HEAD + sum(self.size[:i]) for i, name in enumerate(PARTS)}
-        assert len(self.kept) <= ROOM
+        sure(len(self.kept) <= ROOM)
         self.records.append(self.kept)
 
     def at(self, name, place=0):
@@ -256,11 +257,11 @@ class Trials:
     def add(self, call, count, log=b"", outer=(), before=(), goes_on=False, **lent):
         """Adds a trial; answers number, place, quads and moved. `before` has (place, word)s, `lent` lengths by the lists' names."""
         lent = [lent.get(name, n) for name, n in zip(PARTS, self.size)]
-        assert all(n <= most for n, most in zip(lent, self.size))
+        sure(all(n <= most for n, most in zip(lent, self.size)))
         old = self.image if goes_on else self.kept
         image = list(old)
         for place, word in before:
-            assert not HEAD - 8 <= place < HEAD
+            sure(not HEAD - 8 <= place < HEAD)
             image[place] = word
         grid, kinds, covering, cubes, *lists = self.lent_parts(image, lent)
         m = dict(dims=image[1:4], coloured=image[4] == 1, d=image[5:8], centre=image[8:11], grid=grid, kinds=kinds, covers=covering,
@@ -276,13 +277,13 @@ class Trials:
             lists = [new + was[len(new):] for new, was in zip(fresh, lists)]
         after = list(image)
         for name, n, words in zip(PARTS[4:], lent[4:], lists):
-            assert len(words) == n
+            sure(len(words) == n)
             after[self.start[name]:self.start[name] + n] = words
         given, expected = patches(old, image), patches(image, after)
         r = [1, call, int(goes_on), count] + lent + [len(outer), len(log)] + list(told) + [len(given)]
-        assert len(r) == HEAD
+        sure(len(r) == HEAD)
         r += packed(outer) + packed(log) + given + expected
-        assert len(r) <= ROOM and all(0 <= word <= NONE for word in r)
+        sure(len(r) <= ROOM and all(0 <= word <= NONE for word in r))
         self.records.append(r)
         self.image, self.told = after, told
         self.tried += 1
@@ -290,7 +291,7 @@ class Trials:
 
     def only_made(self, told, *what, **more):
         """A trial with this answer that is not kept."""
-        assert self.add(*what, **more) == told
+        sure(self.add(*what, **more) == told)
         self.tried -= 1
         return self.records.pop()
 
