@@ -18,8 +18,6 @@ ghost use Rattle.rules.specs.Mesh.{listsOf};
 ghost use Rattle.demands.specs.Chunks.{LogFor, gridAfter};
 ghost use Rattle.release.specs.Composed.{endsWith, makeEnding, mendPromise, mendEnding};
 
-pub mod by_position; // by_position.rt: each C call alone
-pub mod by_word; // by_word.rt: each call alone
 pub mod one_by_one; // one_by_one.rt: a call for each entry of a log
 
 // Meshes a grid by Culling and checks what was made for the same outer list: the check refuses nothing.
