@@ -15,7 +15,7 @@ from sure import sure
 NAIVE, CULLING, UPDATE, CHECK, UPDATE_ITSELF = range(5)
 BROKEN, ADDED, CULL_FACES, ADD_FACES = range(4)
 OUTSIDE = 255
-HEAD, ROOM = 19, 32768
+HEAD, ROOM = 19, 65536
 LENGTHS, TOLD = 11, 14  # where a base has the lengths of its lists, and a trial its answer
 PARTS = ("grid", "kinds", "covers", "cubes", "vertices", "triangles", "links", "slots")
 

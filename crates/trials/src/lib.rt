@@ -771,23 +771,23 @@ fn run(
     tally.count
 }
 
-// Zeros, of which only the number counts.
-fn bytes_of() -> [u8; 131072]
-    ensures { λ r. ⌜ 131072 ≡ length r ⌝ }
+// Zeros, of which only the number counts: the cubes of 255 types are 48,960 words.
+fn bytes_of() -> [u8; 262144]
+    ensures { λ r. ⌜ 262144 ≡ length r ⌝ }
 {
-    [0; 131072]
+    [0; 262144]
 }
 
-fn low_of() -> [u8; 32768]
-    ensures { λ r. ⌜ 32768 ≡ length r ⌝ }
+fn low_of() -> [u8; 65536]
+    ensures { λ r. ⌜ 65536 ≡ length r ⌝ }
 {
-    [0; 32768]
+    [0; 65536]
 }
 
-fn words_of() -> [u32; 32768]
-    ensures { λ r. ⌜ 32768 ≡ length r ⌝ }
+fn words_of() -> [u32; 65536]
+    ensures { λ r. ⌜ 65536 ≡ length r ⌝ }
 {
-    [0; 32768]
+    [0; 65536]
 }
 
 // Replays the trials on standard input, and prints under a name how many were right.
