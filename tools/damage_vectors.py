@@ -8,7 +8,7 @@ import random
 from collections import Counter
 
 from cube_vectors import INF, MAX, NAN, NEG, cube, f, shape
-from mesh_vectors import JUNK, UNIT, call, faces, floats, mesh
+from plain_mesh import JUNK, UNIT, call, faces, floats, mesh
 from sure import sure
 from trials import ADD_FACES, CHECK, CULL_FACES, CULLING, NAIVE, NONE, OUTSIDE, UPDATE, Trials, entry, spare
 

@@ -7,7 +7,8 @@ Run it at the repository's root; stored.py says where it writes.
 import random
 
 from cube_vectors import INF, NAN, cube, f, shape
-from mesh_vectors import JUNK, UNIT, call, faces, floats, mesh, some_types
+from mesh_vectors import some_types
+from plain_mesh import JUNK, UNIT, call, faces, floats, mesh
 from sure import sure
 from trials import (ADD_FACES, ADDED, BROKEN, CHECK, CULL_FACES, CULLING, NAIVE, NONE, OUTSIDE, UPDATE, UPDATE_ITSELF, Trials, beside, cell_count,
                     covers, entry, spare)

@@ -1,140 +1,49 @@
 #!/usr/bin/env python3
 """Writes what the program mesh_run reads and must print: crates/mesh_run/stdin and stdout.
 
-Every expected word is computed here, from document 01's sentences, with no code of the crates; cubes, float steps and the
-types' tests are those of cube_vectors.py. Run it at the repository's root; stored.py says where it writes.
+Each case is a fresh mesh, into lists full of other words, and where it is made the check of it. Every expected word comes from plain_mesh.py and
+trials.py, from document 01's sentences; how many quads there are, or why there are none, stands here, held by `sure`.
+Run it at the repository's root; stored.py says where it writes.
 """
 import random
-import struct
 
-from cube_vectors import INF, MAX, NAN, NEG, ONE, bits, cube, f, op, shape, types_answer
-from stored import counted, keep, spoiled
+from cube_vectors import INF, MAX, NAN, NEG, ONE, bits, cube, f, shape
+from plain_mesh import JUNK, NONE, PLENTY, UNIT, call, fit, mesh
 from sure import sure
+from trials import CHECK, CULLING, NAIVE, PARTS, Trials, spare
 
-NONE = 0xFFFFFFFF
-STEPS = [(0, 1, 0), (0, -1, 0), (1, 0, 0), (-1, 0, 0), (0, 0, 1), (0, 0, -1)]  # Top, Bottom, Right, Left, Back, Forward
-RECORD, REGISTRY, LENT = 32768, 73440, (32768, 4096, 4096, 8192)  # what the program has room for
-HEAD, NUMBER, LENGTHS = 30, 21, 26  # how many words come before a record's lists; where the answer starts, and the lengths of what is expected
+trials = Trials()
 
 
-def floats(m):
-    return 12 if m["coloured"] else 8
+def base(cells, types, cubes, *room):
+    """Keeps lists for so many cells and types, for cubes and for a mesh; each case patches its scene in."""
+    trials.base(call(grid=[0] * cells, kinds=[0] * types, covers=[0] * types, cubes=cubes), spare(([], [], [], []), *room))
 
 
-def cells(m):
-    """The cells in order, each with its coordinates."""
-    w, h, l = m["dims"]
-    return [(y * l * w + z * w + x, (x, y, z)) for y in range(h) for z in range(l) for x in range(w)]
-
-
-def is_drawn(m, at, face):
-    """Whether a side of a cell is drawn."""
-    w, h, l = m["dims"]
-
-    def code(x, y, z):
-        return m["grid"][y * l * w + z * w + x]
-
-    if m["kinds"][code(*at)] != 1:
-        return False
-    if not m["culling"]:
-        return True
-    x, y, z = (at[k] + STEPS[face][k] for k in range(3))
-    if 0 <= x < w and 0 <= y < h and 0 <= z < l:
-        return not m["covers"][code(x, y, z)] >> (face ^ 1) & 1
-    return face not in m["outer"]
-
-
-def faces(m):
-    return [(cell, at, face) for cell, at in cells(m) for face in range(6) if is_drawn(m, at, face)]
-
-
-def answer(m):
-    w, h, l = m["dims"]
-    if any(not 1 <= n <= 1024 for n in m["dims"]) or w * h * l > 1048576 or len(m["grid"]) != w * h * l:
-        return 2, 0
-    number, place = types_answer(m)
-    if number:
-        return number, place
-    for i, face in enumerate(m["outer"]):
-        if face > 5:
-            return 7, i
-    for cell, code in enumerate(m["grid"]):
-        if code >= len(m["kinds"]):
-            return 8, cell
-    vertices, triangles, links, slots = m["lent"]
-    if slots < 6 * w * h * l:
-        return 9, 0
-    room = min(vertices // (4 * floats(m)), triangles // 6, links)
-    return (14, 0) if len(faces(m)) > room else (0, 0)
-
-
-def check_answer(m):
-    """What the check says of the mesh: a naive one may have faces too many."""
-    extra = [6 * cell + face for cell, at, face in faces(m) if not is_drawn(dict(m, culling=True), at, face)]
-    return (15, extra[0]) if extra else (0, 0)
-
-
-def quad(m, code, at, face):
-    """The words of a quad's four vertices, drawn from a type's cube."""
-    n = floats(m)
-    words = []
-    for v in (4 * face, 4 * face + 1, 4 * face + 3, 4 * face + 2):
-        start = n * (24 * code + v)
-        vertex = m["cubes"][start:start + n]
-        words += [op("+", vertex[k], op("*", bits(float(at[k])), m["d"][k])) for k in range(3)] + vertex[3:]
+def scene_patches(m):
+    """What turns the base's scene and its first four lists into a call's."""
+    sure(max(m["grid"] + m["kinds"] + m["covers"] + [0]) < 256)
+    words = list(enumerate(m["dims"] + [int(m["coloured"])] + m["d"] + m["centre"], 1))
+    for name in PARTS[:4]:
+        words += enumerate(m[name], trials.at(name))
     return words
 
 
-def mesh(m):
-    """The words of vertices, triangles, links and slots."""
-    vertices, triangles, links, slots = [], [], [], [NONE] * (6 * len(m["grid"]))
-    for q, (cell, at, face) in enumerate(faces(m)):
-        vertices += quad(m, m["grid"][cell], at, face)
-        triangles += [4 * q + k for k in (0, 1, 2, 3, 2, 1)]
-        links.append(cell | 5 - face << 29)
-        slots[6 * cell + face] = 4 * q
-    return vertices, triangles, links, slots
-
-
-# ---- records: how many words follow, and these
-
-records = []
+def lengths(m):
+    """How much is lent of each list: all the room there is, where none is said."""
+    room = trials.size[4:] if m["lent"] == PLENTY else m["lent"]
+    return dict(zip(PARTS, [len(m[name]) for name in PARTS[:4]] + list(room)))
 
 
 def add(m):
-    """Adds a call to the records; answers number and place, or 0 and the quads."""
-    number, place = answer(m)
-    lists = mesh(m) if number == 0 else ([], [], [], [])
-    given = m["given"] if "given" in m else m["cubes"]
-    sure(m["cubes"] == [given[i % len(given)] for i in range(len(m["cubes"]))])
-    quads = len(lists[2])
-    r = m["dims"] + [int(m["coloured"])] + m["d"] + m["centre"] + [int(m["culling"])]
-    r += [len(x) for x in (m["outer"], m["grid"], m["kinds"], m["covers"], given)] + [len(m["cubes"])] + list(m["lent"])
-    r += [number, place, quads] + list(check_answer(m) if number == 0 else (0, 0)) + [len(x) for x in lists]
-    sure(len(r) == HEAD and max(m["outer"] + m["grid"] + m["kinds"] + m["covers"] + [0]) < 256)
-    r += m["outer"] + m["grid"] + m["kinds"] + m["covers"] + given + sum(lists, [])
-    sure(len(r) <= RECORD and len(m["cubes"]) <= REGISTRY and all(n <= most for n, most in zip(m["lent"], LENT)))
-    records.append([len(r)] + r)
-    return (number, place) if number else (0, quads)
-
-
-def fit(m, quads, slots=None):
-    """The lent lengths that exactly so many quads fill."""
-    return [4 * floats(m) * quads, 6 * quads, quads, 6 * len(m["grid"]) if slots is None else slots]
-
-
-UNIT = cube(shape())
-JUNK = [NAN, 0xA5A5A5A5, INF] * 64  # floats of other kinds are ignored
-
-
-def call(**more):
-    """Document 01's types with a grid; as much room as it fills, unless said."""
-    m = dict(dims=[len(more.get("grid", [1])), 1, 1], coloured=False, d=[ONE] * 3, centre=[0] * 3, culling=True, outer=[], grid=[1],
-             kinds=[0, 1], covers=[0, 63], cubes=JUNK + UNIT, lent=LENT)
-    m.update(more)
-    if "lent" not in more and answer(m)[0] == 0:
-        m["lent"] = fit(m, len(faces(m)))
-    return m
+    """Adds a mesh and, if it is made, its check; answers number and place, or 0 and the quads."""
+    more = dict(lengths(m), outer=m["outer"])
+    number, place, quads, _ = trials.add(CULLING if m["culling"] else NAIVE, 0, before=scene_patches(m), **more)
+    if number:
+        return number, place
+    checked = trials.add(CHECK, quads, goes_on=True, **more)
+    sure(checked[0] in ((0,) if m["culling"] else (0, 15)))  # a naive mesh may have faces too many
+    return 0, quads
 
 
 def longer(m, *by):
@@ -142,6 +51,7 @@ def longer(m, *by):
 
 
 # ---- the meshes worked by hand
+base(1025, 3, [0] * 576, 1750, 330, 60, 6150)
 PAIR = call(grid=[1, 1])
 sure(add(call()) == (0, 6))
 sure(add(PAIR) == (0, 10))
@@ -164,8 +74,8 @@ for by in ((31, 5, 0, 0), (1, 0, 0, 0), (0, 1, 0, 0), (0, 0, 1, 1), (32, 6, 1, 6
 TINTED = call(grid=[1, 1], coloured=True, cubes=cube(shape(coloured=True, colour=ONE, alpha=bits(0.5))) * 2)
 sure(add(TINTED) == (0, 10) and add(longer(TINTED, -1, 0, 0, 0)) == (14, 0) and add(longer(TINTED, 47, 5, 2, 7)) == (0, 10))
 sure(add(dict(TINTED, lent=[320, 60, 10, 12])) == (14, 0))  # enough without colour
-for spare in (0, 5):
-    sure(add(call(grid=[0, 0, 0], lent=[0, 0, 0, 18 + spare])) == (0, 0))
+for more in (0, 5):
+    sure(add(call(grid=[0, 0, 0], lent=[0, 0, 0, 18 + more])) == (0, 0))
 sure(add(call(lent=[0, 0, 0, 6])) == (14, 0))
 
 # ---- sizes
@@ -196,29 +106,6 @@ sure(add(call(outer=[0, 1, 2], culling=False, **BOX)) == (0, 48))
 sure(add(call(outer=[6])) == (7, 0) and add(call(outer=[5, 0, 255, 6])) == (7, 2))
 sure(add(call(outer=[0, 1, 2, 3, 4, 5, 6])) == (7, 6) and add(call(outer=[1, 1, 8], culling=False)) == (7, 2))
 
-# ---- 255 types, the registry's floats seven cubes over and over
-TILES = [cube(shape(atlas=[8, 8], texture=[w for k in range(6) for w in (k, t, k)])) for t in range(7)]
-GIVEN = sum(TILES, [])
-
-
-def many(count, **more):
-    return call(kinds=[i % 3 for i in range(count)], covers=[63 * (i % 2) for i in range(count)], given=GIVEN,
-                cubes=(GIVEN * 37)[:192 * count], **more)
-
-
-sure((254 % 3, 253 % 3) == (2, 1))
-SWAPPED = many(255, dims=[2, 1, 2], grid=[254, 253, 253, 254])
-SWAPPED["kinds"][254] = 1
-SWAPPED["lent"] = fit(SWAPPED, 20, 30)
-sure(add(SWAPPED) == (0, 20) and add(dict(SWAPPED, culling=False)) == (14, 0))
-sure(add(dict(SWAPPED, culling=False, lent=fit(SWAPPED, 24))) == (0, 24))
-sure(mesh(SWAPPED)[0][6:8] == TILES[254 % 7][6:8] != TILES[253 % 7][6:8])
-sure(add(many(255, grid=[254])) == (0, 0) and add(many(255, grid=[253, 254, 252])) == (0, 6))
-sure(add(many(255, grid=[254, 255])) == (8, 1) and add(many(254, grid=[253, 254])) == (8, 1))
-sure(add(many(256)) == (3, 255))
-LAST = many(255)
-sure(add(dict(LAST, kinds=LAST["kinds"][:254] + [3])) == (3, 254) and add(dict(LAST, covers=LAST["covers"][:254] + [64])) == (3, 254))
-
 # ---- refusals, each and each two of them in one call
 BENT = UNIT[:1] + UNIT[:1] + UNIT[2:]  # one corner of Top is elsewhere
 FAULTS = [
@@ -242,8 +129,6 @@ for i, (number, place, part) in enumerate(FAULTS):
 for more, place in ((dict(kinds=[], covers=[], cubes=[]), 255), (dict(covers=[0]), 255), (dict(cubes=JUNK + UNIT[1:]), 255),
                     (dict(cubes=JUNK + UNIT + [0]), 255), (dict(coloured=True), 255), (dict(kinds=[3, 1], covers=[0]), 255),
                     (dict(kinds=[3, 1], covers=[64, 255]), 0), (dict(kinds=[2, 255]), 1)):
-    if more.get("cubes") == []:
-        more["given"] = [0]
     sure(add(call(**more)) == (3, place))
 for k in range(3):
     for bad in (INF, NEG | INF, NAN, NONE):
@@ -262,6 +147,29 @@ VAST = call(grid=[1, 1, 1], d=[MAX] * 3)
 sure(add(VAST) == (0, 14) and INF in mesh(VAST)[0])
 sure(add(call(dims=[2, 2, 2], grid=[1] * 8, d=[NEG | MAX, NEG, 1])) == (0, 24))
 sure(add(call(grid=[1, 1], d=[0] * 3)) == (0, 10))
+
+# ---- 255 types, the registry's floats seven cubes over and over
+TILES = [cube(shape(atlas=[8, 8], texture=[w for k in range(6) for w in (k, t, k)])) for t in range(7)]
+CUBES = (sum(TILES, []) * 37)[:192 * 256]
+base(4, 256, CUBES, 780, 150, 25, 32)
+
+
+def many(count, **more):
+    return call(kinds=[i % 3 for i in range(count)], covers=[63 * (i % 2) for i in range(count)], cubes=CUBES[:192 * count], **more)
+
+
+sure((254 % 3, 253 % 3) == (2, 1))
+SWAPPED = many(255, dims=[2, 1, 2], grid=[254, 253, 253, 254])
+SWAPPED["kinds"][254] = 1
+SWAPPED["lent"] = fit(SWAPPED, 20, 30)
+sure(add(SWAPPED) == (0, 20) and add(dict(SWAPPED, culling=False)) == (14, 0))
+sure(add(dict(SWAPPED, culling=False, lent=fit(SWAPPED, 24))) == (0, 24))
+sure(mesh(SWAPPED)[0][6:8] == TILES[254 % 7][6:8] != TILES[253 % 7][6:8])
+sure(add(many(255, grid=[254])) == (0, 0) and add(many(255, grid=[253, 254, 252])) == (0, 6))
+sure(add(many(255, grid=[254, 255])) == (8, 1) and add(many(254, grid=[253, 254])) == (8, 1))
+sure(add(many(256)) == (3, 255))
+LAST = many(255)
+sure(add(dict(LAST, kinds=LAST["kinds"][:254] + [3])) == (3, 254) and add(dict(LAST, covers=LAST["covers"][:254] + [64])) == (3, 254))
 
 # ---- grids at random, seven types of four cubes
 rng = random.Random(2)
@@ -284,9 +192,10 @@ def some_types(coloured):
     rng.shuffle(kinds)
     covers = [rng.choice((0, 63, rng.randint(0, 63), rng.randint(0, 63))) for _ in kinds]
     cubes = (given * 2)[:7 * len(given) // 4]
-    return dict(d=d, centre=centre, given=given, cubes=cubes, kinds=kinds, covers=covers, coloured=coloured)
+    return dict(d=d, centre=centre, cubes=cubes, kinds=kinds, covers=covers, coloured=coloured)
 
 
+base(64, 7, [0] * 2016, 4320, 860, 200, 450)
 for turn in range(32):
     dims = [4, 4, 4] if turn in (6, 17) else [rng.choice((1, 1, 2, 2, 3, 4)) for _ in range(3)]
     m = call(dims=dims, grid=[rng.randint(0, 6) for _ in range(dims[0] * dims[1] * dims[2])],
@@ -296,45 +205,5 @@ for turn in range(32):
     if quads and turn % 11 == 0:
         sure(add(dict(m, lent=fit(m, quads - 1))) == (14, 0))
 
-
-
-# ---- wrong on purpose, each in one thing: a comparison that is left out counts one of them right
-
-
-def last():
-    """The words of the last record, taken back."""
-    return records.pop()[1:]
-
-
-def expecting(words, k, more=(), less=0):
-    """The record with more words expected at the end of one of the four lists, or less of them."""
-    end = len(words) - sum(words[LENGTHS + k + 1:HEAD])
-    words = words[:end - less] + list(more) + words[end:]
-    words[LENGTHS + k] += len(more) - less
-    return words
-
-
-def wrong_meshes():
-    sure(add(longer(call(grid=[0], kinds=[1], covers=[63], cubes=UNIT, outer=[2], culling=False), 5, 5, 5, 5)) == (0, 6))
-    naive = last()
-    sure(naive[NUMBER:LENGTHS] == [0, 0, 6, 15, 2])
-    out = [spoiled(naive, at) for at in range(NUMBER, LENGTHS)]
-    starts = [len(naive) - sum(naive[LENGTHS + k:HEAD]) for k in range(5)]
-    for k in range(4):
-        out += [spoiled(naive, starts[k]), spoiled(naive, starts[k + 1] - 1)]
-        out += [expecting(naive, k, more=[0]), expecting(naive, k, less=1)]  # what lies past the words is as it was
-    # The program's room for triangles is full of the word that it empties it with, and one more is expected.
-    out.append(expecting(naive, 1, more=[0xA5A5A5A5] * (LENT[1] + 1 - naive[LENGTHS + 1])))
-    sure(add(call(grid=[1, 0, 2])) == (8, 2))
-    refused = last()
-    return out + [spoiled(refused, NUMBER), spoiled(refused, NUMBER + 1), naive[:HEAD - 1]]
-
-
 if __name__ == "__main__":
-    right = len(records)
-    purposely_wrong = wrong_meshes()
-    records += [[len(r)] + r for r in purposely_wrong]
-    data = b"".join(struct.pack("<%dI" % len(r), *r) for r in records)
-    told = counted("meshes", right, len(purposely_wrong))
-    keep("mesh_run", data, told)
-    print(len(data), "bytes; at most", max(map(len, records)), "words a record;", told, end="")
+    trials.write("mesh_run", "meshes")

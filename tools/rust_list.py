@@ -56,7 +56,7 @@ def mesh(r, m):
 
 
 def grid(r, types):
-    """What the Rust was given, as mesh_vectors.py has it, and the log; the mesh after meshing, and after the log."""
+    """What the Rust was given, as plain_mesh.py has it, and the log; the mesh after meshing, and after the log."""
     m = dict(types, dims=r.many(3), culling=r.one() == 1)
     outer, cells, entries = r.many(3)
     m.update(outer=list(r.bytes(outer)), grid=list(r.bytes(cells)))

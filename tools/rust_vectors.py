@@ -10,7 +10,7 @@ document 01's alone: the answer's number and place, which are 0; `moved`; the pl
 it was.
 Run it at the repository's root; stored.py says where it writes.
 """
-from mesh_vectors import floats
+from plain_mesh import floats
 from rust_list import answers
 from sure import sure
 from trials import CULLING, NAIVE, PARTS, UPDATE, Trials, spare, update

@@ -1,21 +1,21 @@
 """Document 01's update, in both modes of document 02's Q-2, and check in plain Python, and the records that crates/trials reads.
 
 A mesh is four lists of words. An update takes them for a list of quads (cell, face, words), works on that as 01's sentences say, and lays it
-out again. No code of the crates is used; cubes, fresh meshing and the types' tests are those of cube_vectors.py and mesh_vectors.py.
+out again. No code of the crates is used; cubes, fresh meshing and the types' tests are those of cube_vectors.py and plain_mesh.py.
 The record format stands at the head of crates/trials/src/lib.rt.
 """
 import struct
 
-import mesh_vectors
+import plain_mesh
 from cube_vectors import types_answer
-from mesh_vectors import NONE, STEPS, call, faces, floats, mesh
+from plain_mesh import NONE, PLENTY, STEPS, call, faces, floats, mesh
 from stored import counted, keep, spoiled
 from sure import sure
 
 NAIVE, CULLING, UPDATE, CHECK, UPDATE_ITSELF = range(5)
 BROKEN, ADDED, CULL_FACES, ADD_FACES = range(4)
 OUTSIDE = 255
-HEAD, ROOM = 19, 32768
+HEAD, ROOM = 19, 65536
 LENGTHS, TOLD = 11, 14  # where a base has the lengths of its lists, and a trial its answer
 PARTS = ("grid", "kinds", "covers", "cubes", "vertices", "triangles", "links", "slots")
 
@@ -29,7 +29,7 @@ def quad(m, code, cell, face):
     n = 24 * floats(m)
     key = (m["coloured"], at, face, tuple(m["d"]), tuple(m["cubes"][n * code:n * code + n]))
     if key not in known:
-        known[key] = mesh_vectors.quad(m, code, at, face)
+        known[key] = plain_mesh.quad(m, code, at, face)
     return known[key]
 
 
@@ -86,8 +86,8 @@ def book_answer(m, lists, count):
 
 def check(m, lists, count):
     """Number and place."""
-    plenty = [1 << 40] * 3 + [len(lists[3])]
-    for answer in (mesh_vectors.answer(dict(m, lent=plenty)), book_answer(m, lists, count)):
+    plenty = PLENTY[:3] + (len(lists[3]),)
+    for answer in (plain_mesh.answer(dict(m, lent=plenty)), book_answer(m, lists, count)):
         if answer[0]:
             return answer
     drawn = {6 * cell + face for cell, _, face in faces(m)}
@@ -271,7 +271,7 @@ class Trials:
         elif call == CHECK:
             told = check(m, lists, count) + (0, 0)
         else:
-            number, place = mesh_vectors.answer(m)
+            number, place = plain_mesh.answer(m)
             fresh = mesh(m) if number == 0 else ([], [], [], [])
             told = number, place, len(fresh[2]), 0
             lists = [new + was[len(new):] for new, was in zip(fresh, lists)]

@@ -77,11 +77,11 @@ struct Starts {
 }
 
 // What a call answers, with 0 for what it does not say.
-pub struct Told {
-    pub number: u32,
-    pub place: usize,
-    pub quads: usize,
-    pub moved: u64,
+struct Told {
+    number: u32,
+    place: usize,
+    quads: usize,
+    moved: u64,
 }
 
 struct Tally {
@@ -148,7 +148,7 @@ fn triple_at(r: &[u32], at: usize) -> Triple
 }
 
 // Dimensions, whether coloured, d and centre, from a place on.
-pub fn scene_at(r: &[u32], at: usize) -> Scene
+fn scene_at(r: &[u32], at: usize) -> Scene
     requires { ⌜ at + 10 ≤ length (now r) ⌝ }
 {
     Scene {
@@ -163,7 +163,7 @@ pub fn scene_at(r: &[u32], at: usize) -> Scene
     }
 }
 
-pub fn algorithm_of(word: u32) -> MeshingAlgorithm {
+fn algorithm_of(word: u32) -> MeshingAlgorithm {
     if word == 1 {
         MeshingAlgorithm::Culling
     } else {
@@ -180,7 +180,7 @@ fn refused(number: u32, place: usize) -> Told {
     }
 }
 
-pub fn told_by_mesh(answer: Meshed) -> Told {
+fn told_by_mesh(answer: Meshed) -> Told {
     match answer {
         Meshed::Done(quads) => Told {
             number: 0,
@@ -209,7 +209,7 @@ fn told_by_update(answer: Updated) -> Told {
     }
 }
 
-pub fn told_by_check(verdict: Verdict) -> Told {
+fn told_by_check(verdict: Verdict) -> Told {
     match verdict {
         Verdict::Fine => refused(0, 0),
         Verdict::Refuse(why, place) => refused(why.number(), place),
@@ -771,23 +771,23 @@ fn run(
     tally.count
 }
 
-// Zeros, of which only the number counts.
-fn bytes_of() -> [u8; 131072]
-    ensures { λ r. ⌜ 131072 ≡ length r ⌝ }
+// Zeros, of which only the number counts: the cubes of 255 types are 48,960 words.
+fn bytes_of() -> [u8; 262144]
+    ensures { λ r. ⌜ 262144 ≡ length r ⌝ }
 {
-    [0; 131072]
+    [0; 262144]
 }
 
-fn low_of() -> [u8; 32768]
-    ensures { λ r. ⌜ 32768 ≡ length r ⌝ }
+fn low_of() -> [u8; 65536]
+    ensures { λ r. ⌜ 65536 ≡ length r ⌝ }
 {
-    [0; 32768]
+    [0; 65536]
 }
 
-fn words_of() -> [u32; 32768]
-    ensures { λ r. ⌜ 32768 ≡ length r ⌝ }
+fn words_of() -> [u32; 65536]
+    ensures { λ r. ⌜ 65536 ≡ length r ⌝ }
 {
-    [0; 32768]
+    [0; 65536]
 }
 
 // Replays the trials on standard input, and prints under a name how many were right.
