@@ -1,13 +1,18 @@
-//! With the feature `library`, links libexports.a from the folder MESHEM_LIB.
+//! Links libexports.a from the folder MESHEM_LIB with the feature `library`, libplaced.a from MESHEM_PLACED with `beside`.
 
 use std::env;
 
 fn main() {
     println!("cargo:rerun-if-changed=build.rs");
-    println!("cargo:rerun-if-env-changed=MESHEM_LIB");
-    if env::var_os("CARGO_FEATURE_LIBRARY").is_some() {
-        let folder = env::var("MESHEM_LIB").expect("the feature `library` needs MESHEM_LIB, the folder of libexports.a");
+    link("library", "MESHEM_LIB", "libexports.a");
+    link("beside", "MESHEM_PLACED", "libplaced.a");
+}
+
+fn link(feature: &str, variable: &str, archive: &str) {
+    println!("cargo:rerun-if-env-changed={variable}");
+    if env::var_os(format!("CARGO_FEATURE_{}", feature.to_uppercase())).is_some() {
+        let folder = env::var(variable).unwrap_or_else(|_| panic!("`{feature}` needs {variable}, the folder of {archive}"));
         println!("cargo:rustc-link-search=native={folder}");
-        println!("cargo:rerun-if-changed={folder}/libexports.a");
+        println!("cargo:rerun-if-changed={folder}/{archive}");
     }
 }

@@ -4,7 +4,9 @@ pub mod calls;
 pub mod cases;
 pub mod compare;
 pub mod faults;
+pub mod grounds;
 #[cfg(feature = "library")]
 pub mod library;
 pub mod room;
 pub mod rust;
+pub mod timing;

@@ -8,9 +8,11 @@
 //! the two answers are compared word for word. The last table holds the figures to their goals.
 
 use oracle::calls::Calls;
-use oracle::cases::{beside, coordinates, cube_of, entry, Case, Random};
-use oracle::library::{assert_level, Library};
-use oracle::rust::{self, cube, floats, Registry, Types, Words, ENTRY};
+use oracle::cases::{cube_of, Case, Random};
+use oracle::grounds::{edits, half_full, terrain, ROCK};
+use oracle::library::Library;
+use oracle::rust::{self, cube, floats, Registry, Words, ENTRY};
+use oracle::timing::{median, time, timed};
 use plain::Tested;
 use std::hint::black_box;
 use std::time::{Duration, Instant};
@@ -20,7 +22,7 @@ const MOST_ROUNDS: usize = 201;
 const RUNS: usize = 4;
 
 fn main() {
-    assert_level();
+    Library::assert_level();
     let mut arguments = std::env::args().skip(1).map(|argument| argument.parse().expect("a number"));
     let (seconds, seed) = (arguments.next().unwrap_or(110), arguments.next().unwrap_or(1));
     let bench = Bench { share: Duration::from_secs(seconds) / ROWS };
@@ -66,14 +68,6 @@ impl Row {
             self.library / self.plain,
             self.rounds
         );
-    }
-}
-
-fn time(seconds: f64) -> String {
-    match seconds {
-        s if s < 1e-6 => format!("{:.0} ns", s * 1e9),
-        s if s < 1e-3 => format!("{:.1} µs", s * 1e6),
-        s => format!("{:.2} ms", s * 1e3),
     }
 }
 
@@ -136,7 +130,7 @@ fn rows(bench: &Bench, random: &mut Random) -> Vec<Row> {
     rows.push(bench.fresh("fresh, 128×128×64 terrain".into(), &terrain(random, [128, 128, 64])));
 
     let ground = terrain(random, [32; 3]);
-    let [some, many] = [200, 5_000].map(|entries| Case { log: edits(random, &ground, entries), ..ground.clone() });
+    let [some, many] = [200, 5_000].map(|entries| Case { log: edits(random, &ground, &[ROCK], entries), ..ground.clone() });
     for (name, case) in [("200 edits", &some), ("5,000 edits", &many)] {
         rows.push(bench.update(format!("{name} in one log"), case, case.log.len()));
         rows.push(bench.update(format!("{name}, one a call (each)"), case, ENTRY));
@@ -262,20 +256,6 @@ impl Bench {
     }
 }
 
-/// How long the work takes; what it makes is dropped after the clock has stopped.
-fn timed<T>(work: impl FnOnce() -> T) -> Duration {
-    let start = Instant::now();
-    let made = black_box(work());
-    let time = start.elapsed();
-    drop(made);
-    time
-}
-
-fn median(mut times: Vec<f64>) -> f64 {
-    times.sort_by(f64::total_cmp);
-    times[times.len() / 2]
-}
-
 fn rust_mesh(case: &Case, registry: &Registry) -> rust::Meshed {
     rust::mesh(case.dims, &case.outer, &case.grid, registry, case.naive)
 }
@@ -312,64 +292,4 @@ fn set(lists: &mut Words) {
 fn sum(mesh: &Words) -> u32 {
     let total = |list: &Vec<u32>| black_box(list).iter().fold(0, |sum: u32, &word| sum.wrapping_add(word));
     [&mesh.vertices, &mesh.triangles, &mesh.links, &mesh.slots].map(total).iter().fold(0, |sum, &part| sum.wrapping_add(part))
-}
-
-/// Air, and three kinds of ground that cover all sides.
-fn ground_types() -> Types {
-    let cubes = (0..4).flat_map(|tile| cube(&cube_of(1.0, tile))).collect();
-    Types {
-        kinds: vec![0, 1, 1, 1],
-        covers: vec![0, 63, 63, 63],
-        cubes,
-        coloured: false,
-        d: [1.0f32.to_bits(); 3],
-        centre: [0; 3],
-    }
-}
-
-/// Rolling ground between a quarter and three quarters of the height: heights drawn at every eighth column, joined by straight
-/// lines; rock, two cells of soil, one of turf.
-fn terrain(random: &mut Random, dims: [u32; 3]) -> Case {
-    const STEP: u32 = 8;
-    let [width, height, length] = dims;
-    let posts = width / STEP + 2;
-    let drawn: Vec<u32> = (0..posts * (length / STEP + 2)).map(|_| random.below(1 + height as usize / 2) as u32).collect();
-    let top = |x: u32, z: u32| {
-        let (post, (across, along)) = (z / STEP * posts + x / STEP, (x % STEP, z % STEP));
-        let at = |step: u32| drawn[(post + step) as usize];
-        let near = at(0) * (STEP - across) + at(1) * across;
-        let far = at(posts) * (STEP - across) + at(posts + 1) * across;
-        height / 4 + (near * (STEP - along) + far * along) / (STEP * STEP)
-    };
-    let voxel = |cell: usize| {
-        let [x, y, z] = coordinates(dims, cell);
-        match top(x, z) as i64 - y as i64 {
-            i64::MIN..=-1 => 0,
-            0 => 3,
-            1 | 2 => 2,
-            _ => 1,
-        }
-    };
-    let grid = (0..(width * height * length) as usize).map(voxel).collect();
-    Case { dims, grid, types: ground_types(), ..Case::default() }
-}
-
-/// Air or rock in each cell, as a coin falls.
-fn half_full(random: &mut Random, dims: [u32; 3]) -> Case {
-    let grid = random.bytes(dims.iter().product::<u32>() as usize, 2);
-    Case { dims, grid, types: ground_types(), ..Case::default() }
-}
-
-/// An honest log on cells drawn from the whole grid: ground is dug, air is filled with rock.
-fn edits(random: &mut Random, case: &Case, entries: usize) -> Vec<u8> {
-    let mut grid = case.grid.clone();
-    let mut log = vec![];
-    for _ in 0..entries {
-        let cell = random.below(grid.len());
-        let neighbours = beside(case.dims, cell, &grid);
-        let (change, voxel, after) = if grid[cell] == 0 { (1, 1, 1) } else { (0, grid[cell], 0) };
-        grid[cell] = after;
-        log.extend(entry(cell, change, voxel, &neighbours));
-    }
-    log
 }

@@ -12,7 +12,7 @@
 use oracle::cases::{simpler, simpler_to_mend, Added, Case, Random};
 use oracle::compare::{Compared, Comparison, Tally, Updates, MODES};
 use oracle::faults::{limits, Faulty};
-use oracle::library::{assert_level, Library};
+use oracle::library::Library;
 use oracle::rust::ENTRY;
 use std::panic::{catch_unwind, AssertUnwindSafe};
 use std::time::Instant;
@@ -24,7 +24,7 @@ const LARGE: [[u32; 3]; 7] =
     [[1024, 1, 1], [1, 1024, 1], [1, 1, 1024], [32, 32, 32], [16, 256, 16], [1024, 32, 32], [32, 1024, 32]];
 
 fn main() {
-    assert_level();
+    Library::assert_level();
     let mut arguments = std::env::args().skip(1).map(|argument| argument.parse().expect("a number"));
     let (cases, seed) = (arguments.next().unwrap_or(40_000), arguments.next().unwrap_or(1));
     let start = Instant::now();

@@ -6,13 +6,13 @@
 
 use oracle::calls::{Answer, Calls};
 use oracle::cases::Case;
-use oracle::library::{assert_level, Library};
+use oracle::library::Library;
 use oracle::rust::{floats, CubeParameters, Types, Words, ENTRY};
 
 const SPARE: u32 = 0xA5A5_A5A5;
 
 fn main() {
-    assert_level();
+    Library::assert_level();
     let path = std::env::args().nth(1).expect("usage: replay FILE");
     let bytes = std::fs::read(path).expect("the file to read");
     assert_eq!(bytes.len() % 4, 0, "whole words");
