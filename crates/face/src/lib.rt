@@ -1,6 +1,7 @@
 // Cells, quads and vertices, the six faces, the link word of a cell and a face, and side sets.
 ghost use mathlib.Core.Path.{_≡_};
-ghost use Prim.Native.Nat.{_*_, _/_, _^_, _≤_, _<_};
+ghost use mathlib.Core.Bool.{cond};
+ghost use Prim.Native.Nat.{_+_, _*_, _/_, _^_, _≤_, _<_};
 ghost use Rattle.rules.specs.Cells.{UNIT, opposite, code, linkWord, cellIn, codeIn, keyOf, keyIn, firstVertex, has, quadsOf, rank};
 ghost use Rattle.face.specs.Face.{number, faceAt, faceOfCode, faceOfWord};
 
@@ -185,6 +186,25 @@ pub fn has(set: u8, face: Face) -> bool
     ensures { λ r. ⌜ r ≡ has set (number face) ⌝ }
 {
     (set >> face.number()) % 2 == 1
+}
+
+// A side's bit in a set, or none.
+pub fn bit_if(on: bool, weight: u8) -> u8
+    ensures { λ r. ⌜ (r ≡ cond on weight 0) × (r ≤ weight) ⌝ }
+{
+    weight * (on as u8)
+}
+
+// The set of those sides that are told true.
+pub fn side_set(top: bool, bottom: bool, right: bool, left: bool, back: bool, forward: bool) -> u8
+    ensures { λ r. ⌜ r ≡ cond top 1 0 + cond bottom 2 0 + cond right 4 0 + cond left 8 0 + cond back 16 0 + cond forward 32 0 ⌝ }
+{
+    bit_if(top, 1)
+        + bit_if(bottom, 2)
+        + bit_if(right, 4)
+        + bit_if(left, 8)
+        + bit_if(back, 16)
+        + bit_if(forward, 32)
 }
 
 // As many quads as the set has ones.

@@ -16,12 +16,6 @@ use Rattle.vav.specs.Rows.{sourceOf}
 use Rattle.vav.proofs.Laws.{replicate-more}
 use Rattle.mesh_metadata.specs.Index.{vertexOf, shifted, renum, Linked}
 
--- a word of a list does not depend on what stands for none
-pub getD-any : (xs : List ℕ) (k d e : ℕ) → k < length xs → getD xs k d ≡ getD xs k e
-getD-any [] k d e h = absurd (omega arith)
-getD-any (x ∷ xs) zero d e h = refl
-getD-any (x ∷ xs) (suc k) d e h = getD-any xs k d e (omega arith)
-
 -- ---- one more slot is filled
 pub fill-more : (i v : ℕ) (xs : List ℕ) → i < length xs → set (replicate i v ++ drop i xs) i v ≡ replicate (i + 1) v ++ drop (i + 1) xs
 fill-more i v xs h =

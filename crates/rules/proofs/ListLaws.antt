@@ -37,6 +37,12 @@ pub or-false : (a b : Bool) → (a || b) ≡ false → (a ≡ false) × (b ≡ f
 or-false true b e = absurd (true≢false e)
 or-false false b e = (refl, e)
 
+-- what is read within a list is no default
+pub within : (xs : List ℕ) (k d e : ℕ) → k < length xs → getD xs k d ≡ getD xs k e
+within [] k d e h = absurd (omega arith)
+within (x ∷ xs) zero d e h = refl
+within (x ∷ xs) (suc k) d e h = within xs k d e (omega arith)
+
 -- ---- each: pieces that are the same, and a reading of a list that takes one list after the other piece by piece
 pub each-same {ℓ} : {A : Type ℓ} (n i : ℕ) (p q : ℕ → List A) → ((k : ℕ) → i ≤ k → k < i + n → p k ≡ q k) → each n i p ≡ each n i q
 unfolding each

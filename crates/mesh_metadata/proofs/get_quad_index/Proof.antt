@@ -3,7 +3,8 @@ use lib.ListN.{getD}
 use Rattle.rules.specs.Cells.{keyOf}
 use Rattle.rules.specs.Mesh.{NONE}
 use Rattle.face.specs.Face.{number}
-use Rattle.mesh_metadata.proofs.Slots.{getD-any, vertex-none, vertex-some}
+use Rattle.rules.proofs.ListLaws.{within}
+use Rattle.mesh_metadata.proofs.Slots.{vertex-none, vertex-some}
 use borrow.Author.Needs.{needs}
 use Rattle.mesh_metadata.proofs.get_quad_index.Statement.{statement}
 use Rattle.mesh_metadata.proofs.get_quad_index.Tie as tie
@@ -24,14 +25,14 @@ returns : tie.Need-returns
 returns c =
     let t = c .before .before .before .before .before in
     let key = keyOf (t .args .cell .0) (number (t .args .face)) in
-    vertex-none (getD (t .args .slots .now) key NONE) (cc (c .if1 .taken, getD-any (t .args .slots .now) key NONE 0 (t .pre .1)))
+    vertex-none (getD (t .args .slots .now) key NONE) (cc (c .if1 .taken, within (t .args .slots .now) key NONE 0 (t .pre .1)))
 
 returns-2 : tie.Need-returns-2
 returns-2 c =
     let t = c .before .before .before .before .before in
     let key = keyOf (t .args .cell .0) (number (t .args .face)) in
     let e : getD (t .args .slots .now) (c .before .before .wide .result) 0 ≡ getD (t .args .slots .now) key NONE =
-    cc (getD-any (t .args .slots .now) key NONE 0 (t .pre .1)) in
+    cc (within (t .args .slots .now) key NONE 0 (t .pre .1)) in
     vertex-some (getD (t .args .slots .now) key NONE) (getD (t .args .slots .now) (c .before .before .wide .result) 0)
     (rw e at (c .if1 .left)) e
 
