@@ -3,6 +3,7 @@ use answers::Refusal;
 use answers::Verdict;
 use floats::Triple;
 use floats::is_finite_bits;
+use voxel_mesh::corner_of;
 use voxel_mesh::floats_of;
 ghost use mathlib.Core.Path.{_≡_};
 ghost use mathlib.Core.Bool.{Bool};
@@ -120,9 +121,22 @@ fn is_classed(cube: &[u32], floats: usize, centre: Triple, face: usize) -> bool
     requires { ⌜ face < 6 ⌝ }
     ensures { λ r. ⌜ r ≡ classed (now (cube .entry)) floats (tripleOf centre) face ⌝ }
 {
-    let at = 4 * face;
-    let first = class_of(cube, floats, centre, at, at + 1, at + 3);
-    let second = class_of(cube, floats, centre, at + 2, at + 3, at + 1);
+    let first = class_of(
+        cube,
+        floats,
+        centre,
+        corner_of(face, 0),
+        corner_of(face, 1),
+        corner_of(face, 2),
+    );
+    let second = class_of(
+        cube,
+        floats,
+        centre,
+        corner_of(face, 3),
+        corner_of(face, 4),
+        corner_of(face, 5),
+    );
     (first == face) & (second == face)
 }
 

@@ -48,7 +48,7 @@ const END: [u32; 2] = [0x969696, 0x3c3c3c];
 const AXES: [usize; 6] = [1, 1, 0, 0, 2, 2];
 
 // The triangles of the cube's faces.
-const TRIANGLES: [u32; 36] = [
+const TRIANGLES: [usize; 36] = [
     0,
     1,
     3,
@@ -87,10 +87,12 @@ const TRIANGLES: [u32; 36] = [
     21,
 ];
 
-pub fn cube_triangles() -> [u32; 36]
-    ensures { λ r. ⌜ r ≡ cubeTriangles ⌝ }
+// Corner i of a face's two triangles, three a triangle.
+pub fn corner_of(face: usize, i: usize) -> usize
+    requires { ⌜ (face < 6) × (i < 6) ⌝ }
+    ensures { λ r. ⌜ (r ≡ getD cubeTriangles (6 * face + i) 0) × (r < 24) ⌝ }
 {
-    TRIANGLES
+    TRIANGLES[6 * face + i]
 }
 
 // The words of a vertex.
