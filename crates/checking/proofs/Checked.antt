@@ -16,19 +16,18 @@ use Rattle.rules.specs.Answers.{fine, _then_, refuseIf, BAD-COUNT, wrongFace, W
 use Rattle.rules.specs.Check.{linked}
 use Rattle.rules.specs.Calls as rules
 use Rattle.rules.specs.Calls.{world, span, room, openVerdict, bookVerdict}
-use Rattle.rules.proofs.ListLaws.{and-true}
+use Rattle.rules.proofs.ListLaws.{and-true, within}
 use Rattle.rules.proofs.Checking.{then-fine, fine-if, lowest-fine, Book, book-of-fine, there-of}
 use Rattle.rules.proofs.Demands.{Room}
 use Rattle.types.specs.Tests.{Placed}
 use Rattle.voxel_mesh.proofs.Shapes.{row-within}
 use Rattle.types.proofs.Known.{placed}
-use Rattle.admit.specs.declared.Scene.{Scene}
-use Rattle.admit.specs.Scenes.{sceneOf, Admitted, inputVerdict}
-use Rattle.books.specs.Lent.{Lent}
+use Rattle.terms.specs.declared.Scene.{Scene}
+use Rattle.terms.specs.Scenes.{sceneOf}
+use Rattle.lent.specs.Scenes.{Admitted, Lent, inputVerdict}
 use Rattle.culling.specs.Culling.{worldOf}
 use Rattle.answers.proofs.Chains.{then-assoc}
-use Rattle.books.proofs.Books.{within}
-use Rattle.admit.proofs.Admitting.{admitted, lent}
+use Rattle.lent.proofs.Admitted.{admitted, lent}
 use Rattle.checking.specs.Faces.{wrongSlot, Gridded}
 use Rattle.checking.specs.Quads.{otherQuad, Comparable}
 use Rattle.checking.proofs.Faces.{lowest-cong, alike, face-slot}

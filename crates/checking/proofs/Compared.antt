@@ -14,7 +14,7 @@ use Rattle.rules.specs.Cells.{Triple, coordinates, code, codeIn, cellIn}
 use Rattle.rules.specs.Floats.{finite3}
 use Rattle.rules.specs.Types.{quadWord, quadWords}
 use Rattle.rules.specs.Mesh.{typeAt}
-use Rattle.rules.proofs.ListLaws.{both-ways, same-true, same-refl, length-each, length-table, getD-table}
+use Rattle.rules.proofs.ListLaws.{both-ways, same-true, same-refl, length-each, length-table, getD-table, within}
 use borrow.Author.Tests.{le-ltb}
 use Rattle.face.specs.declared.Face.{Face}
 use Rattle.face.specs.declared.FoundFace.the-variants as Found
@@ -25,8 +25,7 @@ use Rattle.rules.proofs.Neighbours.{inside-of}
 use Rattle.floats.specs.Triples.{tripleOf}
 use Rattle.voxel_mesh.proofs.Shapes.{row-within}
 use Rattle.rules.proofs.Rows.{length-lent, getD-each}
-use Rattle.admit.specs.declared.Scene.{Scene}
-use Rattle.books.proofs.Books.{within}
+use Rattle.terms.specs.declared.Scene.{Scene}
 use Rattle.quads.specs.Quads.{Drawable}
 use Rattle.checking.specs.Quads.{Comparable, cubeAt, quadAt}
 

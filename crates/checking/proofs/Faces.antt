@@ -1,6 +1,6 @@
 -- WRONG_SET, cell by cell. Assumes nothing.
 use mathlib.Core.Path.{_≡_, refl, sym, ap, _∙_}
-use mathlib.Core.Bool.{Bool, true, false, cond, not}
+use mathlib.Core.Bool.{Bool, true, false, not}
 use mathlib.Core.List.{List}
 use Prim.Native.Nat.{ℕ, zero, suc, _+_, _*_, _/_, _%_, _≤_, _<_}
 use native.Mathlib.Omega.{arith}
@@ -10,13 +10,12 @@ use lib.ListN.{length, getD}
 use borrow.Author.Tests.{eqb-true, eqb-false}
 use Rattle.rules.specs.Lists.{lowestFrom, lowest}
 use Rattle.rules.specs.Cells.{has, setOf}
-use Rattle.rules.specs.Mesh.{World, Lists, NONE, drawn, there, placeOf, decode}
+use Rattle.rules.specs.Mesh.{World, Lists, NONE, there, placeOf, decode}
 use Rattle.rules.specs.Answers.{slotAt, wrongFace}
-use Rattle.rules.proofs.ListLaws.{both-ways, lowest-good, lowest-bad}
+use Rattle.rules.proofs.ListLaws.{both-ways, lowest-good, lowest-bad, within}
 use Rattle.rules.proofs.Searches.{Searched, passed, found}
 use Rattle.rules.proofs.Checking.{Book, filled-named, there-of, place-of}
 use Rattle.culling.specs.Culling.{worldOf}
-use Rattle.books.proofs.Books.{within}
 use Rattle.rules.proofs.Sets.{has-setOf}
 use Rattle.culling.proofs.Sides.{setOf-cong, drawn-by}
 use Rattle.checking.specs.Faces.{isFilled, unlike, wrongSlot}
@@ -92,10 +91,9 @@ module _ (n c : ℕ) (bad p q : ℕ → Bool) (a b : ℕ) (is : (f : ℕ) → f 
       (passed-many n bad (6 * c) (lowest 6 differs) (omega arith) s (λ f l. sym (told f (omega arith)) ∙ lowest-good 6 differs f l))
       (sym (told (lowest 6 differs) h) ∙ lowest-bad 6 differs h)
 
--- a slot's bit in the set of its cell
-pub slot-bit : (slots : List ℕ) (i k bit : ℕ) → i ≡ k → k < length slots
-    → cond (not (eqb (getD slots i 0) NONE)) bit 0 ≡ cond (isFilled slots k) bit 0
-slot-bit slots i k bit e h = rw (e, within slots k 0 NONE h)
+-- a slot that was read
+pub slot-is : (slots : List ℕ) (i k : ℕ) → i ≡ k → k < length slots → not (eqb (getD slots i 0) NONE) ≡ isFilled slots k
+slot-is slots i k e h = rw (e, within slots k 0 NONE h)
 
 -- ---- a face is there exactly if its slot is filled
 

@@ -11,7 +11,7 @@ use Rattle.rules.specs.Mesh.{typeAt}
 use Rattle.util.specs.Grid.{sizeOf, Within}
 use Rattle.floats.specs.Triples.{tripleOf}
 use Rattle.types.specs.Tests.{Placed}
-use Rattle.admit.specs.declared.Scene.{Scene}
+use Rattle.terms.specs.declared.Scene.{Scene}
 
 -- the stretch of the type that stands in a cell, n words a vertex
 abbrev pub cubeAt : ℕ → List ℕ → List ℕ → ℕ → List ℕ

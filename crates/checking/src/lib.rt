@@ -1,18 +1,21 @@
 // The check of a mesh: whether it shows what culling shows, every word right, index and quads naming each other.
-use admit::Scene;
-use admit::open_verdict;
 use answers::Refusal;
 use answers::Verdict;
 use answers::is_refusal;
 use answers::refuse_if;
-use books::book_verdict;
-use culling::bit_if;
+use culling::Look;
 use culling::clear_types;
 use culling::drawn_row;
 use culling::full_from;
 use culling::outer_set;
 use culling::sides_along;
 use face::NONE;
+use face::side_set;
+use lent::links::links_verdict;
+use lent::open_verdict;
+use lent::triangles::triangles_verdict;
+use terms::Lengths;
+use terms::Scene;
 use util::Dimensions;
 use util::Row;
 use words::first_wrong_quad;
@@ -26,7 +29,7 @@ ghost use Rattle.rules.specs.Cells.{cells, has, setOf};
 ghost use Rattle.rules.specs.Calls.{checkVerdict};
 ghost use Rattle.answers.specs.Verdicts.{verdictOf};
 ghost use Rattle.util.specs.Grid.{sizeOf};
-ghost use Rattle.admit.specs.Scenes.{sceneOf};
+ghost use Rattle.terms.specs.Scenes.{sceneOf};
 ghost use Rattle.rules.specs.Mesh.{listsOf};
 ghost use Rattle.culling.specs.Culling.{worldOf, outerSet};
 ghost use Rattle.culling.specs.Rows.{Along};
@@ -40,12 +43,14 @@ fn filled_set(slots: &[u32], cell: usize) -> u8
     ensures { λ r. ⌜ r ≡ filledSet (now (slots .entry)) cell ⌝ }
 {
     let at = 6 * cell;
-    bit_if(slots[at] != NONE, 1)
-        + bit_if(slots[at + 1] != NONE, 2)
-        + bit_if(slots[at + 2] != NONE, 4)
-        + bit_if(slots[at + 3] != NONE, 8)
-        + bit_if(slots[at + 4] != NONE, 16)
-        + bit_if(slots[at + 5] != NONE, 32)
+    side_set(
+        slots[at] != NONE,
+        slots[at + 1] != NONE,
+        slots[at + 2] != NONE,
+        slots[at + 3] != NONE,
+        slots[at + 4] != NONE,
+        slots[at + 5] != NONE,
+    )
 }
 
 // The lowest face that one side set has and the other has not, or 6.
@@ -95,8 +100,11 @@ fn lowest_by_rows(
         × (outer < 64) × (dims .width ≤ length (now sets)) × Along (dims .width) (now along) ⌝ }
     ensures { λ r. ⌜ ((faces : List ℕ) → outer ≡ outerSet faces → r ≡ lowest (6 * cells (sizeOf dims)) (wrongSlot (worldOf (sizeOf dims) (now (kinds .entry)) (now (covers .entry))) faces (now (grid .entry)) (now (slots .entry)))) ⌝ }
 {
-    let clear = clear_types(kinds, covers);
-    let full = full_from(kinds, covers);
+    let look = Look {
+        outer: outer,
+        clear: clear_types(kinds, covers),
+        full: full_from(kinds, covers),
+    };
     let width = dims.width as usize;
     let end = dims.cell_count();
     let mut row = Row {
@@ -105,19 +113,7 @@ fn lowest_by_rows(
         z: 0,
     };
     while row.first < end {
-        drawn_row(
-            sets,
-            dims,
-            outer,
-            along,
-            grid,
-            kinds,
-            covers,
-            clear,
-            full,
-            row.y,
-            row.z,
-        );
+        drawn_row(sets, dims, look, along, grid, kinds, covers, row.y, row.z);
         let start = row.first as usize;
         let face = lowest_in_row(&sets[..width], slots, start);
         if face < 6 * width {
@@ -163,27 +159,25 @@ pub fn check_mesh(
 ) -> Verdict
     ensures { λ r. ⌜ verdictOf r ≡ checkVerdict (sceneOf scene (now (kinds .entry)) (now (covers .entry)) (now (cubes .entry))) (now (outer .entry)) (now (grid .entry)) (listsOf (now (vertices .entry)) (now (triangles .entry)) (now (links .entry)) (now (slots .entry))) count ⌝ }
 {
-    let opened = open_verdict(
-        scene,
-        outer,
-        grid,
-        kinds,
-        covers,
-        cubes,
-        vertices,
-        triangles,
-        links,
-        slots,
-        count,
-    );
+    let lengths = Lengths {
+        vertices: vertices.len(),
+        triangles: triangles.len(),
+        links: links.len(),
+        slots: slots.len(),
+    };
+    let opened = open_verdict(scene, outer, grid, kinds, covers, cubes, lengths, count);
     if is_refusal(opened) {
         return opened;
     }
     let dims = scene.dims;
     let cells = dims.cell_count();
-    let booked = book_verdict(cells, triangles, links, slots, count);
-    if is_refusal(booked) {
-        return booked;
+    let linked = links_verdict(cells, links, slots, count);
+    if is_refusal(linked) {
+        return linked;
+    }
+    let patterned = triangles_verdict(triangles, count);
+    if is_refusal(patterned) {
+        return patterned;
     }
     let face = lowest_wrong_face(dims, outer_set(outer), grid, kinds, covers, slots);
     let faced = refuse_if(face < 6 * cells as usize, Refusal::WrongSet, face);

@@ -1,11 +1,11 @@
 // The words of the quads, compared as bits with those of the registry.
-use admit::Scene;
 use face::Face;
 use face::FoundFace;
 use face::cell_of;
 use face::face_of;
 use floats::Triple;
 use quads::quad_word;
+use terms::Scene;
 use util::Coordinates;
 use util::three_d_cords;
 use util::wide;

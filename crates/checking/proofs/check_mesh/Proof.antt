@@ -1,16 +1,18 @@
 -- `checking::check_mesh` meets its contract: each return is what the tests before it leave. Assumes nothing.
-use mathlib.Core.Path.{_≡_, sym, _∙_}
+use mathlib.Core.Path.{_≡_, refl, sym, _∙_}
 use mathlib.Core.Bool.{false}
 use denote.Ref.{now}
+use Rattle.rules.specs.Cells.{cells}
 use Rattle.rules.specs.Mesh.{Lists, decode, listsOf}
-use Rattle.rules.specs.Answers.{Verdict, fine, _then_, WRONG-SET}
+use Rattle.rules.specs.Answers.{Verdict, fine, _then_, BAD-LINKS, BAD-TRIANGLES, WRONG-SET}
 use Rattle.rules.specs.Calls as rules
 use Rattle.rules.specs.Calls.{world, span, openVerdict, bookVerdict}
 use Rattle.rules.specs.Lists.{member}
 use Rattle.rules.proofs.Sets.{setOf-lt}
 use Rattle.answers.specs.Verdicts.{verdictOf, refuses}
-use Rattle.admit.specs.Scenes.{sceneOf}
-use Rattle.answers.proofs.Chains.{stops, passes, goes}
+use Rattle.terms.specs.Scenes.{sceneOf}
+use Rattle.answers.proofs.Chains.{stops, passes, goes, then-assoc}
+use Rattle.lent.proofs.Linked.{few-linked}
 use Rattle.checking.proofs.Checked.{Opened, opened, gridded, faces-told, comparable, quads-told}
 use borrow.Author.Needs.{needs}
 use native.Mathlib.Omega.{arith}
@@ -27,6 +29,12 @@ lists c = let args = c .args in listsOf (now (args .vertices)) (now (args .trian
 abbrev opens : tie.Start → Verdict
 opens c = openVerdict (scene c) (now (c .args .outer)) (now (c .args .grid)) (lists c) (c .args .count)
 
+abbrev links : tie.Start → Verdict
+links c = BAD-LINKS (cells (scene c .size)) (lists c) (c .args .count)
+
+abbrev triangles : tie.Start → Verdict
+triangles c = BAD-TRIANGLES (lists c) (c .args .count)
+
 abbrev books : tie.Start → Verdict
 books c = bookVerdict (scene c) (lists c) (c .args .count)
 
@@ -35,52 +43,81 @@ faces c = WRONG-SET (world (scene c)) (now (c .args .outer)) (now (c .args .grid
 
 -- ---- 2, 3, 4, 6 to 10 have passed
 
+abbrev lent-to : tie.After-open-verdict → tie.Start
+lent-to c = c .before .before .before .before .before .before .before .before .before .before
+
+opened-is : (c : tie.After-open-verdict) → verdictOf (c .open-verdict .result) ≡ opens (lent-to c)
+opened-is c = c .open-verdict .ensures (lists (lent-to c)) (record { vertices = refl; triangles = refl; links = refl; slots = refl })
+
 abbrev start : tie.Else1 → tie.Start
-start c = c .before .before .before .before .before .before .before .before .before .before .before .before
+start c = lent-to (c .before .before)
 
 opened-so : (c : tie.Else1) → refuses (verdictOf (c .before .before .open-verdict .result)) ≡ false
 opened-so c = sym (c .before .is-refusal .ensures) ∙ c .if1 .left
 
 after-open : (c : tie.Else1) {r b : Verdict} → r ≡ b → r ≡ (opens (start c) then b)
-after-open c = goes _ _ (c .before .before .open-verdict .ensures) (opened-so c)
+after-open c = goes _ _ (opened-is (c .before .before)) (opened-so c)
 
 was-opened : (c : tie.Else1) → let s = start c in Opened (scene s) (now (s .args .outer)) (now (s .args .grid)) (lists s) (s .args .count)
 was-opened c =
     let s = start c in
     opened (scene s) (now (s .args .outer)) (now (s .args .grid)) (lists s) (s .args .count) (omega arith)
-    (passes _ _ (c .before .before .open-verdict .ensures) (opened-so c))
+    (passes _ _ (opened-is (c .before .before)) (opened-so c))
 
--- ---- 11 and 12
+-- ---- 11
 
 abbrev opened-at : tie.Else2 → tie.Else1
 opened-at c = c .before .before .before .before .before
 
-book-is : (c : tie.After-book-verdict) → verdictOf (c .book-verdict .result) ≡ books (start (c .before .before .before))
-book-is c = rw (c .before .cell-count .ensures) at (c .book-verdict .ensures (now (start (c .before .before .before) .args .vertices)))
+links-are : (c : tie.After-links-verdict) → verdictOf (c .links-verdict .result) ≡ links (start (c .before .before .before))
+links-are c =
+    let args = start (c .before .before .before) .args in
+    rw (c .before .cell-count .ensures) at (c .links-verdict .ensures (now (args .vertices)) (now (args .triangles)))
 
-booked-so : (c : tie.Else2) → refuses (verdictOf (c .before .before .book-verdict .result)) ≡ false
-booked-so c = sym (c .before .is-refusal2 .ensures) ∙ c .if2 .left
+linked-so : (c : tie.Else2) → refuses (verdictOf (c .before .before .links-verdict .result)) ≡ false
+linked-so c = sym (c .before .is-refusal2 .ensures) ∙ c .if2 .left
 
-after-book : (c : tie.Else2) {r b : Verdict} → r ≡ b → let s = start (opened-at c) in r ≡ (opens s then books s then b)
-after-book c e = after-open (opened-at c) (goes _ _ (book-is (c .before .before)) (booked-so c) e)
+after-links : (c : tie.Else2) {r b : Verdict} → r ≡ b → r ≡ (links (start (opened-at c)) then b)
+after-links c = goes _ _ (links-are (c .before .before)) (linked-so c)
 
-was-booked : (c : tie.Else2) → books (start (opened-at c)) ≡ fine
-was-booked c = passes _ _ (book-is (c .before .before)) (booked-so c)
+-- ---- 12
+
+abbrev linked-at : tie.Else3 → tie.Else2
+linked-at c = c .before .before .before
+
+abbrev base : tie.Else3 → tie.Start
+base c = start (opened-at (linked-at c))
+
+triangles-are : (c : tie.After-triangles-verdict) → verdictOf (c .triangles-verdict .result) ≡ triangles (start (opened-at (c .before)))
+triangles-are c =
+    let args = start (opened-at (c .before)) .args in
+    c .triangles-verdict .ensures (now (args .vertices)) (now (args .links)) (now (args .slots))
+
+patterned-so : (c : tie.Else3) → refuses (verdictOf (c .before .before .triangles-verdict .result)) ≡ false
+patterned-so c = sym (c .before .is-refusal3 .ensures) ∙ c .if3 .left
+
+after-book : (c : tie.Else3) {r b : Verdict} → r ≡ b → r ≡ (opens (base c) then books (base c) then b)
+after-book c e =
+    after-open (opened-at (linked-at c))
+    (after-links (linked-at c) (goes _ _ (triangles-are (c .before .before)) (patterned-so c) e) ∙ sym (then-assoc _ _ _))
+
+was-booked : (c : tie.Else3) → books (base c) ≡ fine
+was-booked c = sym (after-links (linked-at c) (sym (passes _ _ (triangles-are (c .before .before)) (patterned-so c))))
 
 -- ---- 15
 
-faces-are : (c : tie.After-refuse-if) → verdictOf (c .refuse-if .result) ≡ faces (start (opened-at (c .before .before .before)))
+faces-are : (c : tie.After-refuse-if) → verdictOf (c .refuse-if .result) ≡ faces (base (c .before .before .before))
 faces-are c =
-    let opened = opened-at (c .before .before .before) in
-    let args = start opened .args in
+    let booked = c .before .before .before in
+    let args = base booked .args in
     let outer = now (args .outer) in
-    (rw (c .before .before .before .before .before .before .cell-count .ensures) at (c .refuse-if .ensures))
-    ∙ faces-told (args .scene) (now (args .kinds)) (now (args .covers)) (now (args .cubes)) outer (now (args .grid)) (lists (start opened))
-    (args .count) (was-opened opened) (was-booked (c .before .before .before)) (c .before .lowest-wrong-face .result)
+    (rw (linked-at booked .before .before .before .cell-count .ensures) at (c .refuse-if .ensures))
+    ∙ faces-told (args .scene) (now (args .kinds)) (now (args .covers)) (now (args .cubes)) outer (now (args .grid)) (lists (base booked))
+    (args .count) (was-opened (opened-at (linked-at booked))) (was-booked booked) (c .before .lowest-wrong-face .result)
     (c .before .lowest-wrong-face .ensures outer (c .before .before .outer-set .ensures))
 
-faced-so : (c : tie.Else3) → refuses (verdictOf (c .before .before .refuse-if .result)) ≡ false
-faced-so c = sym (c .before .is-refusal3 .ensures) ∙ c .if3 .left
+faced-so : (c : tie.Else4) → refuses (verdictOf (c .before .before .refuse-if .result)) ≡ false
+faced-so c = sym (c .before .is-refusal4 .ensures) ∙ c .if4 .left
 
 open-verdict-requires : tie.Need-open-verdict-requires
 open-verdict-requires c κs = search needs
@@ -89,30 +126,47 @@ is-refusal-requires : tie.Need-is-refusal-requires
 is-refusal-requires c κs = search needs
 
 returns : tie.Need-returns
-returns c = stops _ _ _ (c .before .before .open-verdict .ensures) (sym (c .before .is-refusal .ensures) ∙ c .if1 .taken)
+returns c = stops _ _ _ (opened-is (c .before .before)) (sym (c .before .is-refusal .ensures) ∙ c .if1 .taken)
 
 cell-count-requires : tie.Need-cell-count-requires
 cell-count-requires c κs = was-opened (c .before) .input .within .sides
 
-book-verdict-requires : tie.Need-book-verdict-requires
-book-verdict-requires c κs = let o = was-opened (c .before .before) in (rw (c .cell-count .ensures) (o .lent), o .room .triangles)
+links-verdict-requires : tie.Need-links-verdict-requires
+links-verdict-requires c κs = rw (c .cell-count .ensures) (was-opened (c .before .before) .lent)
 
 is-refusal-requires-2 : tie.Need-is-refusal-requires-2
 is-refusal-requires-2 c κs = search needs
 
 returns-2 : tie.Need-returns-2
-returns-2 c = after-open (c .before .before .before .before .before) (stops _ _ _ (book-is (c .before .before)) (sym (c .before .is-refusal2 .ensures) ∙ c .if2 .taken))
+returns-2 c =
+    after-open (c .before .before .before .before .before)
+    (stops _ _ _ (links-are (c .before .before)) (sym (c .before .is-refusal2 .ensures) ∙ c .if2 .taken) ∙ sym (then-assoc _ _ _))
+
+triangles-verdict-requires : tie.Need-triangles-verdict-requires
+triangles-verdict-requires c κs =
+    let s = start (opened-at c) in
+    let o = was-opened (opened-at c) in
+    let passed = passes _ _ (links-are (c .before .before)) (linked-so c) in
+    (o .room .triangles, omega (arith, few-linked (cells (scene s .size)) (lists s) (s .args .count) (o .input .slotted) passed, o .input .within .most))
+
+is-refusal-requires-3 : tie.Need-is-refusal-requires-3
+is-refusal-requires-3 c κs = search needs
+
+returns-3 : tie.Need-returns-3
+returns-3 c =
+    let linked = c .before .before .before in
+    after-open (opened-at linked)
+    (after-links linked (stops _ _ _ (triangles-are (c .before .before)) (sym (c .before .is-refusal3 .ensures) ∙ c .if3 .taken)) ∙ sym (then-assoc _ _ _))
 
 outer-set-requires : tie.Need-outer-set-requires
-outer-set-requires c κs = was-opened (c .before .before .before .before .before) .input .face
+outer-set-requires c κs = was-opened (opened-at (linked-at c)) .input .face
 
 lowest-wrong-face-requires : tie.Need-lowest-wrong-face-requires
 lowest-wrong-face-requires c κs =
-    let opened = opened-at (c .before) in
-    let o = was-opened opened in
-    let args = start opened .args in (
-      gridded (args .scene) (now (args .kinds)) (now (args .covers)) (now (args .cubes)) (now (args .outer)) (now (args .grid)) (lists (start opened))
-          (args .count) o,
+    let s = base (c .before) in
+    let o = was-opened (opened-at (linked-at (c .before))) in
+    let args = s .args in (
+      gridded (args .scene) (now (args .kinds)) (now (args .covers)) (now (args .cubes)) (now (args .outer)) (now (args .grid)) (lists s) (args .count) o,
       o .input .typed .covered,
       o .input .typed .counted .few,
       rw (c .outer-set .ensures) (setOf-lt (λ f. member f (now (args .outer)))),
@@ -122,40 +176,41 @@ cast-refuse-if : tie.Need-cast-refuse-if
 cast-refuse-if c = search needs
 
 mul-refuse-if : tie.Need-mul-refuse-if
-mul-refuse-if c = omega (arith, c .before .before .before .before .before .cell-count .ensures, was-opened (c .before .before .before .before .before .before .before) .input .within .most)
+mul-refuse-if c =
+    let linked = linked-at (c .before .before) in
+    omega (arith, linked .before .before .before .cell-count .ensures, was-opened (opened-at linked) .input .within .most)
 
 refuse-if-requires : tie.Need-refuse-if-requires
 refuse-if-requires c κs = search needs
 
-is-refusal-requires-3 : tie.Need-is-refusal-requires-3
-is-refusal-requires-3 c κs = search needs
+is-refusal-requires-4 : tie.Need-is-refusal-requires-4
+is-refusal-requires-4 c κs = search needs
 
-returns-3 : tie.Need-returns-3
-returns-3 c = after-book (c .before .before .before .before .before) (stops _ _ _ (faces-are (c .before .before)) (sym (c .before .is-refusal3 .ensures) ∙ c .if3 .taken))
+returns-4 : tie.Need-returns-4
+returns-4 c = after-book (c .before .before .before .before .before) (stops _ _ _ (faces-are (c .before .before)) (sym (c .before .is-refusal4 .ensures) ∙ c .if4 .taken))
 
 first-wrong-quad-requires : tie.Need-first-wrong-quad-requires
 first-wrong-quad-requires c κs =
-    let opened = opened-at (c .before .before .before .before .before) in
-    let o = was-opened opened in
-    let args = start opened .args in (
-      comparable (args .scene) (now (args .kinds)) (now (args .covers)) (now (args .cubes)) (now (args .outer)) (now (args .grid)) (lists (start opened))
-          (args .count) o (was-booked (c .before .before .before .before .before)) (passes _ _ (faces-are (c .before .before)) (faced-so c)),
+    let booked = c .before .before .before .before .before in
+    let o = was-opened (opened-at (linked-at booked)) in
+    let args = base booked .args in (
+      comparable (args .scene) (now (args .kinds)) (now (args .covers)) (now (args .cubes)) (now (args .outer)) (now (args .grid)) (lists (base booked))
+          (args .count) o (was-booked booked) (passes _ _ (faces-are (c .before .before)) (faced-so c)),
       o .input .typed .d,
     )
 
 refuse-if-requires-2 : tie.Need-refuse-if-requires-2
 refuse-if-requires-2 c κs = search needs
 
-returns-4 : tie.Need-returns-4
-returns-4 c =
+returns-5 : tie.Need-returns-5
+returns-5 c =
     let booked = c .before .before .before .before .before .before .before in
-    let opened = opened-at booked in
-    let args = start opened .args in
+    let args = base booked .args in
     after-book booked
     (goes _ _ (faces-are (c .before .before .before .before)) (faced-so (c .before .before))
     (c .refuse-if2 .ensures
-    ∙ quads-told (args .scene) (now (args .kinds)) (now (args .covers)) (now (args .cubes)) (now (args .outer)) (now (args .grid)) (lists (start opened))
-    (args .count) (was-opened opened) (was-booked booked) (c .before .first-wrong-quad .result) (c .before .first-wrong-quad .ensures)))
+    ∙ quads-told (args .scene) (now (args .kinds)) (now (args .covers)) (now (args .cubes)) (now (args .outer)) (now (args .grid)) (lists (base booked))
+    (args .count) (was-opened (opened-at (linked-at booked))) (was-booked booked) (c .before .first-wrong-quad .result) (c .before .first-wrong-quad .ensures)))
 
 pub check-mesh-spec : {M : Type 1} → statement M
 check-mesh-spec =
@@ -165,16 +220,19 @@ check-mesh-spec =
     is-refusal-requires
     returns
     cell-count-requires
-    book-verdict-requires
+    links-verdict-requires
     is-refusal-requires-2
     returns-2
+    triangles-verdict-requires
+    is-refusal-requires-3
+    returns-3
     outer-set-requires
     lowest-wrong-face-requires
     cast-refuse-if
     mul-refuse-if
     refuse-if-requires
-    is-refusal-requires-3
-    returns-3
+    is-refusal-requires-4
+    returns-4
     first-wrong-quad-requires
     refuse-if-requires-2
-    returns-4)
+    returns-5)

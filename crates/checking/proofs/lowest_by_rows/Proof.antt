@@ -21,13 +21,13 @@ use Rattle.checking.proofs.lowest_by_rows.Statement.{statement}
 use Rattle.checking.proofs.lowest_by_rows.Tie as tie
 
 abbrev Inv-loop : tie.InvT-loop
-Inv-loop dims outer along grid kinds covers slots sets₀ clear full width end row₀ sets row =
+Inv-loop dims outer along grid kinds covers slots sets₀ look width end row₀ sets row =
     (end ≡ cells (sizeOf dims)) × (row .first ≤ end) × (length sets ≡ length sets₀)
     × ((faces : List ℕ) → outer ≡ outerSet faces → Searched (6 * cells (sizeOf dims)) (wrongSlot (worldOf (sizeOf dims) kinds covers) faces grid slots) (6 * row .first))
     × (cordsOf 0 (row .y) (row .z) ≡ coordinates (sizeOf dims) (row .first))
 
 abbrev μ-loop : tie.MeasureT-loop
-μ-loop dims outer along grid kinds covers slots sets₀ clear full width end row₀ sets row = end - row .first
+μ-loop dims outer along grid kinds covers slots sets₀ look width end row₀ sets row = end - row .first
 
 abbrev start : tie.After-slice-known Inv-loop μ-loop → tie.Start Inv-loop μ-loop
 start c = c .before .before .before .before .before .before

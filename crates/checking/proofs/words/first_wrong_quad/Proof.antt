@@ -16,7 +16,7 @@ use Rattle.util.specs.Grid.{sizeOf, tripleOf}
 use Rattle.floats.specs.Triples as floats
 use Rattle.voxel_mesh.proofs.Shapes.{few, row-within}
 use Rattle.rules.proofs.Rows.{length-lent}
-use Rattle.books.proofs.Books.{within}
+use Rattle.rules.proofs.ListLaws.{within}
 use Rattle.checking.specs.Quads.{quadAt, otherQuad, cubeAt, Comparable}
 use Rattle.rules.proofs.Searches.{Searched, searched, found, passed, ended}
 use Rattle.checking.proofs.Compared.{Agreed, agreed-same, agreed-not, lent-is, row-next, length-words, Named, named-word, stretch-within, drawable, quad-within, length-quad}

@@ -1,0 +1,28 @@
+-- `lent::lent_verdict` meets its contract: each return is what the tests before it leave. Assumes nothing.
+use mathlib.Core.Path.{sym, _∙_}
+use Rattle.answers.proofs.Chains.{stops, goes}
+use borrow.Author.Needs.{needs}
+use Rattle.lent.proofs.lent_verdict.Statement.{statement}
+use Rattle.lent.proofs.lent_verdict.Tie as tie
+
+slots-verdict-requires : tie.Need-slots-verdict-requires
+slots-verdict-requires c κs = search needs
+
+is-refusal-requires : tie.Need-is-refusal-requires
+is-refusal-requires c κs = search needs
+
+returns : tie.Need-returns
+returns c = λ B long. stops _ _ _ (c .before .before .slots-verdict .ensures B (long .slots)) (sym (c .before .is-refusal .ensures) ∙ c .if1 .taken)
+
+count-verdict-requires : tie.Need-count-verdict-requires
+count-verdict-requires c κs = search needs
+
+returns-2 : tie.Need-returns-2
+returns-2 c =
+    λ B long. goes _ _ (c .before .before .before .slots-verdict .ensures B (long .slots)) (sym (c .before .before .is-refusal .ensures) ∙ c .before .if1 .left)
+    (c .count-verdict .ensures B long)
+
+pub lent-verdict-spec : {M : Type 1} → statement M
+lent-verdict-spec =
+    tie.close
+    (tie.spec slots-verdict-requires is-refusal-requires returns count-verdict-requires returns-2)

@@ -1,0 +1,32 @@
+-- `lent::room_of` meets its contract. Assumes nothing.
+use mathlib.Core.Path.{_∙_}
+use Rattle.rules.specs.Answers.{roomOf}
+use Rattle.voxel_mesh.proofs.Shapes.{few}
+use borrow.Author.Needs.{needs}
+use native.Mathlib.Omega.{arith}
+use Rattle.lent.proofs.room_of.Statement.{statement}
+use Rattle.lent.proofs.room_of.Tie as tie
+
+floats-of-requires : tie.Need-floats-of-requires
+floats-of-requires c κs = search needs
+
+mul-least : tie.Need-mul-least
+mul-least c = omega (arith, c .floats-of .ensures, few (c .before .args .coloured))
+
+div-least : tie.Need-div-least
+div-least c = omega (arith, c .before .floats-of .ensures, few (c .before .before .args .coloured))
+
+least-requires : tie.Need-least-requires
+least-requires c κs = search needs
+
+least-requires-2 : tie.Need-least-requires-2
+least-requires-2 c κs = search needs
+
+returns : tie.Need-returns
+unfolding roomOf
+returns c = λ B long. c .least2 .ensures ∙ rw (c .before .least .ensures, c .before .before .before .before .floats-of .ensures, long .vertices, long .triangles, long .links)
+
+pub room-of-spec : {M : Type 1} → statement M
+room-of-spec =
+    tie.close
+    (tie.spec floats-of-requires mul-least div-least least-requires least-requires-2 returns)

@@ -1,0 +1,16 @@
+-- The two modes as the rules have them: how a grid is meshed, and the side that Added tests. Definitions only.
+use mathlib.Core.Bool.{Bool, true, false}
+use Rattle.rules.specs.Update.{Tested, source, itself}
+use Rattle.terms.specs.declared.MeshingAlgorithm.{MeshingAlgorithm}
+use Rattle.terms.specs.declared.MeshingAlgorithm.the-variants.{Naive, Culling}
+use Rattle.terms.specs.declared.Tested as code
+use Rattle.terms.specs.declared.Tested.the-variants.{Opposite, Itself}
+
+abbrev pub isCulling : MeshingAlgorithm → Bool
+isCulling Naive = false
+isCulling Culling = true
+
+-- the side of an added voxel that decides whether the neighbour at a face loses its facing quad
+abbrev pub testedBy : code.Tested → Tested
+testedBy Opposite = source
+testedBy Itself = itself
