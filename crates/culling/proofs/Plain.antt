@@ -20,7 +20,7 @@ use Rattle.rules.proofs.Searches.{every-at}
 use Rattle.rules.proofs.Sets.{setOf-lt, set-is, has-setOf}
 use Rattle.rules.proofs.Neighbours.{layer-on, row-on, coordinates-cellAt, cellAt-in, beside}
 use Rattle.util.specs.Grid.{cordsOf, Within}
-use Rattle.books.proofs.Books.{within}
+use Rattle.rules.proofs.ListLaws.{within}
 use Rattle.culling.specs.Culling.{worldOf, outerSet, Laid}
 use Rattle.culling.specs.Rows.{Whole, ClearBelow, FullFrom, Plainly, Plain, PlainAround, six, edgeSet, plainSet, plainShown, plainAt, isBeside, rowSides, Rows, sidesAt, Along, Beside}
 use Rattle.culling.proofs.Sides.{setOf-cong}

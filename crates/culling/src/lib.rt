@@ -1,6 +1,7 @@
 // Which sides of a cell culling draws, as a side set.
 use face::Cell;
 use face::Face;
+use face::bit_if;
 use face::has;
 use util::Dimensions;
 use util::Neighbor;
@@ -146,13 +147,6 @@ pub fn full_from(kinds: &[u8], covers: &[u8]) -> u8
         t = last;
     }
     0
-}
-
-// A side's bit, or none.
-pub fn bit_if(on: bool, bit: u8) -> u8
-    ensures { λ r. ⌜ (r ≡ cond on bit 0) × (r ≤ bit) ⌝ }
-{
-    bit * (on as u8)
 }
 
 // The sides beside types that are not full.
@@ -534,27 +528,32 @@ fn is_plain_row(
         & are_plain(grid, rows.forward, n, clear, full)
 }
 
+// What is the same for every row of a call: the outer faces, and from which types on they are plainly clear or full.
+pub struct Look {
+    pub outer: u8,
+    pub clear: u8,
+    pub full: u8,
+}
+
 // The side sets of the row of cells at y and z: by bytes where the codes there are plainly clear or full, else cell by cell.
 pub fn drawn_row(
     sets: &mut [u8],
     dims: Dimensions,
-    outer: u8,
+    look: Look,
     along: &[u8],
     grid: &[u8],
     kinds: &[u8],
     covers: &[u8],
-    clear: u8,
-    full: u8,
     y: u32,
     z: u32,
 )
-    requires { ⌜ Whole (sizeOf dims) (now grid) (length (now covers)) × (length (now covers) ≡ length (now kinds)) × Plainly (now kinds) (now covers) clear full × (y < dims .height) × (z < dims .length) × (dims .width ≤ length (now sets)) × (outer < 64) × Along (dims .width) (now along) ⌝ }
-    ensures { λ _. ⌜ ((faces : List ℕ) → outer ≡ outerSet faces → RowShown (sizeOf dims) (now (kinds .entry)) (now (covers .entry)) faces (now (grid .entry)) y z (now (sets .exit))) ⌝ }
+    requires { ⌜ Whole (sizeOf dims) (now grid) (length (now covers)) × (length (now covers) ≡ length (now kinds)) × Plainly (now kinds) (now covers) (look .clear) (look .full) × (y < dims .height) × (z < dims .length) × (dims .width ≤ length (now sets)) × (look .outer < 64) × Along (dims .width) (now along) ⌝ }
+    ensures { λ _. ⌜ ((faces : List ℕ) → look .outer ≡ outerSet faces → RowShown (sizeOf dims) (now (kinds .entry)) (now (covers .entry)) faces (now (grid .entry)) y z (now (sets .exit))) ⌝ }
 {
     let rows = rows_around(dims, y, z);
-    if is_plain_row(dims, grid, clear, full, y, z, rows) {
-        plain_row(sets, dims, outer, along, grid, full, y, z, rows);
+    if is_plain_row(dims, grid, look.clear, look.full, y, z, rows) {
+        plain_row(sets, dims, look.outer, along, grid, look.full, y, z, rows);
         return;
     }
-    row_by_cells(sets, dims, outer, grid, kinds, covers, y, z);
+    row_by_cells(sets, dims, look.outer, grid, kinds, covers, y, z);
 }

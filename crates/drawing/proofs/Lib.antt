@@ -1,3 +1,3 @@
+pub mod Patterns
 pub mod Turns
 pub mod Laid
-pub mod Bare

@@ -1,75 +1,58 @@
-// Quads written into the four lists: a quad at its place, and the quads of a cell.
+// Quads written into each list by itself: a quad's words at its place, the patterns of a stretch of places, the index and the vertices of faces that
+// are drawn one after the other.
 use face::Cell;
 use face::Face;
+use face::Quad;
 use face::face_at;
-use face::has;
-use face::key;
-use face::link;
+use floats::Triple;
+use mesh_metadata::insert;
 use quads::write_quad;
+use terms::Scene;
+use util::Coordinates;
+use util::Row;
+use voxel_mesh::floats_of;
 ghost use mathlib.Core.Path.{_≡_};
-ghost use mathlib.Core.Bool.{true, cond};
-ghost use Prim.Native.Nat.{_+_, _*_, _≤_, _<_};
-ghost use lib.ListN.{length, set};
-ghost use Rattle.rules.specs.Cells.{UNIT, keyOf, linkOf, firstVertex, has, quadsOf};
+ghost use mathlib.Core.List.{[]};
+ghost use Prim.Native.Nat.{ℕ, _+_, _-_, _*_, _≤_, _<_};
+ghost use lib.ListN.{length, getD, set};
+ghost use Rattle.rules.specs.Lists.{each};
+ghost use Rattle.rules.specs.Cells.{linkOf, firstVertex};
 ghost use Rattle.rules.specs.Types.{quadWords};
-ghost use Rattle.rules.specs.Mesh.{NONE, pattern, listsOf};
+ghost use Rattle.rules.specs.Mesh.{NONE, pattern};
+ghost use Rattle.rules.specs.Calls.{span};
 ghost use Rattle.face.specs.Face.{number};
-ghost use Rattle.util.specs.Grid.{cordsOf};
+ghost use Rattle.util.specs.Grid.{sizeOf, Within, Starts};
+ghost use Rattle.util.specs.Grid as grid;
+ghost use Rattle.floats.specs.Triples.{tripleOf};
+ghost use Rattle.terms.specs.Scenes.{sceneOf};
 ghost use Rattle.vav.specs.Rows.{put};
-ghost use Rattle.drawing.specs.Drawn.{drawnAt, facesDrawn};
-ghost use Rattle.quads.specs.Quads.{quadOf, Drawable};
-ghost use Rattle.drawing.specs.Rooms.{Room, Slotted, Ready, Bare};
+ghost use Rattle.quads.specs.Quads.{Drawable};
+ghost use Rattle.drawing.specs.Written.{rowsOf, linkRow, wordRow, named, Slotted, Side};
 
-// Writes a quad at place q. With one call the compiler would inline `write_quad`, and then no longer `draw_quad` with its 15 arguments.
-fn write_place(
+// Writes a quad at place q. With 8 floats a vertex the compiler has every length at hand.
+pub fn write_place(
     vertices: &mut [u32],
     cube: &[u32],
     floats: usize,
     face: Face,
-    x: u32,
-    y: u32,
-    z: u32,
-    dx: u32,
-    dy: u32,
-    dz: u32,
+    at: Coordinates,
+    d: Triple,
     q: usize,
 )
-    requires { ⌜ Drawable (now cube) floats (cordsOf x y z) (cordsOf dx dy dz) × (4 * floats * (q + 1) ≤ length (now vertices)) ⌝ }
+    requires { ⌜ Drawable (now cube) floats (grid.tripleOf at) (tripleOf d) × (4 * floats * (q + 1) ≤ length (now vertices)) ⌝ }
     ensures { λ _. ⌜ now (vertices .exit) ≡ put (4 * floats * q)
-        (quadWords (now (cube .entry)) floats (cordsOf dx dy dz) (number face) (cordsOf x y z)) (now (vertices .entry)) ⌝ }
+        (quadWords (now (cube .entry)) floats (tripleOf d) (number face) (grid.tripleOf at)) (now (vertices .entry)) ⌝ }
 {
     if floats == 8 {
         let start = 32 * q;
         let end = start + 32;
-        write_quad(
-            &mut vertices[start..end],
-            cube,
-            8,
-            face,
-            x,
-            y,
-            z,
-            dx,
-            dy,
-            dz,
-        );
+        write_quad(&mut vertices[start..end], cube, 8, face, at, d);
         return;
     }
     let words = 4 * floats;
     let start = words * q;
     let end = start + words;
-    write_quad(
-        &mut vertices[start..end],
-        cube,
-        floats,
-        face,
-        x,
-        y,
-        z,
-        dx,
-        dy,
-        dz,
-    );
+    write_quad(&mut vertices[start..end], cube, floats, face, at, d);
 }
 
 // Writes the triangle words of place q.
@@ -87,150 +70,111 @@ pub fn write_pattern(triangles: &mut [u32], q: usize)
     triangles[at + 5] = first + 1;
 }
 
-// Links place q to a face of a cell.
-fn write_link(links: &mut [u32], cell: Cell, face: Face, q: usize)
-    requires { ⌜ (cell .0 < UNIT) × (q < length (now links)) ⌝ }
-    ensures { λ _. ⌜ now (links .exit) ≡ set (now (links .entry)) q (linkOf (keyOf (cell .0) (number face))) ⌝ }
+// Writes the triangle words of the places from `from` up to `to`.
+pub fn write_patterns(triangles: &mut [u32], from: usize, to: usize)
+    requires { ⌜ (6 * to ≤ length (now triangles)) × (4 * to ≤ NONE) ⌝ }
+    ensures { λ _. ⌜ now (triangles .exit) ≡ put (6 * from) (each (to - from) from pattern) (now (triangles .entry)) ⌝ }
 {
-    links[q] = link(cell, face);
+    let mut q = from;
+    while q < to {
+        write_pattern(triangles, q);
+        q += 1;
+    }
 }
 
-// The slot of a face takes the quad at place q.
-fn write_slot(slots: &mut [u32], key: usize, q: usize)
-    requires { ⌜ (key < length (now slots)) × (4 * (q + 1) ≤ NONE) ⌝ }
-    ensures { λ _. ⌜ now (slots .exit) ≡ set (now (slots .entry)) key (firstVertex q) ⌝ }
+// A face's quad is at place q: its link, and its slot.
+fn insert_key(links: &mut [u32], slots: &mut [u32], key: u32, q: usize)
+    requires { ⌜ Slotted (length (now slots)) key × (q < length (now links)) × (4 * (q + 1) ≤ NONE) ⌝ }
+    ensures { λ _. ⌜ (now (links .exit) ≡ set (now (links .entry)) q (linkOf key))
+        × (now (slots .exit) ≡ set (now (slots .entry)) key (firstVertex q)) ⌝ }
 {
-    slots[key] = (4 * q) as u32;
+    insert(
+        links,
+        slots,
+        face_at(key % 6),
+        Cell(key / 6),
+        Quad(q as u32),
+    );
 }
 
-// Draws the quad of a face of a cell at place q.
-pub fn draw_quad(
+// The index of faces whose quads are at the places from `base` on.
+pub fn index_row(links: &mut [u32], slots: &mut [u32], keys: &[u32], base: usize)
+    requires { ⌜ ((i : ℕ) → i < length (now keys) → Slotted (length (now slots)) (getD (now keys) i 0))
+        × (base + length (now keys) ≤ length (now links)) × (4 * (base + length (now keys)) ≤ NONE) ⌝ }
+    ensures { λ _. ⌜ (now (links .exit) ≡ put (1 * base) (rowsOf linkRow (now (keys .entry))) (now (links .entry)))
+        × (now (slots .exit) ≡ named base (now (keys .entry)) (now (slots .entry))) ⌝ }
+{
+    let mut i: usize = 0;
+    while i < keys.len() {
+        insert_key(links, slots, keys[i], base + i);
+        i += 1;
+    }
+}
+
+fn wide(x: u8) -> usize
+    ensures { λ r. ⌜ (r ≡ x) × (r < 256) ⌝ }
+{
+    x as usize
+}
+
+// Writes the quad of a face of a row's cell at place q, from the cube of the cell's type.
+fn write_side(
     vertices: &mut [u32],
-    triangles: &mut [u32],
-    links: &mut [u32],
-    slots: &mut [u32],
-    cube: &[u32],
-    floats: usize,
-    cell: Cell,
-    face: Face,
-    x: u32,
-    y: u32,
-    z: u32,
-    dx: u32,
-    dy: u32,
-    dz: u32,
+    scene: Scene,
+    cubes: &[u32],
+    grid: &[u8],
+    row: Row,
+    key: u32,
     q: usize,
 )
-    requires { ⌜ Drawable (now cube) floats (cordsOf x y z) (cordsOf dx dy dz)
-        × Room (4 * floats) (q + 1) (listsOf (now vertices) (now triangles) (now links) (now slots))
-        × Slotted (cell .0) (listsOf (now vertices) (now triangles) (now links) (now slots)) ⌝ }
-    ensures { λ _. ⌜ listsOf (now (vertices .exit)) (now (triangles .exit)) (now (links .exit)) (now (slots .exit))
-        ≡ drawnAt (4 * floats) q (quadOf (now (cube .entry)) floats (cordsOf dx dy dz) (cordsOf x y z) (cell .0) (number face))
-        (listsOf (now (vertices .entry)) (now (triangles .entry)) (now (links .entry)) (now (slots .entry))) ⌝ }
+    requires { ⌜ Within (sizeOf (scene .dims)) × Starts (sizeOf (scene .dims)) (row .first) (row .y) (row .z)
+        × Side (sceneOf scene [] [] (now cubes)) (now grid) (row .first) key
+        × (span (sceneOf scene [] [] (now cubes)) * (q + 1) ≤ length (now vertices)) ⌝ }
+    ensures { λ _. ⌜ now (vertices .exit) ≡ put (span (sceneOf scene [] [] (now (cubes .entry))) * q)
+        (wordRow (sceneOf scene [] [] (now (cubes .entry))) (now (grid .entry)) key) (now (vertices .entry)) ⌝ }
 {
-    write_place(vertices, cube, floats, face, x, y, z, dx, dy, dz, q);
-    write_pattern(triangles, q);
-    write_link(links, cell, face, q);
-    write_slot(slots, key(cell, face) as usize, q);
+    let cell = key / 6;
+    let here = cell as usize;
+    let floats = floats_of(scene.coloured);
+    let words = 24 * floats;
+    let start = words * wide(grid[here]);
+    let end = start + words;
+    let at = Coordinates {
+        x: cell - row.first,
+        y: row.y,
+        z: row.z,
+    };
+    write_place(
+        vertices,
+        &cubes[start..end],
+        floats,
+        face_at(key % 6),
+        at,
+        scene.d,
+        q,
+    );
 }
 
-// Draws a face at place q if it is in the set, and answers the next place.
-fn draw_face(
+// Writes the quads of faces of a row at the places from `base` on.
+pub fn vertex_row(
     vertices: &mut [u32],
-    triangles: &mut [u32],
-    links: &mut [u32],
-    slots: &mut [u32],
-    cube: &[u32],
-    floats: usize,
-    cell: Cell,
-    face: Face,
-    x: u32,
-    y: u32,
-    z: u32,
-    dx: u32,
-    dy: u32,
-    dz: u32,
-    set: u8,
-    q: usize,
-) -> usize
-    requires { ⌜ (has set (number face) ≡ true → Drawable (now cube) floats (cordsOf x y z) (cordsOf dx dy dz) × Room (4 * floats) (q + 1) (listsOf (now vertices) (now triangles) (now links) (now slots)))
-        × Slotted (cell .0) (listsOf (now vertices) (now triangles) (now links) (now slots)) ⌝ }
-    ensures { λ r. ⌜ (r ≡ q + cond (has set (number face)) 1 0)
-        × (listsOf (now (vertices .exit)) (now (triangles .exit)) (now (links .exit)) (now (slots .exit))
-        ≡ cond (has set (number face)) (drawnAt (4 * floats) q (quadOf (now (cube .entry)) floats (cordsOf dx dy dz) (cordsOf x y z) (cell .0) (number face)) (listsOf (now (vertices .entry)) (now (triangles .entry)) (now (links .entry)) (now (slots .entry))))
-        (listsOf (now (vertices .entry)) (now (triangles .entry)) (now (links .entry)) (now (slots .entry)))) ⌝ }
-{
-    if has(set, face) {
-        draw_quad(
-            vertices,
-            triangles,
-            links,
-            slots,
-            cube,
-            floats,
-            cell,
-            face,
-            x,
-            y,
-            z,
-            dx,
-            dy,
-            dz,
-            q,
-        );
-        return q + 1;
-    }
-    q
-}
-
-// Draws the faces of a cell that are in the set, the first at place `base`, and answers the place after them. The others stay bare.
-pub fn draw_cell(
-    vertices: &mut [u32],
-    triangles: &mut [u32],
-    links: &mut [u32],
-    slots: &mut [u32],
-    cube: &[u32],
-    floats: usize,
-    cell: Cell,
-    x: u32,
-    y: u32,
-    z: u32,
-    dx: u32,
-    dy: u32,
-    dz: u32,
-    set: u8,
+    scene: Scene,
+    cubes: &[u32],
+    grid: &[u8],
+    keys: &[u32],
+    row: Row,
     base: usize,
-) -> usize
-    requires { ⌜ Ready (now cube) floats (cordsOf x y z) (cordsOf dx dy dz) set base (cell .0) (listsOf (now vertices) (now triangles) (now links) (now slots))
-        × Bare (cell .0) (listsOf (now vertices) (now triangles) (now links) (now slots)) ⌝ }
-    ensures { λ r. ⌜ (r ≡ base + quadsOf set)
-        × (listsOf (now (vertices .exit)) (now (triangles .exit)) (now (links .exit)) (now (slots .exit))
-        ≡ facesDrawn (4 * floats) set (quadOf (now (cube .entry)) floats (cordsOf dx dy dz) (cordsOf x y z) (cell .0))
-        base (cell .0) 0 6 (listsOf (now (vertices .entry)) (now (triangles .entry)) (now (links .entry)) (now (slots .entry)))) ⌝ }
+)
+    requires { ⌜ Within (sizeOf (scene .dims)) × Starts (sizeOf (scene .dims)) (row .first) (row .y) (row .z)
+        × ((i : ℕ) → i < length (now keys) → Side (sceneOf scene [] [] (now cubes)) (now grid) (row .first) (getD (now keys) i 0))
+        × (span (sceneOf scene [] [] (now cubes)) * (base + length (now keys)) ≤ length (now vertices))
+        × (4 * (base + length (now keys)) ≤ NONE) ⌝ }
+    ensures { λ _. ⌜ now (vertices .exit) ≡ put (span (sceneOf scene [] [] (now (cubes .entry))) * base)
+        (rowsOf (wordRow (sceneOf scene [] [] (now (cubes .entry))) (now (grid .entry))) (now (keys .entry))) (now (vertices .entry)) ⌝ }
 {
-    let mut q = base;
-    let mut f: u32 = 0;
-    while f < 6 {
-        let face = face_at(f);
-        q = draw_face(
-            vertices,
-            triangles,
-            links,
-            slots,
-            cube,
-            floats,
-            cell,
-            face,
-            x,
-            y,
-            z,
-            dx,
-            dy,
-            dz,
-            set,
-            q,
-        );
-        f += 1;
+    let mut i: usize = 0;
+    while i < keys.len() {
+        write_side(vertices, scene, cubes, grid, row, keys[i], base + i);
+        i += 1;
     }
-    q
 }

@@ -1,4 +1,4 @@
--- Cells drawn by their side sets are the fresh mesh of 01. Assumes nothing.
+-- The side sets of a fresh mesh, by the outer list and by its set, and how many quads they ask for. Assumes nothing.
 use mathlib.Core.Path.{_≡_, refl, sym, ap, _∙_}
 use mathlib.Core.Logic.{_≢_}
 use mathlib.Core.Bool.{Bool, true, false, cond}
@@ -9,17 +9,14 @@ use native.Mathlib.Omega.{arith}
 use lib.ListN.{length}
 use borrow.Author.Tests.{eq-eqb, ne-eqb}
 use Rattle.rules.specs.Lists.{each, only, member, count}
-use Rattle.rules.specs.Cells.{cells, has, quadsOf, neighbour}
-use Rattle.rules.specs.Mesh.{Quad, World, Lists, quadAt, quadsBy, meshBy, isNormalCube, typeAt, shown, layout}
-use Rattle.rules.specs.Calls.{Scene, world, span, faces, freshMesh}
-use Rattle.rules.proofs.ListLaws.{members, read-one, split, each-same}
+use Rattle.rules.specs.Cells.{has, quadsOf, neighbour}
+use Rattle.rules.specs.Mesh.{World, meshBy, isNormalCube, typeAt, shown}
+use Rattle.rules.specs.Calls.{Scene, world, freshMesh}
+use Rattle.rules.proofs.ListLaws.{members, read-one, split}
 use Rattle.rules.proofs.Sets.{has-setOf, set-is, setOf-lt}
-use Rattle.rules.proofs.Demands.{words-sized}
-use Rattle.drawing.specs.Drawn.{facesDrawn, cellsDrawn, asked}
-use Rattle.drawing.proofs.Laid.{Rooms, cellQuads, asked-is, drawn-is-layout}
 use Rattle.culling.specs.Culling.{outerSet}
 use Rattle.culling.proofs.Sides.{setOf-cong}
-use Rattle.meshem.specs.Fresh.{sideDrawn, setAt, facesOf}
+use Rattle.meshem.specs.Fresh.{sideDrawn, setAt, facesOf, asked}
 
 -- ---- the outer list by its set
 member-faces : (set f : ℕ) → f < 6 → member f (facesOf set) ≡ has set f
@@ -67,7 +64,7 @@ unfolding setAt
 set-below culling W outer g c = setOf-lt (sideDrawn culling W outer g c)
 
 -- ---- counting, cell by cell
-few-below : (p : ℕ → Bool) (n : ℕ) → count n p ≤ n
+pub few-below : (p : ℕ → Bool) (n : ℕ) → count n p ≤ n
 unfolding count
 few-below p zero = omega arith
 few-below p (suc n) =
@@ -87,54 +84,13 @@ pub asked-none : (sets : ℕ → ℕ) (n c : ℕ) → n ≤ c → asked sets c (
 unfolding asked
 asked-none sets n c h = let a : n - c ≡ 0 = omega arith in rw a
 
--- sets that are the same ask for, and draw, the same
+-- sets that are the same ask for the same
 pub asked-cong : (n c : ℕ) (s t : ℕ → ℕ) → ((k : ℕ) → s k ≡ t k) → asked s c n ≡ asked t c n
 unfolding asked
 asked-cong zero c s t e = refl
 asked-cong (suc n) c s t e = rw (e c, asked-cong n (suc c) s t e)
 
-pub drawn-cong : (w : ℕ) (quad : ℕ → ℕ → Quad) (n base c : ℕ) (s t : ℕ → ℕ) → ((k : ℕ) → s k ≡ t k) → (B : Lists)
-    → cellsDrawn w s quad base c n B ≡ cellsDrawn w t quad base c n B
-unfolding cellsDrawn
-drawn-cong w quad zero base c s t e B = refl
-drawn-cong w quad (suc n) base c s t e B = rw (e c) (drawn-cong w quad n (base + quadsOf (t c)) (suc c) s t e (facesDrawn w (t c) (quad c) base c 0 6 B))
-
 -- both algorithms are one test
-fresh-by : (S : Scene) (outer g : List ℕ) (culling : Bool) → freshMesh S outer g culling ≡ meshBy (world S) (sideDrawn culling (world S) outer g) g
+pub fresh-by : (S : Scene) (outer g : List ℕ) (culling : Bool) → freshMesh S outer g culling ≡ meshBy (world S) (sideDrawn culling (world S) outer g) g
 fresh-by S outer g true = refl
 fresh-by S outer g false = refl
-
-module _ (S : Scene) (outer g : List ℕ) (culling : Bool) (R : ℕ) (B : Lists) (rooms : Rooms (span S) R (faces S) B) where
-  abbrev sets : ℕ → ℕ
-  sets = setAt culling (world S) outer g
-
-  sized : (c f : ℕ) → length ((quadAt (world S) g c f) .words) ≡ span S
-  sized c f = words-sized S (typeAt g c) f c
-
-  -- the quads of a cell's side set are those that the test draws
-  cell-is : (c : ℕ) → cellQuads (span S) R (cells (S .size)) B rooms sets (quadAt (world S) g) (λ c f. refl) sized c
-      ≡ quadsBy (world S) (sideDrawn culling (world S) outer g) g c
-  unfolding setAt
-  cell-is c =
-      each-same 6 0 (λ f. only (has (sets c) f) (quadAt (world S) g c f)) (λ f. only (sideDrawn culling (world S) outer g c f) (quadAt (world S) g c f))
-      (λ f a b. rw (has-setOf (sideDrawn culling (world S) outer g c) f (omega arith)))
-
-  all-cells : each (cells (S .size)) 0 (cellQuads (span S) R (cells (S .size)) B rooms sets (quadAt (world S) g) (λ c f. refl) sized) ≡ freshMesh S outer g culling
-  unfolding meshBy
-  all-cells =
-      each-same (cells (S .size)) 0 (cellQuads (span S) R (cells (S .size)) B rooms sets (quadAt (world S) g) (λ c f. refl) sized)
-      (quadsBy (world S) (sideDrawn culling (world S) outer g) g) (λ c a b. cell-is c)
-      ∙ sym (fresh-by S outer g culling)
-
-  -- LAW: the side sets ask for as many quads as a fresh mesh has
-  pub asked-fresh : asked sets 0 (cells (S .size)) ≡ length (freshMesh S outer g culling)
-  asked-fresh = asked-is (span S) R (cells (S .size)) B rooms sets (quadAt (world S) g) (λ c f. refl) sized (cells (S .size)) 0 ∙ ap length all-cells
-
-  -- LAW: the cells drawn by their side sets are the layout of the fresh mesh
-  pub drawn-fresh : length (freshMesh S outer g culling) ≤ R
-      → cellsDrawn (span S) sets (quadAt (world S) g) 0 0 (cells (S .size)) B
-      ≡ layout (faces S) (span S) (length (freshMesh S outer g culling)) (freshMesh S outer g culling) B
-  drawn-fresh fit =
-      let e = all-cells in
-      drawn-is-layout (span S) R (cells (S .size)) B rooms sets (quadAt (world S) g) (λ c f. refl) sized (rw e fit)
-      ∙ ap (λ (m : List Quad). layout (faces S) (span S) (length m) m B) e

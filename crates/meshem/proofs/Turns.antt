@@ -1,39 +1,34 @@
--- A cell that asks for quads has its cube, and a row its room. Assumes nothing.
-use mathlib.Core.Path.{_≡_, refl, sym, ap, _∙_}
-use mathlib.Core.Bool.{Bool, true, false}
+-- A face that is drawn has its cube. Assumes nothing.
+use mathlib.Core.Path.{_≡_, refl, sym, ap, _∙_, subst}
+use mathlib.Core.Bool.{Bool, true, false, cond}
 use mathlib.Core.List.{List, []}
-use Prim.Native.Nat.{ℕ, _+_, _-_, _*_, _≤_, _<_}
+use Prim.Native.Nat.{ℕ, zero, suc, _+_, _-_, _*_, _/_, _≤_, _<_}
+use native.Mathlib.Nat.{le-refl, add-zero, add-suc}
 use native.Mathlib.Omega.{arith}
 use lib.ListN.{length, getD}
 use borrow.Author.Tests.{eqb-true, eq-eqb}
 use Rattle.rules.specs.Lists.{count}
-use Rattle.rules.specs.Cells.{cells, coordinates, quadsOf}
+use Rattle.rules.specs.Cells.{cells, coordinates, keyOf, has, rank, quadsOf}
 use Rattle.rules.specs.Types.{floats, cubeOf}
-use Rattle.rules.specs.Mesh.{World, Lists, typeAt, isNormalCube, drawn, quadAt}
-use Rattle.rules.specs.Calls.{Scene, world, span, room}
-use Rattle.rules.specs.Answers.{notACube, roomOf}
-use Rattle.rules.proofs.ListLaws.{split}
+use Rattle.rules.specs.Mesh.{World, typeAt, isNormalCube, drawn}
+use Rattle.rules.specs.Calls.{Scene, world}
+use Rattle.rules.specs.Answers.{notACube}
+use Rattle.rules.proofs.ListLaws.{All, split}
 use Rattle.rules.proofs.Neighbours.{inside-of}
-use Rattle.rules.proofs.Demands.{room-for, words-sized}
 use Rattle.voxel_mesh.proofs.Shapes.{few, row-within}
 use Rattle.types.proofs.Known.{cube-placed}
-use Rattle.admit.specs.declared.Scene as declared
-use Rattle.admit.specs.Scenes.{Typed, sceneOf}
+use Rattle.terms.specs.declared.Scene as declared
+use Rattle.terms.specs.Scenes.{sceneOf}
+use Rattle.lent.specs.Scenes.{Typed}
 use Rattle.culling.specs.Culling.{worldOf}
 use Rattle.culling.specs.Rows.{Whole}
-use Rattle.books.proofs.Books.{within}
+use Rattle.rules.proofs.ListLaws.{within}
 use Rattle.culling.proofs.Sides.{setOf-cong, drawn-by}
 use Rattle.vav.proofs.Laws.{length-part}
-use Rattle.drawing.specs.Drawn.{cellsDrawn, asked, bareCells}
-use Rattle.drawing.proofs.Bare.{kept-bare-cells}
+use Rattle.drawing.specs.Written.{Slotted, Side}
 use Rattle.quads.specs.Quads.{Drawable}
-use Rattle.drawing.specs.Rooms.{Room, Bare}
-use Rattle.drawing.proofs.Turns.{Kept, room-less, room-kept}
-use Rattle.util.specs.Grid.{Starts}
-use Rattle.meshem.specs.Fresh.{setAt, facesOf, Roomy, RowOf, setsFrom, RowReady}
-use Rattle.meshem.proofs.Sets.{set-below}
-use Rattle.util.proofs.Rows.{row-end}
-use Rattle.meshem.proofs.Rows.{asked-le, asked-few, asked-moved, asked-on, kept-cells, bare-cells, drawn-like, drawn-on}
+use Rattle.meshem.specs.Fresh.{setAt, facesOf, keysOf}
+use Rattle.meshem.proofs.Keys.{all-keys, keys-like}
 
 -- the sets ask nothing of the words of quads
 pub set-world : (S : Scene) (culling : Bool) (outer g : List ℕ) (c : ℕ)
@@ -53,6 +48,21 @@ pub cube-asked : (culling : Bool) (W : World) (outer g : List ℕ) (c : ℕ) →
 cube-asked culling W outer g c h =
     split (λ t. isNormalCube W (typeAt g c) ≡ t → getD (W .kinds) (typeAt g c) 0 ≡ 1) (isNormalCube W (typeAt g c))
     (λ s e. eqb-true _ 1 e) (λ s e. let z = none-asked culling W outer g c e in absurd (omega arith)) refl
+
+-- a face of the set is one of its quads
+count-more : (p : ℕ → Bool) (k n : ℕ) → count k p ≤ count (k + n) p
+unfolding count
+count-more p k zero = rw add-zero (le-refl (count k p))
+count-more p k (suc n) = rw add-suc (omega (arith, count-more p k n))
+
+count-next : (p : ℕ → Bool) (k : ℕ) → p k ≡ true → count (suc k) p ≡ count k p + 1
+unfolding count
+count-next p k e = ap (λ (b : Bool). count k p + cond b 1 0) e
+
+rank-below : (set f : ℕ) → has set f ≡ true → f < 6 → rank set f + 1 ≤ quadsOf set
+rank-below set f e h =
+    let all : suc f + (5 - f) ≡ 6 = omega arith in
+    omega (arith, count-next (has set) f e, count-more (has set) (suc f) (5 - f), ap (λ (k : ℕ). count k (has set)) all)
 
 module _ (S : Scene) (culling : Bool) (outer : ℕ) (g : List ℕ) where
   abbrev pub setIn : ℕ → ℕ
@@ -94,61 +104,39 @@ module _ (S : Scene) (culling : Bool) (outer : ℕ) (g : List ℕ) where
         not-refused : getD (S .types .kinds) (typeAt g c) 0 ≡ 1 → notACube (S .types) (S .centre) (typeAt g c) ≡ false
         not-refused k = rw (eq-eqb (getD (S .types .kinds) (typeAt g c) 0) 1 k, types .cube (typeAt g c) type-listed k)
 
--- ---- a row of an accepted scene, when the rows before it are drawn
-module _ (scene : declared.Scene) (kinds covers cubes : List ℕ) (culling : Bool) (outer : ℕ) (g : List ℕ) where
-  abbrev S : Scene
-  S = sceneOf scene kinds covers cubes
+  -- LAW: each face of a row that its side sets draw can be drawn
+  pub row-sides : Whole (S .size) g (length (S .types .kinds)) → Typed S → (c w : ℕ) → w ≡ S .size .w → c + w ≤ cells (S .size)
+      → All (Side S g c) (keysOf setIn c w)
+  row-sides whole types c w e h =
+      all-keys (Side S g c) setIn w c
+      (λ k f a b l shows.
+      let here : keyOf k f / 6 ≡ k = omega arith in
+      let some = rank-below (setIn k) f shows l in
+      let inside : k < cells (S .size) = omega arith in
+      let at = whole .whole in
+      record {
+        from = rw here a;
+        to = rw here (omega arith);
+        inside = rw here (omega arith);
+        cube = rw here (cube-part whole types k inside);
+        drawable = rw here (drawable whole types k inside (omega arith));
+      })
 
-  abbrev sets : ℕ → ℕ
-  sets = setIn S culling outer g
+  -- and by the sets that the code finds
+  pub found-sides : Whole (S .size) g (length (S .types .kinds)) → Typed S → (c w : ℕ) → w ≡ S .size .w → c + w ≤ cells (S .size)
+      → All (Side S g c) (keysOf (setAt culling (worldOf (S .size) (S .types .kinds) (S .types .covers)) (facesOf outer) g) c w)
+  found-sides whole types c w e h =
+      subst (All (Side S g c))
+      (keys-like setIn (setAt culling (worldOf (S .size) (S .types .kinds) (S .types .covers)) (facesOf outer) g) w c
+      (λ k a b. sym (set-world S culling (facesOf outer) g k)))
+      (row-sides whole types c w e h)
 
-  -- the lists when the cells before c are drawn
-  abbrev pub before : ℕ → Lists → Lists
-  before c B = cellsDrawn (span S) sets (quadAt (world S) g) 0 0 c B
+-- a face is drawn from the cubes alone
+pub from-cubes : (scene : declared.Scene) (kinds covers cubes g : List ℕ) (c k : ℕ) → Side (sceneOf scene kinds covers cubes) g c k
+    → Side (sceneOf scene [] [] cubes) g c k
+from-cubes scene kinds covers cubes g c k h =
+    record { from = h .from; to = h .to; inside = h .inside; cube = h .cube; drawable = h .drawable }
 
-  module _ {B : Lists} (r : Roomy S culling outer g B) where
-    room-to : {n : ℕ} → n ≤ cells (S .size) → Room (span S) (asked sets 0 n) B
-    room-to {n} h =
-        let f = room-for S B (asked sets 0 n) (omega (arith, asked-le sets n (cells (S .size)) 0 h, r .quads)) in
-        record { vertices = f .vertices; triangles = f .triangles; links = f .links; numbers = omega (arith, asked-few sets n 0, r .grid .within .most) }
-
-    pub kept-to : {c : ℕ} → c ≤ cells (S .size) → Kept B (before c B)
-    kept-to {c} h = kept-cells (span S) (quadAt (world S) g) sets (λ c f. words-sized S (typeAt g c) f c) c 0 0 B (room-less (omega arith) (room-to h))
-
-    -- bare slots take none of the room
-    pub roomy-bare : Roomy S culling outer g (bareCells 0 (cells (S .size)) B)
-    unfolding bareCells roomOf
-    roomy-bare =
-        let k = kept-bare-cells 0 (cells (S .size)) B (omega (arith, r .slots)) in
-        record { grid = r .grid; types = r .types; few = r .few; slots = omega (arith, k .slots, r .slots); quads = r .quads }
-
-    module _ (bare : (c : ℕ) → c < cells (S .size) → Bare c B) {c y z : ℕ} (starts : Starts (S .size) c y z) (list : List ℕ) (row : RowOf sets c (S .size .w) list) where
-      end : c + S .size .w ≤ cells (S .size)
-      end = row-end (S .size) (r .grid .within) starts
-
-      pub asked-is : asked (setsFrom c list) c (S .size .w) ≡ asked sets c (S .size .w)
-      asked-is = asked-moved (setsFrom c list) sets (S .size .w) c c (λ x h. ap (λ (k : ℕ). getD list k 0) (omega arith) ∙ row x h)
-
-      pub row-ready : S .size .w ≤ length list → RowReady (sceneOf scene [] [] cubes) g list c (asked sets 0 c) (before c B)
-      row-ready wide =
-          let k = kept-to {c = c} (omega (arith, end)) in
-          let a = asked-on sets c (S .size .w) in
-          record {
-            within = r .grid .within;
-            whole = r .grid .whole;
-            wide = wide;
-            few = λ x h. rw (row x h) (set-below culling (world S) (facesOf outer) g (c + x));
-            cube = λ x h. cube-part S culling outer g (r .grid) (r .types) (c + x) (omega (arith, end));
-            drawable = λ x h q. drawable S culling outer g (r .grid) (r .types) (c + x) (omega (arith, end)) (rw (row x h) at q);
-            room = room-kept k (room-less (omega (arith, asked-is)) (room-to end));
-            slots = omega (arith, k .slots, r .slots, end);
-            bare = λ x h. bare-cells (span S) (quadAt (world S) g) sets (λ c f. refl) c 0 0 (c + x) B (omega arith) (bare (c + x) (omega (arith, end)));
-          }
-
-      pub row-drawn : {A : Lists} → A ≡ cellsDrawn (span S) (setsFrom c list) (quadAt (world S) g) (asked sets 0 c) c (S .size .w) (before c B) → A ≡ before (c + S .size .w) B
-      row-drawn e =
-          e ∙ drawn-like (span S) (quadAt (world S) g) (S .size .w) (asked sets 0 c) c (setsFrom c list) sets (λ k l h. at-cell k l h) (before c B)
-          ∙ drawn-on (span S) (quadAt (world S) g) sets c (S .size .w) B
-        where
-          at-cell : (k : ℕ) → c ≤ k → k < c + S .size .w → setsFrom c list k ≡ sets k
-          at-cell k l h = row (k - c) (omega arith) ∙ ap sets (omega arith)
+-- LAW: and each has its slot
+pub row-slots : (sets : ℕ → ℕ) (c w n : ℕ) → 6 * (c + w) ≤ n → c + w ≤ 1048576 → All (Slotted n) (keysOf sets c w)
+row-slots sets c w n h l = all-keys (Slotted n) sets w c (λ k f a b u shows. (omega arith, omega arith))

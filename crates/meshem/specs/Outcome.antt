@@ -1,16 +1,9 @@
 -- The call's answer with the lists at exit, as the rules see them. Definitions only.
-use mathlib.Core.Bool.{Bool, true, false}
 use Rattle.rules.specs.Mesh.{Lists}
 use Rattle.rules.specs.Calls.{Answer, answered, refused, Outcome}
 use Rattle.answers.specs.Verdicts.{numberOf}
-use Rattle.meshem.specs.declared.MeshingAlgorithm.{MeshingAlgorithm}
-use Rattle.meshem.specs.declared.MeshingAlgorithm.the-variants.{Naive, Culling}
 use Rattle.meshem.specs.declared.Meshed.{Meshed}
 use Rattle.meshem.specs.declared.Meshed.the-variants.{Done, Refused}
-
-abbrev pub isCulling : MeshingAlgorithm → Bool
-isCulling Naive = false
-isCulling Culling = true
 
 -- 01's number, place and count for each answer
 abbrev pub answerOf : Meshed → Answer

@@ -1,58 +1,48 @@
-// Fresh meshing: each cell's sides to draw as a side set, first counted, then drawn.
-use admit::Scene;
-use admit::input_verdict;
-use admit::room_of;
+// Fresh meshing: each cell's sides to draw as a side set, first counted, then listed by row and written.
 use answers::Refusal;
 use answers::Verdict;
+use culling::Look;
 use culling::clear_types;
 use culling::drawn_row;
 use culling::full_from;
 use culling::outer_set;
 use culling::sides_along;
-use drawing::draw_cell;
+use drawing::index_row;
+use drawing::vertex_row;
+use drawing::write_patterns;
 use face::Cell;
+use face::face_at;
+use face::has;
+use face::key;
 use face::quads_of;
+use lent::input_verdict;
+use lent::room_of;
 use mesh_metadata::new;
+use terms::Lengths;
+use terms::MeshingAlgorithm;
+use terms::Scene;
 use util::Dimensions;
 use util::Row;
-use voxel_mesh::floats_of;
 ghost use mathlib.Core.Path.{_≡_};
 ghost use mathlib.Core.Bool.{false};
-ghost use mathlib.Core.List.{List, []};
+ghost use mathlib.Core.List.{List, _++_};
 ghost use Prim.Native.Nat.{ℕ, _+_, _*_, _≤_, _<_};
-ghost use lib.ListN.{length, getD};
-ghost use Rattle.rules.specs.Cells.{cells, quadsOf, coordinates};
-ghost use Rattle.rules.specs.Mesh.{quadAt, listsOf};
-ghost use Rattle.rules.specs.Calls.{world, span, meshGrid};
-ghost use Rattle.util.specs.Grid.{sizeOf, cordsOf, Starts};
-ghost use Rattle.admit.specs.Scenes.{sceneOf};
+ghost use lib.ListN.{length, getD, take};
+ghost use Rattle.rules.specs.Cells.{cells, quadsOf};
+ghost use Rattle.rules.specs.Mesh.{listsOf};
+ghost use Rattle.rules.specs.Calls.{meshGrid};
+ghost use Rattle.util.specs.Grid.{sizeOf, Starts};
+ghost use Rattle.terms.specs.Scenes.{sceneOf};
 ghost use Rattle.culling.specs.Culling.{worldOf};
 ghost use Rattle.culling.specs.Rows.{Whole, Along};
-ghost use Rattle.drawing.specs.Rooms.{Bare};
-ghost use Rattle.drawing.specs.Drawn.{facesDrawn, cellsDrawn, asked};
-ghost use Rattle.meshem.specs.Fresh.{setAt, facesOf, Rows, RowOf, setsFrom, Roomy, CellReady, RowReady};
-ghost use Rattle.meshem.specs.Outcome.{isCulling, outcome};
-
-pub enum MeshingAlgorithm {
-    Naive,
-    Culling,
-}
+ghost use Rattle.meshem.specs.Fresh.{setAt, facesOf, Rows, RowOf, setsFrom, asked, cellKeys, keysOf};
+ghost use Rattle.meshem.specs.Outcome.{outcome};
+ghost use Rattle.terms.specs.Modes.{isCulling};
 
 // What the call answers.
 pub enum Meshed {
     Done(usize),
     Refused(Refusal, usize),
-}
-
-impl MeshingAlgorithm {
-    fn is_culling(self) -> bool
-        ensures { λ r. ⌜ r ≡ isCulling self ⌝ }
-    {
-        match self {
-            MeshingAlgorithm::Naive => false,
-            MeshingAlgorithm::Culling => true,
-        }
-    }
 }
 
 fn wide(x: u8) -> usize
@@ -81,38 +71,22 @@ fn side_row(
     sets: &mut [u8],
     dims: Dimensions,
     culling: bool,
-    outer: u8,
+    look: Look,
     along: &[u8],
     grid: &[u8],
     kinds: &[u8],
     covers: &[u8],
-    clear: u8,
-    full: u8,
-    first: u32,
-    y: u32,
-    z: u32,
+    row: Row,
 )
-    requires { ⌜ Rows (sizeOf dims) (now grid) (now kinds) (now covers) clear full × (outer < 64)
-        × Starts (sizeOf dims) first y z × (dims .width ≤ length (now sets)) × Along (dims .width) (now along) ⌝ }
-    ensures { λ _. ⌜ RowOf (setAt culling (worldOf (sizeOf dims) (now (kinds .entry)) (now (covers .entry))) (facesOf outer) (now (grid .entry))) first (dims .width) (now (sets .exit)) ⌝ }
+    requires { ⌜ Rows (sizeOf dims) (now grid) (now kinds) (now covers) (look .clear) (look .full) × (look .outer < 64)
+        × Starts (sizeOf dims) (row .first) (row .y) (row .z) × (dims .width ≤ length (now sets)) × Along (dims .width) (now along) ⌝ }
+    ensures { λ _. ⌜ RowOf (setAt culling (worldOf (sizeOf dims) (now (kinds .entry)) (now (covers .entry))) (facesOf (look .outer)) (now (grid .entry))) (row .first) (dims .width) (now (sets .exit)) ⌝ }
 {
     if culling {
-        drawn_row(
-            sets,
-            dims,
-            outer,
-            along,
-            grid,
-            kinds,
-            covers,
-            clear,
-            full,
-            y,
-            z,
-        );
+        drawn_row(sets, dims, look, along, grid, kinds, covers, row.y, row.z);
         return;
     }
-    cube_row(sets, dims, grid, kinds, first);
+    cube_row(sets, dims, grid, kinds, row.first);
 }
 
 // How many quads few sets ask for: a byte holds it, so that they are added up many at once.
@@ -156,19 +130,17 @@ fn quads_in(sets: &[u8]) -> u32
 fn count_quads(
     dims: Dimensions,
     culling: bool,
-    outer: u8,
+    look: Look,
     along: &[u8],
     grid: &[u8],
     kinds: &[u8],
     covers: &[u8],
     sets: &mut [u8],
 ) -> usize
-    requires { ⌜ Whole (sizeOf dims) (now grid) (length (now covers)) × (length (now covers) ≡ length (now kinds)) × (outer < 64)
-        × (dims .width ≤ length (now sets)) × (length (now kinds) ≤ 255) × Along (dims .width) (now along) ⌝ }
-    ensures { λ r. ⌜ r ≡ asked (setAt culling (worldOf (sizeOf dims) (now (kinds .entry)) (now (covers .entry))) (facesOf outer) (now (grid .entry))) 0 (cells (sizeOf dims)) ⌝ }
+    requires { ⌜ Rows (sizeOf dims) (now grid) (now kinds) (now covers) (look .clear) (look .full) × (look .outer < 64)
+        × (dims .width ≤ length (now sets)) × Along (dims .width) (now along) ⌝ }
+    ensures { λ r. ⌜ r ≡ asked (setAt culling (worldOf (sizeOf dims) (now (kinds .entry)) (now (covers .entry))) (facesOf (look .outer)) (now (grid .entry))) 0 (cells (sizeOf dims)) ⌝ }
 {
-    let clear = clear_types(kinds, covers);
-    let full = full_from(kinds, covers);
     let width = dims.width as usize;
     let end = dims.cell_count();
     let mut n: usize = 0;
@@ -178,243 +150,48 @@ fn count_quads(
         z: 0,
     };
     while row.first < end {
-        side_row(
-            sets,
-            dims,
-            culling,
-            outer,
-            along,
-            grid,
-            kinds,
-            covers,
-            clear,
-            full,
-            row.first,
-            row.y,
-            row.z,
-        );
+        side_row(sets, dims, culling, look, along, grid, kinds, covers, row);
         n += quads_in(&sets[..width]) as usize;
         row = row.next(dims);
     }
     n
 }
 
-// Draws the sides of a cell from place `base` on, and answers the place after them.
-fn draw_sides(
-    vertices: &mut [u32],
-    triangles: &mut [u32],
-    links: &mut [u32],
-    slots: &mut [u32],
-    scene: Scene,
-    grid: &[u8],
-    cubes: &[u32],
-    cell: Cell,
-    x: u32,
-    y: u32,
-    z: u32,
-    set: u8,
-    base: usize,
-) -> usize
-    requires { ⌜ CellReady (sceneOf scene [] [] (now cubes)) (now grid) set (cell .0) base
-        (listsOf (now vertices) (now triangles) (now links) (now slots))
-        × (cordsOf x y z ≡ coordinates (sizeOf (scene .dims)) (cell .0)) ⌝ }
-    ensures { λ r. ⌜ (r ≡ base + quadsOf set)
-        × (listsOf (now (vertices .exit)) (now (triangles .exit)) (now (links .exit)) (now (slots .exit))
-        ≡ facesDrawn (span (sceneOf scene [] [] (now (cubes .entry)))) set (quadAt (world (sceneOf scene [] [] (now (cubes .entry)))) (now (grid .entry)) (cell .0)) base (cell .0) 0 6
-        (listsOf (now (vertices .entry)) (now (triangles .entry)) (now (links .entry)) (now (slots .entry)))) ⌝ }
+// Lists the faces of a cell that are in its set, by their keys, from the n-th key on, and answers how many keys there are then.
+fn key_cell(keys: &mut [u32], cell: Cell, set: u8, n: usize) -> usize
+    requires { ⌜ (n + 6 ≤ length (now keys)) × (cell .0 < 1048576) ⌝ }
+    ensures { λ r. ⌜ (r ≡ n + quadsOf set) × (take r (now (keys .exit)) ≡ take n (now (keys .entry)) ++ cellKeys set (cell .0)) ⌝ }
 {
     if set == 0 {
-        return base;
+        return n;
     }
-    let floats = floats_of(scene.coloured);
-    let here = cell.0 as usize;
-    let words = 24 * floats;
-    let start = words * wide(grid[here]);
-    let end = start + words;
-    let d = scene.d;
-    draw_cell(
-        vertices,
-        triangles,
-        links,
-        slots,
-        &cubes[start..end],
-        floats,
-        cell,
-        x,
-        y,
-        z,
-        d.x,
-        d.y,
-        d.z,
-        set,
-        base,
-    )
+    let mut at = n;
+    let mut f: u32 = 0;
+    while f < 6 {
+        let face = face_at(f);
+        keys[at] = key(cell, face);
+        at += has(set, face) as usize;
+        f += 1;
+    }
+    at
 }
 
-// Draws a row of cells by their sets from place `base` on, and answers the place after them.
-fn draw_row(
-    vertices: &mut [u32],
-    triangles: &mut [u32],
-    links: &mut [u32],
-    slots: &mut [u32],
-    scene: Scene,
-    grid: &[u8],
-    cubes: &[u32],
-    sets: &[u8],
-    first: u32,
-    y: u32,
-    z: u32,
-    base: usize,
-) -> usize
-    requires { ⌜ RowReady (sceneOf scene [] [] (now cubes)) (now grid) (now sets) first base
-        (listsOf (now vertices) (now triangles) (now links) (now slots))
-        × Starts (sizeOf (scene .dims)) first y z ⌝ }
-    ensures { λ r. ⌜ (r ≡ base + asked (setsFrom first (now (sets .entry))) first (scene .dims .width))
-        × (listsOf (now (vertices .exit)) (now (triangles .exit)) (now (links .exit)) (now (slots .exit))
-        ≡ cellsDrawn (span (sceneOf scene [] [] (now (cubes .entry)))) (setsFrom first (now (sets .entry))) (quadAt (world (sceneOf scene [] [] (now (cubes .entry)))) (now (grid .entry))) base first (scene .dims .width)
-        (listsOf (now (vertices .entry)) (now (triangles .entry)) (now (links .entry)) (now (slots .entry)))) ⌝ }
+// Lists the faces of a row's cells that are in their sets, and answers how many there are.
+fn key_row(keys: &mut [u32], sets: &[u8], first: u32) -> usize
+    requires { ⌜ (6 * length (now sets) ≤ length (now keys)) × (first + length (now sets) ≤ 1048576) ⌝ }
+    ensures { λ r. ⌜ (r ≡ asked (setsFrom first (now (sets .entry))) first (length (now (sets .entry))))
+        × (take r (now (keys .exit)) ≡ keysOf (setsFrom first (now (sets .entry))) first (length (now (sets .entry)))) ⌝ }
 {
-    let dims = scene.dims;
-    let mut place = base;
-    let mut x: u32 = 0;
-    while x < dims.width {
-        let at = x as usize;
-        place = draw_sides(
-            vertices,
-            triangles,
-            links,
-            slots,
-            scene,
-            grid,
-            cubes,
-            Cell(first + x),
-            x,
-            y,
-            z,
-            sets[at],
-            place,
-        );
+    let mut n: usize = 0;
+    let mut x: usize = 0;
+    while x < sets.len() {
+        n = key_cell(keys, Cell(first + x as u32), sets[x], n);
         x += 1;
     }
-    place
+    n
 }
 
-// Draws every cell, row by row, into bare slots; `sets` is room for a row.
-fn draw_rows(
-    vertices: &mut [u32],
-    triangles: &mut [u32],
-    links: &mut [u32],
-    slots: &mut [u32],
-    scene: Scene,
-    culling: bool,
-    outer: u8,
-    along: &[u8],
-    grid: &[u8],
-    kinds: &[u8],
-    covers: &[u8],
-    cubes: &[u32],
-    sets: &mut [u8],
-)
-    requires { ⌜ Roomy (sceneOf scene (now kinds) (now covers) (now cubes)) culling outer (now grid)
-        (listsOf (now vertices) (now triangles) (now links) (now slots)) × (scene .dims .width ≤ length (now sets))
-        × ((c : ℕ) → c < cells (sizeOf (scene .dims)) → Bare c (listsOf (now vertices) (now triangles) (now links) (now slots)))
-        × Along (scene .dims .width) (now along) ⌝ }
-    ensures { λ _. ⌜ listsOf (now (vertices .exit)) (now (triangles .exit)) (now (links .exit)) (now (slots .exit))
-        ≡ cellsDrawn (span (sceneOf scene (now (kinds .entry)) (now (covers .entry)) (now (cubes .entry))))
-        (setAt culling (world (sceneOf scene (now (kinds .entry)) (now (covers .entry)) (now (cubes .entry)))) (facesOf outer) (now (grid .entry)))
-        (quadAt (world (sceneOf scene (now (kinds .entry)) (now (covers .entry)) (now (cubes .entry)))) (now (grid .entry))) 0 0 (cells (sizeOf (scene .dims)))
-        (listsOf (now (vertices .entry)) (now (triangles .entry)) (now (links .entry)) (now (slots .entry))) ⌝ }
-{
-    let dims = scene.dims;
-    let end = dims.cell_count();
-    let clear = clear_types(kinds, covers);
-    let full = full_from(kinds, covers);
-    let mut base: usize = 0;
-    let mut row = Row {
-        first: 0,
-        y: 0,
-        z: 0,
-    };
-    while row.first < end {
-        side_row(
-            sets,
-            dims,
-            culling,
-            outer,
-            along,
-            grid,
-            kinds,
-            covers,
-            clear,
-            full,
-            row.first,
-            row.y,
-            row.z,
-        );
-        base = draw_row(
-            vertices,
-            triangles,
-            links,
-            slots,
-            scene,
-            grid,
-            cubes,
-            sets,
-            row.first,
-            row.y,
-            row.z,
-            base,
-        );
-        row = row.next(dims);
-    }
-}
-
-// Draws every cell: first no face has a quad.
-fn draw_cells(
-    vertices: &mut [u32],
-    triangles: &mut [u32],
-    links: &mut [u32],
-    slots: &mut [u32],
-    scene: Scene,
-    culling: bool,
-    outer: u8,
-    along: &[u8],
-    grid: &[u8],
-    kinds: &[u8],
-    covers: &[u8],
-    cubes: &[u32],
-    sets: &mut [u8],
-)
-    requires { ⌜ Roomy (sceneOf scene (now kinds) (now covers) (now cubes)) culling outer (now grid)
-        (listsOf (now vertices) (now triangles) (now links) (now slots)) × (scene .dims .width ≤ length (now sets))
-        × Along (scene .dims .width) (now along) ⌝ }
-    ensures { λ _. ⌜ listsOf (now (vertices .exit)) (now (triangles .exit)) (now (links .exit)) (now (slots .exit))
-        ≡ cellsDrawn (span (sceneOf scene (now (kinds .entry)) (now (covers .entry)) (now (cubes .entry))))
-        (setAt culling (world (sceneOf scene (now (kinds .entry)) (now (covers .entry)) (now (cubes .entry)))) (facesOf outer) (now (grid .entry)))
-        (quadAt (world (sceneOf scene (now (kinds .entry)) (now (covers .entry)) (now (cubes .entry)))) (now (grid .entry))) 0 0 (cells (sizeOf (scene .dims)))
-        (listsOf (now (vertices .entry)) (now (triangles .entry)) (now (links .entry)) (now (slots .entry))) ⌝ }
-{
-    let dims = scene.dims;
-    let six = 6 * dims.cell_count() as usize;
-    new(&mut slots[..six]);
-    draw_rows(
-        vertices,
-        triangles,
-        links,
-        slots,
-        scene,
-        culling,
-        outer,
-        along,
-        grid,
-        kinds,
-        covers,
-        cubes,
-        sets,
-    );
-}
-
-// Meshes a grid into the lent lists, or refuses and writes nothing.
+// Meshes a grid into the lent lists, or refuses and writes nothing. A row's faces are listed first, then written into each list by itself.
 pub fn mesh_grid(
     scene: Scene,
     outer: &[u8],
@@ -436,39 +213,56 @@ pub fn mesh_grid(
     if let Verdict::Refuse(why, place) = told {
         return Meshed::Refused(why, place);
     }
+    let dims = scene.dims;
     let culling = algorithm.is_culling();
-    let sides = outer_set(outer);
+    let look = Look {
+        outer: outer_set(outer),
+        clear: clear_types(kinds, covers),
+        full: full_from(kinds, covers),
+    };
     let mut along: [u8; 1024] = [0; 1024];
-    sides_along(&mut along, scene.dims.width);
+    sides_along(&mut along, dims.width);
     let mut sets: [u8; 1024] = [0; 1024];
-    let quads = count_quads(
-        scene.dims,
-        culling,
-        sides,
-        &along,
-        grid,
-        kinds,
-        covers,
-        &mut sets,
-    );
-    let room = room_of(scene.coloured, vertices.len(), triangles.len(), links.len());
+    let quads = count_quads(dims, culling, look, &along, grid, kinds, covers, &mut sets);
+    let lengths = Lengths {
+        vertices: vertices.len(),
+        triangles: triangles.len(),
+        links: links.len(),
+        slots: slots.len(),
+    };
+    let room = room_of(scene.coloured, lengths);
     if room < quads {
         return Meshed::Refused(Refusal::NoRoom, 0);
     }
-    draw_cells(
-        vertices,
-        triangles,
-        links,
-        slots,
-        scene,
-        culling,
-        sides,
-        &along,
-        grid,
-        kinds,
-        covers,
-        cubes,
-        &mut sets,
-    );
+    let width = dims.width as usize;
+    let end = dims.cell_count();
+    let six = 6 * end as usize;
+    new(&mut slots[..six]);
+    write_patterns(triangles, 0, quads);
+    let mut keys: [u32; 6144] = [0; 6144];
+    let mut base: usize = 0;
+    let mut row = Row {
+        first: 0,
+        y: 0,
+        z: 0,
+    };
+    while row.first < end {
+        side_row(
+            &mut sets,
+            dims,
+            culling,
+            look,
+            &along,
+            grid,
+            kinds,
+            covers,
+            row,
+        );
+        let n = key_row(&mut keys, &sets[..width], row.first);
+        index_row(links, slots, &keys[..n], base);
+        vertex_row(vertices, scene, cubes, grid, &keys[..n], row, base);
+        base += n;
+        row = row.next(dims);
+    }
     Meshed::Done(quads)
 }

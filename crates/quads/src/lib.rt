@@ -10,7 +10,6 @@ ghost use lib.ListN.{length, getD};
 ghost use Rattle.rules.specs.Cells.{along};
 ghost use Rattle.rules.specs.Types.{order, quadWord, quadWords};
 ghost use Rattle.face.specs.Face.{number};
-ghost use Rattle.util.specs.Grid.{cordsOf};
 ghost use Rattle.util.specs.Grid as grid;
 ghost use Rattle.floats.specs.Triples.{tripleOf};
 ghost use Rattle.types.specs.Tests.{Words};
@@ -105,21 +104,17 @@ fn write_vertex(
     floats: usize,
     vertex: usize,
     to: usize,
-    x: u32,
-    y: u32,
-    z: u32,
-    dx: u32,
-    dy: u32,
-    dz: u32,
+    at: Coordinates,
+    d: Triple,
 )
-    requires { ⌜ Drawable (now cube) floats (cordsOf x y z) (cordsOf dx dy dz) × (vertex < 24) × (to + floats ≤ length (now out)) ⌝ }
-    ensures { λ _. ⌜ now (out .exit) ≡ put to (vertexWords (now (cube .entry)) floats (cordsOf dx dy dz) (cordsOf x y z) vertex) (now (out .entry)) ⌝ }
+    requires { ⌜ Drawable (now cube) floats (grid.tripleOf at) (tripleOf d) × (vertex < 24) × (to + floats ≤ length (now out)) ⌝ }
+    ensures { λ _. ⌜ now (out .exit) ≡ put to (vertexWords (now (cube .entry)) floats (tripleOf d) (grid.tripleOf at) vertex) (now (out .entry)) ⌝ }
 {
-    let a = moved_word(word_of(cube, floats, vertex, 0), x, dx);
-    let b = moved_word(word_of(cube, floats, vertex, 1), y, dy);
-    let c = moved_word(word_of(cube, floats, vertex, 2), z, dz);
-    let d = word_of(cube, floats, vertex, 3);
-    write_four(out, to, a, b, c, d);
+    let x = moved_word(word_of(cube, floats, vertex, 0), at.x, d.x);
+    let y = moved_word(word_of(cube, floats, vertex, 1), at.y, d.y);
+    let z = moved_word(word_of(cube, floats, vertex, 2), at.z, d.z);
+    let after = word_of(cube, floats, vertex, 3);
+    write_four(out, to, x, y, z, after);
     copy_four(out, cube, floats, vertex, 4, to);
     if floats == 8 {
         return;
@@ -133,43 +128,15 @@ pub fn write_quad(
     cube: &[u32],
     floats: usize,
     face: Face,
-    x: u32,
-    y: u32,
-    z: u32,
-    dx: u32,
-    dy: u32,
-    dz: u32,
+    at: Coordinates,
+    d: Triple,
 )
-    requires { ⌜ Drawable (now cube) floats (cordsOf x y z) (cordsOf dx dy dz) × (length (now out) ≡ 4 * floats) ⌝ }
-    ensures { λ _. ⌜ now (out .exit) ≡ quadWords (now (cube .entry)) floats (cordsOf dx dy dz) (number face) (cordsOf x y z) ⌝ }
+    requires { ⌜ Drawable (now cube) floats (grid.tripleOf at) (tripleOf d) × (length (now out) ≡ 4 * floats) ⌝ }
+    ensures { λ _. ⌜ now (out .exit) ≡ quadWords (now (cube .entry)) floats (tripleOf d) (number face) (grid.tripleOf at) ⌝ }
 {
     let first = 4 * (face.number() as usize);
-    write_vertex(out, cube, floats, first, 0, x, y, z, dx, dy, dz);
-    write_vertex(out, cube, floats, first + 1, floats, x, y, z, dx, dy, dz);
-    write_vertex(
-        out,
-        cube,
-        floats,
-        first + 3,
-        2 * floats,
-        x,
-        y,
-        z,
-        dx,
-        dy,
-        dz,
-    );
-    write_vertex(
-        out,
-        cube,
-        floats,
-        first + 2,
-        3 * floats,
-        x,
-        y,
-        z,
-        dx,
-        dy,
-        dz,
-    );
+    write_vertex(out, cube, floats, first, 0, at, d);
+    write_vertex(out, cube, floats, first + 1, floats, at, d);
+    write_vertex(out, cube, floats, first + 3, 2 * floats, at, d);
+    write_vertex(out, cube, floats, first + 2, 3 * floats, at, d);
 }

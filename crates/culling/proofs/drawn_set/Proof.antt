@@ -10,7 +10,7 @@ use Rattle.rules.specs.Cells.{neighbour}
 use Rattle.rules.specs.Mesh.{typeAt, drawn}
 use Rattle.util.specs.Grid.{sizeOf}
 use Rattle.culling.specs.Culling.{worldOf, shownAt}
-use Rattle.books.proofs.Books.{within}
+use Rattle.rules.proofs.ListLaws.{within}
 use Rattle.culling.proofs.Sides.{six-sides, setOf-cong, shown-by}
 use borrow.Author.Needs.{needs}
 use native.Mathlib.Omega.{arith}

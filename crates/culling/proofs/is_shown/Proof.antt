@@ -11,7 +11,7 @@ use Rattle.rules.proofs.Neighbours.{beside}
 use Rattle.face.specs.Face.{number}
 use Rattle.face.proofs.Laws.{number-below}
 use Rattle.util.specs.Grid.{sizeOf, cellIn}
-use Rattle.books.proofs.Books.{within}
+use Rattle.rules.proofs.ListLaws.{within}
 use Rattle.rules.proofs.Sets.{has-setOf}
 use borrow.Author.Needs.{needs}
 use Rattle.culling.proofs.is_shown.Statement.{statement}

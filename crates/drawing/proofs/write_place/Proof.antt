@@ -7,7 +7,8 @@ use borrow.Author.Needs.{needs}
 use Rattle.rules.specs.Types.{quadWords}
 use Rattle.rules.proofs.Rows.{length-lent}
 use Rattle.face.specs.Face.{number}
-use Rattle.util.specs.Grid.{cordsOf}
+use Rattle.util.specs.Grid as grid
+use Rattle.floats.specs.Triples.{tripleOf}
 use Rattle.vav.specs.Rows.{put}
 use Rattle.vav.proofs.Laws.{lent}
 use Rattle.quads.specs.Quads.{Drawable}
@@ -46,7 +47,7 @@ write-quad-requires : tie.Need-write-quad-requires
 write-quad-requires c κs =
     let t = begun (c .before) in
     let a = t .args in (
-      subst (λ (n : ℕ). Drawable (a .cube .now) n (cordsOf (a .x) (a .y) (a .z)) (cordsOf (a .dx) (a .dy) (a .dz))) (c .before .if1 .taken) (t .pre .0),
+      subst (λ (n : ℕ). Drawable (a .cube .now) n (grid.tripleOf (a .at)) (tripleOf (a .d))) (c .before .if1 .taken) (t .pre .0),
       length-lent (32 * a .q) 32 (a .vertices .now) (omega (arith, plain (c .before))),
     )
 
@@ -58,8 +59,8 @@ returns c =
     let wrote = c .before .before in
     let then1 = wrote .before .before in
     let a = begun then1 .args in
-    let d = cordsOf (a .dx) (a .dy) (a .dz) in
-    let at = cordsOf (a .x) (a .y) (a .z) in
+    let d = tripleOf (a .d) in
+    let at = grid.tripleOf (a .at) in
     lent (32 * a .q) 32 (a .vertices .now) (wrote .write-quad .last .0) (quadWords (a .cube .now) 8 d (number (a .face)) at)
     (wrote .write-quad .ensures) (length-quad (a .cube .now) 8 d (number (a .face)) at)
     ∙ ap (λ (n : ℕ). put (4 * n * a .q) (quadWords (a .cube .now) n d (number (a .face)) at) (a .vertices .now)) (sym (then1 .if1 .taken))
@@ -96,8 +97,8 @@ returns-2 c =
     let wrote = c .before .before in
     let a = wrote .before .before .before .before .before .args in
     let n = a .floats in
-    let d = cordsOf (a .dx) (a .dy) (a .dz) in
-    let at = cordsOf (a .x) (a .y) (a .z) in
+    let d = tripleOf (a .d) in
+    let at = grid.tripleOf (a .at) in
     lent (4 * n * a .q) (4 * n) (a .vertices .now) (wrote .write-quad2 .last .0) (quadWords (a .cube .now) n d (number (a .face)) at)
     (wrote .write-quad2 .ensures) (length-quad (a .cube .now) n d (number (a .face)) at)
 

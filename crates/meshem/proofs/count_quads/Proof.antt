@@ -9,8 +9,7 @@ use lib.Seq.{getD-take, length-take-le}
 use Rattle.rules.specs.Cells.{Size, cells, coordinates}
 use Rattle.util.specs.Grid.{Starts, sizeOf, cordsOf}
 use Rattle.culling.specs.Culling.{worldOf}
-use Rattle.drawing.specs.Drawn.{asked}
-use Rattle.meshem.specs.Fresh.{setAt, facesOf}
+use Rattle.meshem.specs.Fresh.{setAt, facesOf, asked}
 use Rattle.meshem.proofs.Sets.{set-below}
 use Rattle.util.proofs.Rows.{first, row-end}
 use Rattle.meshem.proofs.Rows.{asked-few, asked-row, asked-on}
@@ -18,13 +17,13 @@ use Rattle.meshem.proofs.count_quads.Statement.{statement}
 use Rattle.meshem.proofs.count_quads.Tie as tie
 
 abbrev Inv-loop : tie.InvT-loop
-Inv-loop dims culling outer along grid kinds covers sets₀ clear full width end n₀ row₀ sets n row =
+Inv-loop dims culling look along grid kinds covers sets₀ width end n₀ row₀ sets n row =
     (end ≡ cells (sizeOf dims)) × (row .first ≤ end) × (length sets ≡ length sets₀)
-    × (n ≡ asked (setAt culling (worldOf (sizeOf dims) kinds covers) (facesOf outer) grid) 0 (row .first))
+    × (n ≡ asked (setAt culling (worldOf (sizeOf dims) kinds covers) (facesOf (look .outer)) grid) 0 (row .first))
     × (cordsOf 0 (row .y) (row .z) ≡ coordinates (sizeOf dims) (row .first))
 
 abbrev μ-loop : tie.MeasureT-loop
-μ-loop dims culling outer along grid kinds covers sets₀ clear full width end n₀ row₀ sets n row = end - row .first
+μ-loop dims culling look along grid kinds covers sets₀ width end n₀ row₀ sets n row = end - row .first
 
 abbrev start : tie.After-slice-known Inv-loop μ-loop → tie.Start Inv-loop μ-loop
 start c = c .before .before .before .before .before
@@ -33,27 +32,21 @@ abbrev size : tie.Start Inv-loop μ-loop → Size
 size s = sizeOf (s .args .dims)
 
 abbrev sets : tie.Start Inv-loop μ-loop → ℕ → ℕ
-sets s = setAt (s .args .culling) (worldOf (size s) (now (s .args .kinds)) (now (s .args .covers))) (facesOf (s .args .outer)) (now (s .args .grid))
-
-clear-types-requires : tie.Need-clear-types-requires Inv-loop μ-loop
-clear-types-requires c κs = (start c .pre .1, start c .pre .4)
-
-full-from-requires : tie.Need-full-from-requires Inv-loop μ-loop
-full-from-requires c κs = (start (c .before) .pre .1, start (c .before) .pre .4)
+sets s = setAt (s .args .culling) (worldOf (size s) (now (s .args .kinds)) (now (s .args .covers))) (facesOf (s .args .look .outer)) (now (s .args .grid))
 
 cast-width : tie.Need-cast-width Inv-loop μ-loop
 cast-width c = search needs
 
 cell-count-requires : tie.Need-cell-count-requires Inv-loop μ-loop
-cell-count-requires c κs = start (c .before .before .before) .pre .0 .within .sides
+cell-count-requires c κs = start (c .before) .pre .0 .grid .within .sides
 
 loop-holds : tie.Need-loop-holds Inv-loop μ-loop
 unfolding asked
-loop-holds c = (c .cell-count .ensures, omega arith, refl, refl, first (size (start (c .before .before .before .before))))
+loop-holds c = (c .cell-count .ensures, omega arith, refl, refl, first (size (start (c .before .before))))
 
 -- from the loop on: what was given, and the row that starts
 abbrev given : tie.Then1 Inv-loop μ-loop → tie.Start Inv-loop μ-loop
-given i = start (i .before .before .before .before .before .before .before)
+given i = start (i .before .before .before .before .before)
 
 row : (i : tie.Then1 Inv-loop μ-loop) → let l = i .before .before .loop in Starts (size (given i)) (l .row .first) (l .row .y) (l .row .z)
 row i = let l = i .before .before .loop in record { inside = omega (arith, l .inv .0, i .if1 .taken); cords = l .inv .4 }
@@ -61,19 +54,14 @@ row i = let l = i .before .before .loop in record { inside = omega (arith, l .in
 side-row-requires : tie.Need-side-row-requires Inv-loop μ-loop
 side-row-requires c κs =
     let i = c .before in
-    let s = given i in (
-      record { grid = s .pre .0; both = s .pre .1; plain = record { below = i .before .before .before .before .before .before .clear-types .ensures; from = i .before .before .before .before .before .full-from .ensures } },
-      s .pre .2,
-      row i,
-      omega (arith, i .before .before .loop .inv .2, s .pre .3),
-      s .pre .5,
-    )
+    let s = given i in
+    (s .pre .0, s .pre .1, row i, omega (arith, i .before .before .loop .inv .2, s .pre .2), s .pre .3)
 
 -- the list of sets has room for a row
 long-enough : (c : tie.After-side-row Inv-loop μ-loop) → given (c .before .before) .args .dims .width ≤ length (c .side-row .last .0)
 long-enough c =
     let i = c .before .before in
-    omega (arith, c .side-row .kept .0, i .before .before .loop .inv .2, given i .pre .3)
+    omega (arith, c .side-row .kept .0, i .before .before .loop .inv .2, given i .pre .2)
 
 slice-reshare-prefix-quads-in : tie.Need-slice-reshare-prefix-quads-in Inv-loop μ-loop
 slice-reshare-prefix-quads-in c = long-enough (c .before .before)
@@ -89,10 +77,10 @@ quads-in-requires c κs =
     let w = s .args .dims .width in
     let list = r .side-row .last .0 in
     let l = length-take-le w list (long-enough r) in (
-      omega (arith, s .pre .0 .within .sides .widest),
+      omega (arith, s .pre .0 .grid .within .sides .widest),
       λ x h. let k : x < w = omega arith in
           rw (getD-take w list x 0 k, r .side-row .ensures x k)
-          (set-below (s .args .culling) (worldOf (size s) (now (s .args .kinds)) (now (s .args .covers))) (facesOf (s .args .outer)) (now (s .args .grid)) (i .before .before .loop .row .first + x)),
+          (set-below (s .args .culling) (worldOf (size s) (now (s .args .kinds)) (now (s .args .covers))) (facesOf (s .args .look .outer)) (now (s .args .grid)) (i .before .before .loop .row .first + x)),
     )
 
 -- as many as the row's cells ask for
@@ -112,13 +100,13 @@ add-n c =
     let i = c .before .before .before .before .before .before in
     let s = given i in
     let l = i .before .before .loop in
-    omega (arith, l .inv .3, counted c, asked-few (sets s) (l .row .first) 0, asked-few (sets s) (s .args .dims .width) (l .row .first), s .pre .0 .within .most, s .pre .0 .within .sides .widest, l .inv .0, l .inv .1)
+    omega (arith, l .inv .3, counted c, asked-few (sets s) (l .row .first) 0, asked-few (sets s) (s .args .dims .width) (l .row .first), s .pre .0 .grid .within .most, s .pre .0 .grid .within .sides .widest, l .inv .0, l .inv .1)
 
 next-requires : tie.Need-next-requires Inv-loop μ-loop
-next-requires c κs = let i = c .before .before .before .before .before .before in (given i .pre .0 .within, row i)
+next-requires c κs = let i = c .before .before .before .before .before .before in (given i .pre .0 .grid .within, row i)
 
 loop-less : tie.Need-loop-less Inv-loop μ-loop
-loop-less c = let i = c .before .before .before .before .before .before .before in omega (arith, c .next .ensures .0, i .if1 .taken, given i .pre .0 .within .sides .wide)
+loop-less c = let i = c .before .before .before .before .before .before .before in omega (arith, c .next .ensures .0, i .if1 .taken, given i .pre .0 .grid .within .sides .wide)
 
 loop-again : tie.Need-loop-again Inv-loop μ-loop
 loop-again c =
@@ -127,7 +115,7 @@ loop-again c =
     let l = i .before .before .loop in
     let q = c .before in (
       l .inv .0,
-      omega (arith, c .next .ensures .0, row-end (size s) (s .pre .0 .within) (row i), l .inv .0),
+      omega (arith, c .next .ensures .0, row-end (size s) (s .pre .0 .grid .within) (row i), l .inv .0),
       q .before .before .before .before .side-row .kept .0 ∙ l .inv .2,
       rw (c .next .ensures .0) (omega (arith, l .inv .3, counted q, asked-on (sets s) (l .row .first) (s .args .dims .width))),
       c .next .ensures .1,
@@ -139,7 +127,7 @@ same-length c = c .before .before .loop .inv .2
 returns : tie.Need-returns Inv-loop μ-loop
 returns c =
     let l = c .before .before .loop in
-    let s = start (c .before .before .before .before .before .before .before) in
+    let s = start (c .before .before .before .before .before) in
     let e : l .row .first ≡ cells (size s) = omega (arith, l .inv .0, l .inv .1, c .if1 .left) in
     l .inv .3 ∙ ap (asked (sets s) 0) e
 
@@ -149,8 +137,6 @@ count-quads-spec =
     (tie.spec
     Inv-loop
     μ-loop
-    clear-types-requires
-    full-from-requires
     cast-width
     cell-count-requires
     loop-holds

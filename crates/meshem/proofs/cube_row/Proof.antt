@@ -11,7 +11,7 @@ use native.Mathlib.Decide.{ℕ-discrete}
 use lib.Dec.{eqb}
 use lib.ListN.{length, getD, set, length-set}
 use lib.Seq.{getD-set-same, getD-set-other}
-use Rattle.books.proofs.Books.{within}
+use Rattle.rules.proofs.ListLaws.{within}
 use Rattle.meshem.proofs.Sets.{naive-set}
 use Rattle.meshem.proofs.cube_row.Statement.{statement}
 use Rattle.meshem.proofs.cube_row.Tie as tie

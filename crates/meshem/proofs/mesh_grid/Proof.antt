@@ -1,193 +1,487 @@
--- `meshem::mesh_grid` meets its contract: the refusals in their order, then the fresh mesh's layout. Assumes nothing.
-use mathlib.Core.Path.{_≡_, refl, sym, ap, _∙_}
-use Prim.Native.Nat.{_≤_, _<_}
+-- `meshem::mesh_grid` meets its contract: the refusals in their order, then row after row in each list. Assumes nothing.
+use mathlib.Core.Path.{_≡_, refl, sym, ap, _∙_, subst}
+use mathlib.Core.List.{List, _++_}
+use Prim.Native.Nat.{ℕ, _+_, _-_, _*_, _≤_, _<_}
 use borrow.Author.Needs.{needs}
+use native.Mathlib.Nat.{mul-le-mul-left}
 use native.Mathlib.Omega.{arith}
 use denote.Ref.{now}
-use lib.ListN.{length}
+use lib.ListN.{length, take, drop, replicate, length-append, length-drop, length-replicate}
+use lib.Seq.{length-take-le}
 use Rattle.rules.specs.Lists.{member}
-use Rattle.rules.specs.Cells.{cells}
-use Rattle.rules.specs.Mesh.{Lists, listsOf}
+use Rattle.rules.specs.Cells.{cells, coordinates}
+use Rattle.rules.specs.Mesh.{Quad, Lists, NONE, listsOf}
 use Rattle.rules.specs.Answers.{fine}
-use Rattle.rules.specs.Calls.{Scene, answered, world, room, freshMesh}
+use Rattle.rules.specs.Calls.{Scene, answered, span, faces, room, freshMesh}
+use Rattle.rules.proofs.ListLaws.{All, all-at}
 use Rattle.rules.proofs.Sets.{setOf-lt}
+use Rattle.rules.proofs.Demands.{room-for}
 use Rattle.answers.specs.Verdicts.{verdictOf}
-use Rattle.admit.specs.Scenes.{sceneOf, inputVerdict, Admitted}
-use Rattle.admit.proofs.Admitting.{admitted}
-use Rattle.meshem.specs.Fresh.{setAt, facesOf, Roomy}
-use Rattle.meshem.specs.Outcome.{isCulling}
-use Rattle.meshem.proofs.Sets.{asked-cong}
-use Rattle.meshem.proofs.Turns.{set-world}
-use Rattle.meshem.proofs.Whole.{refusing, no-room, done, counted, drew-by}
+use Rattle.util.specs.Grid.{Starts, sizeOf, cordsOf}
+use Rattle.util.proofs.Rows.{first, row-end}
+use Rattle.terms.specs.Scenes.{sceneOf}
+use Rattle.terms.specs.Modes.{isCulling}
+use Rattle.culling.specs.Culling.{worldOf}
+use Rattle.drawing.specs.Written.{Slotted, Side}
+use Rattle.lent.specs.Scenes.{inputVerdict, Admitted}
+use Rattle.lent.proofs.Admitted.{admitted}
+use Rattle.meshem.specs.Fresh.{Rows, setAt, facesOf, asked, keysOf}
+use Rattle.meshem.proofs.Rows.{asked-le, asked-few, asked-on}
+use Rattle.meshem.proofs.Keys.{row-keys, row-asked}
+use Rattle.meshem.proofs.Turns.{found-sides, from-cubes, row-slots}
+use Rattle.meshem.proofs.Drawn.{Drawn, begun, row-more, kept-vertices, kept-links, kept-slots, found-asked, drawn-all}
+use Rattle.meshem.proofs.Whole.{refusing, no-room, done}
 use Rattle.meshem.proofs.mesh_grid.Statement.{statement}
 use Rattle.meshem.proofs.mesh_grid.Tie as tie
 
-abbrev start : tie.After-input-verdict → tie.Start
+abbrev Inv-loop : tie.InvT-loop
+Inv-loop scene outer grid kinds covers cubes vertices₀ triangles links₀ slots₀ dims culling look along sets₀ quads room width end six keys₀ base₀ row₀ vertices links slots sets keys base row =
+    let S = sceneOf scene kinds covers cubes in
+    (row .first ≤ cells (S .size)) × (cordsOf 0 (row .y) (row .z) ≡ coordinates (S .size) (row .first))
+    × Drawn S grid (setAt culling (worldOf (S .size) kinds covers) (facesOf (look .outer)) grid) vertices₀ links₀ slots₀ (row .first) base vertices links slots
+    × (length sets ≡ 1024) × (length keys ≡ 6144)
+
+abbrev μ-loop : tie.MeasureT-loop
+μ-loop scene outer grid kinds covers cubes vertices₀ triangles links₀ slots₀ dims culling look along sets₀ quads room width end six keys₀ base₀ row₀ vertices links slots sets keys base row =
+    cells (sizeOf (scene .dims)) - row .first
+
+abbrev start : tie.After-input-verdict Inv-loop μ-loop → tie.Start Inv-loop μ-loop
 start c = c .before .before .before .before .before .before .before .before .before .before
 
-abbrev scene : tie.Start → Scene
+abbrev scene : tie.Start Inv-loop μ-loop → Scene
 scene s = let a = s .args in sceneOf (a .scene) (now (a .kinds)) (now (a .covers)) (now (a .cubes))
 
-abbrev lists : tie.Start → Lists
+abbrev lists : tie.Start Inv-loop μ-loop → Lists
 lists s = let a = s .args in listsOf (now (a .vertices)) (now (a .triangles)) (now (a .links)) (now (a .slots))
 
 -- nothing but the room is left to refuse
-passed : (c : tie.After-enum-told) →
+passed : (c : tie.After-enum-told Inv-loop μ-loop) →
     let s = start (c .before .before) in inputVerdict (scene s) (now (s .args .outer)) (now (s .args .grid)) (lists s) ≡ fine
 passed c =
     let v = c .before .before in sym (v .input-verdict .ensures (lists (start v)) refl) ∙ ap verdictOf (c .enum-told .given .1)
 
-known : (c : tie.After-enum-told) →
+known : (c : tie.After-enum-told Inv-loop μ-loop) →
     let s = start (c .before .before) in Admitted (scene s) (now (s .args .outer)) (now (s .args .grid)) (lists s)
 known c = let s = start (c .before .before) in admitted (scene s) (now (s .args .outer)) (now (s .args .grid)) (lists s) (passed c)
 
+few : (c : tie.After-outer-set Inv-loop μ-loop) → c .outer-set .result < 64
+few c = rw (c .outer-set .ensures) (setOf-lt (λ f. member f (now (start (c .before .before .before .before .before) .args .outer))))
+
+-- the types as the rows are told of them
+abbrev typed : tie.After-full-from Inv-loop μ-loop → tie.After-enum-told Inv-loop μ-loop
+typed c = c .before .before .before .before .before
+
+rows-known : (c : tie.After-full-from Inv-loop μ-loop) →
+    let s = start (typed c .before .before) in
+    Rows (scene s .size) (now (s .args .grid)) (now (s .args .kinds)) (now (s .args .covers)) (c .before .clear-types .result) (c .full-from .result)
+rows-known c =
+    let k = known (typed c) in
+    record {
+      grid = record { within = k .within; whole = k .whole; typed = λ i l. rw (k .typed .covered) (k .type i l) };
+      both = k .typed .covered;
+      plain = record { below = c .before .clear-types .ensures; from = c .full-from .ensures };
+    }
+
+-- ---- what is counted
+
+abbrev counting : tie.After-count-quads Inv-loop μ-loop → tie.After-full-from Inv-loop μ-loop
+counting c = c .before .before .before .before .before .before
+
+abbrev begin : tie.After-count-quads Inv-loop μ-loop → tie.Start Inv-loop μ-loop
+begin c = start (typed (counting c) .before .before)
+
+abbrev by : tie.After-count-quads Inv-loop μ-loop → tie.After-outer-set Inv-loop μ-loop
+by c = counting c .before .before
+
+abbrev sets : tie.After-count-quads Inv-loop μ-loop → ℕ → ℕ
+sets c =
+    let s = begin c in
+    setAt (by c .before .is-culling .result) (worldOf (scene s .size) (now (s .args .kinds)) (now (s .args .covers))) (facesOf (by c .outer-set .result)) (now (s .args .grid))
+
+abbrev fresh : tie.After-count-quads Inv-loop μ-loop → List Quad
+fresh c = let s = begin c in freshMesh (scene s) (now (s .args .outer)) (now (s .args .grid)) (isCulling (s .args .algorithm))
+
 -- as many quads as the fresh mesh has
-quads-are : (c : tie.After-count-quads) →
-    let s = start (c .before .before .before .before .before .before .before .before .before .before) in
-    c .count-quads .result ≡ length (freshMesh (scene s) (now (s .args .outer)) (now (s .args .grid)) (isCulling (s .args .algorithm)))
+quads-are : (c : tie.After-count-quads Inv-loop μ-loop) → c .count-quads .result ≡ length (fresh c)
 quads-are c =
-    let o = c .before .before .before .before .before .before in
-    let k = o .before in
-    let e = k .before in
-    let s = start (e .before .before) in
-    let S = scene s in
-    let g = now (s .args .grid) in
+    let s = begin c in
     c .count-quads .ensures
-    ∙ asked-cong (cells (S .size)) 0 _ (setAt (k .is-culling .result) (world S) (facesOf (o .outer-set .result)) g)
-    (λ i. set-world S (k .is-culling .result) (facesOf (o .outer-set .result)) g i)
-    ∙ rw (k .is-culling .ensures, o .outer-set .ensures) (counted S (now (s .args .outer)) g (isCulling (s .args .algorithm)) (lists s) (known e))
+    ∙ found-asked (scene s) (now (s .args .outer)) (now (s .args .grid)) (isCulling (s .args .algorithm)) _ _ (by c .before .is-culling .ensures) (by c .outer-set .ensures)
 
-room-is : (c : tie.After-room-of) → let s = start (c .before .before .before .before .before .before .before .before .before .before .before .before) in c .room-of .result ≡ room (scene s) (lists s)
-room-is c = let s = start (c .before .before .before .before .before .before .before .before .before .before .before .before) in c .room-of .ensures (lists s) (record { vertices = refl; triangles = refl; links = refl })
+room-is : (c : tie.After-room-of Inv-loop μ-loop) → let s = begin (c .before .before) in c .room-of .result ≡ room (scene s) (lists s)
+room-is c = let s = begin (c .before .before) in c .room-of .ensures (lists s) (record { vertices = refl; triangles = refl; links = refl; slots = refl })
 
-input-verdict-requires : tie.Need-input-verdict-requires
+-- ---- from there on: there is room
+
+abbrev counted : tie.Else1 Inv-loop μ-loop → tie.After-count-quads Inv-loop μ-loop
+counted l = l .before .before .before
+
+fits : (l : tie.Else1 Inv-loop μ-loop) → let q = counted l in q .count-quads .result ≤ room (scene (begin q)) (lists (begin q))
+fits l = omega (arith, l .if1 .left, room-is (l .before))
+
+few-quads : (q : tie.After-count-quads Inv-loop μ-loop) → q .count-quads .result ≤ 6291456
+few-quads q =
+    let n = cells (scene (begin q) .size) in
+    omega (arith, q .count-quads .ensures, asked-few (sets q) n 0, known (typed (counting q)) .within .most)
+
+-- the quads of the cells before c
+module _ (l : tie.Else1 Inv-loop μ-loop) (c : ℕ) (h : c ≤ cells (scene (begin (counted l)) .size)) where
+  below : asked (sets (counted l)) 0 c ≤ counted l .count-quads .result
+  below =
+      let q = counted l in
+      omega (arith, q .count-quads .ensures, asked-le (sets q) c (cells (scene (begin q) .size)) 0 h)
+
+  vertices-room : let s = begin (counted l) in span (scene s) * asked (sets (counted l)) 0 c ≤ length (now (s .args .vertices))
+  vertices-room = let s = begin (counted l) in room-for (scene s) (lists s) (asked (sets (counted l)) 0 c) (omega (arith, below, fits l)) .vertices
+
+  links-room : let s = begin (counted l) in asked (sets (counted l)) 0 c ≤ length (now (s .args .links))
+  links-room = let s = begin (counted l) in room-for (scene s) (lists s) (asked (sets (counted l)) 0 c) (omega (arith, below, fits l)) .links
+
+input-verdict-requires : tie.Need-input-verdict-requires Inv-loop μ-loop
 input-verdict-requires c κs = search needs
 
-enum-known-told : tie.Need-enum-known-told
+enum-known-told : tie.Need-enum-known-told Inv-loop μ-loop
 enum-known-told c = search needs
 
-returns : tie.Need-returns
+returns : tie.Need-returns Inv-loop μ-loop
 returns c =
     let v = c .before .before .before in
     let s = start v in
     sym (refusing (scene s) (now (s .args .outer)) (now (s .args .grid)) (isCulling (s .args .algorithm)) (lists s)
     (sym (v .input-verdict .ensures (lists s) refl) ∙ ap verdictOf (c .before .told .given .1)))
 
-enum-told : tie.Need-enum-told
+enum-told : tie.Need-enum-told Inv-loop μ-loop
 enum-told c = search needs
 
-is-culling-requires : tie.Need-is-culling-requires
+is-culling-requires : tie.Need-is-culling-requires Inv-loop μ-loop
 is-culling-requires c κs = search needs
 
-outer-set-requires : tie.Need-outer-set-requires
-outer-set-requires c κs = known (c .before) .face
+outer-set-requires : tie.Need-outer-set-requires Inv-loop μ-loop
+outer-set-requires c κs = known (c .before .before) .face
 
-few : (c : tie.After-outer-set) → c .outer-set .result < 64
-few c = rw (c .outer-set .ensures) (setOf-lt (λ f. member f (now (start (c .before .before .before .before) .args .outer))))
+clear-types-requires : tie.Need-clear-types-requires Inv-loop μ-loop
+clear-types-requires c κs = let k = known (c .before .before .before) in (k .typed .covered, k .typed .counted .few)
 
-slice-aggregate-sides-along : tie.Need-slice-aggregate-sides-along
+full-from-requires : tie.Need-full-from-requires Inv-loop μ-loop
+full-from-requires c κs = let k = known (c .before .before .before .before) in (k .typed .covered, k .typed .counted .few)
+
+slice-aggregate-sides-along : tie.Need-slice-aggregate-sides-along Inv-loop μ-loop
 slice-aggregate-sides-along c = search needs
 
-sides-along-requires : tie.Need-sides-along-requires
-sides-along-requires c κs = let w = known (c .before .before .before) .within .sides .widest in (w, w)
+sides-along-requires : tie.Need-sides-along-requires Inv-loop μ-loop
+sides-along-requires c κs = let w = known (typed (c .before)) .within .sides .widest in (w, w)
 
-slice-aggregate-count-quads : tie.Need-slice-aggregate-count-quads
+slice-aggregate-count-quads : tie.Need-slice-aggregate-count-quads Inv-loop μ-loop
 slice-aggregate-count-quads c = search needs
 
-slice-aggregate-count-quads-2 : tie.Need-slice-aggregate-count-quads-2
+slice-aggregate-count-quads-2 : tie.Need-slice-aggregate-count-quads-2 Inv-loop μ-loop
 slice-aggregate-count-quads-2 c = search needs
 
-count-quads-requires : tie.Need-count-quads-requires
+count-quads-requires : tie.Need-count-quads-requires Inv-loop μ-loop
 count-quads-requires c κs =
-    let k = known (c .before .before .before .before .before .before .before) in (
-      record { within = k .within; whole = k .whole; typed = λ i l. rw (k .typed .covered) (k .type i l) },
-      k .typed .covered,
-      few (c .before .before .before .before .before),
-      k .within .sides .widest,
-      k .typed .counted .few,
-      c .before .before .before .sides-along .ensures,
-    )
+    let f = c .before .before .before .before .before in
+    let k = known (typed f) in
+    (rows-known f, few (f .before .before), k .within .sides .widest, c .before .before .before .sides-along .ensures)
 
-room-of-requires : tie.Need-room-of-requires
+room-of-requires : tie.Need-room-of-requires Inv-loop μ-loop
 room-of-requires c κs = search needs
 
-returns-2 : tie.Need-returns-2
+returns-2 : tie.Need-returns-2 Inv-loop μ-loop
 returns-2 c =
     let r = c .before in
     let q = r .before .before in
-    let e = q .before .before .before .before .before .before .before .before in
-    let s = start (e .before .before) in
-    sym (no-room (scene s) (now (s .args .outer)) (now (s .args .grid)) (isCulling (s .args .algorithm)) (lists s) (passed e)
+    let s = begin q in
+    sym (no-room (scene s) (now (s .args .outer)) (now (s .args .grid)) (isCulling (s .args .algorithm)) (lists s) (passed (typed (counting q)))
     (omega (arith, c .if1 .taken, room-is r, quads-are q)))
 
-slice-aggregate-draw-cells : tie.Need-slice-aggregate-draw-cells
-slice-aggregate-draw-cells c = search needs
+cast-width : tie.Need-cast-width Inv-loop μ-loop
+cast-width c = search needs
 
-slice-aggregate-draw-cells-2 : tie.Need-slice-aggregate-draw-cells-2
-slice-aggregate-draw-cells-2 c = search needs
+cell-count-requires : tie.Need-cell-count-requires Inv-loop μ-loop
+cell-count-requires c κs = known (typed (counting (counted (c .before)))) .within .sides
 
-draw-cells-requires : tie.Need-draw-cells-requires
-draw-cells-requires c κs =
-    let l = c .before .before .before .before .before .before in
-    let q = l .before .before .before in
-    let o = q .before .before .before .before .before .before in
-    let n = o .before in
-    let e = n .before in
-    let k = known e in
-    let s = start (e .before .before) in
-    let S = scene s in
-    let g = now (s .args .grid) in
-    let a = asked-cong (cells (S .size)) 0 _ (setAt (n .is-culling .result) (world S) (facesOf (o .outer-set .result)) g)
-    (λ i. set-world S (n .is-culling .result) (facesOf (o .outer-set .result)) g i) in
-    let ready : Roomy S (n .is-culling .result) (o .outer-set .result) g (lists s) = record {
-      grid = record { within = k .within; whole = k .whole; typed = k .type };
-      types = k .typed;
-      few = few o;
-      slots = k .slotted;
-      quads = omega (arith, l .if1 .left, room-is (l .before), q .count-quads .ensures, a);
-    } in
-    (ready, omega (arith, k .within .sides .widest, q .count-quads .kept), q .before .before .before .before .sides-along .ensures)
+cast-six : tie.Need-cast-six Inv-loop μ-loop
+cast-six c = search needs
 
-same-length : tie.Need-same-length
-same-length c = search needs
+mul-six : tie.Need-mul-six Inv-loop μ-loop
+mul-six c = search needs
 
-same-length-2 : tie.Need-same-length-2
+-- the faces have their slots
+slots-end : (c : tie.After-cell-count Inv-loop μ-loop) → 6 * c .cell-count .result ≤ length (now (begin (counted (c .before .before)) .args .slots))
+slots-end c = omega (arith, c .cell-count .ensures, known (typed (counting (counted (c .before .before)))) .slotted)
+
+slice-relend-prefix-new : tie.Need-slice-relend-prefix-new Inv-loop μ-loop
+slice-relend-prefix-new c = slots-end c
+
+slice-aggregate-new : tie.Need-slice-aggregate-new Inv-loop μ-loop
+slice-aggregate-new c = sym (length-take-le _ (now (begin (counted (c .before .before .before)) .args .slots)) (slots-end (c .before)))
+
+new-requires : tie.Need-new-requires Inv-loop μ-loop
+new-requires c κs = search needs
+
+write-patterns-requires : tie.Need-write-patterns-requires Inv-loop μ-loop
+write-patterns-requires c κs =
+    let l = c .before .before .before .before .before .before .before in
+    let q = counted l in
+    let s = begin q in
+    (room-for (scene s) (lists s) (q .count-quads .result) (fits l) .triangles, omega (arith, few-quads q))
+
+loop-holds : tie.Need-loop-holds Inv-loop μ-loop
+loop-holds c =
+    let l = c .before .before .before .before .before .before .before .before .before .before in
+    let q = counted l in
+    (omega arith, first (scene (begin q) .size), begun _ _ _ _ _ _, omega (arith, q .count-quads .kept), refl)
+
+-- ---- a row
+
+abbrev roomy : tie.Then2 Inv-loop μ-loop → tie.Else1 Inv-loop μ-loop
+roomy i = i .before .before .before .before .before .before .before .before .before .before .before .before .before
+
+abbrev done-with : tie.Then2 Inv-loop μ-loop → tie.After-count-quads Inv-loop μ-loop
+done-with i = counted (roomy i)
+
+row : (i : tie.Then2 Inv-loop μ-loop) → let l = i .before .before .loop in Starts (scene (begin (done-with i)) .size) (l .row .first) (l .row .y) (l .row .z)
+row i =
+    let l = i .before .before .loop in
+    record { inside = omega (arith, i .before .before .before .before .before .before .before .before .before .before .before .cell-count .ensures, i .if2 .taken); cords = l .inv .1 }
+
+ends : (i : tie.Then2 Inv-loop μ-loop) →
+    let s = begin (done-with i) in i .before .before .loop .row .first + s .args .scene .dims .width ≤ cells (scene s .size)
+ends i = let q = done-with i in row-end (scene (begin q) .size) (known (typed (counting q)) .within) (row i)
+
+slice-aggregate-side-row : tie.Need-slice-aggregate-side-row Inv-loop μ-loop
+slice-aggregate-side-row c = sym (c .before .before .before .loop .inv .3)
+
+slice-aggregate-side-row-2 : tie.Need-slice-aggregate-side-row-2 Inv-loop μ-loop
+slice-aggregate-side-row-2 c = search needs
+
+side-row-requires : tie.Need-side-row-requires Inv-loop μ-loop
+side-row-requires c κs =
+    let i = c .before .before in
+    let q = done-with i in
+    let f = counting q in
+    (rows-known f, few (f .before .before), row i, omega (arith, i .before .before .loop .inv .3, known (typed f) .within .sides .widest), q .before .before .before .before .sides-along .ensures)
+
+-- the list of sets has room for a row
+long-enough : (r : tie.After-side-row Inv-loop μ-loop) →
+    begin (done-with (r .before .before .before)) .args .scene .dims .width ≤ length (r .side-row .last .0)
+long-enough r =
+    let i = r .before .before .before in
+    omega (arith, r .side-row .kept .0, i .before .before .loop .inv .3, known (typed (counting (done-with i))) .within .sides .widest)
+
+slice-aggregate-key-row : tie.Need-slice-aggregate-key-row Inv-loop μ-loop
+slice-aggregate-key-row c = sym (c .before .before .before .before .before .before .before .loop .inv .4)
+
+array-share-prefix-sets : tie.Need-array-share-prefix-sets Inv-loop μ-loop
+array-share-prefix-sets c = long-enough (c .before .before)
+
+slice-aggregate-key-row-2 : tie.Need-slice-aggregate-key-row-2 Inv-loop μ-loop
+slice-aggregate-key-row-2 c =
+    let r = c .before .before .before in
+    sym (length-take-le _ (r .side-row .last .0) (long-enough r))
+
+key-row-requires : tie.Need-key-row-requires Inv-loop μ-loop
+key-row-requires c κs =
+    let r = c .before .before .before in
+    let i = r .before .before .before in
+    let k = known (typed (counting (done-with i))) in
+    let l = length-take-le (begin (done-with i) .args .scene .dims .width) (r .side-row .last .0) (long-enough r) in
+    (omega (arith, i .before .before .loop .inv .4, k .within .sides .widest), omega (arith, ends i, k .within .most))
+
+-- ---- the faces of a row
+
+abbrev turn : tie.After-key-row Inv-loop μ-loop → tie.Then2 Inv-loop μ-loop
+turn k = k .before .before .before .before .before .before .before
+
+abbrev width : tie.After-key-row Inv-loop μ-loop → ℕ
+width k = begin (done-with (turn k)) .args .scene .dims .width
+
+abbrev from : tie.After-key-row Inv-loop μ-loop → ℕ
+from k = turn k .before .before .loop .row .first
+
+abbrev listed : tie.After-key-row Inv-loop μ-loop → List ℕ
+listed k = take (k .key-row .result) (k .key-row .last .0)
+
+keys-are : (k : tie.After-key-row Inv-loop μ-loop) → listed k ≡ keysOf (sets (done-with (turn k))) (from k) (width k)
+keys-are k =
+    let r = k .before .before .before .before in
+    k .key-row .ensures .1 ∙ row-keys (sets (done-with (turn k))) (from k) (width k) (r .side-row .last .0) (long-enough r) (r .side-row .ensures)
+
+count-is : (k : tie.After-key-row Inv-loop μ-loop) → k .key-row .result ≡ asked (sets (done-with (turn k))) (from k) (width k)
+count-is k =
+    let r = k .before .before .before .before in
+    k .key-row .ensures .0 ∙ row-asked (sets (done-with (turn k))) (from k) (width k) (r .side-row .last .0) (long-enough r) (r .side-row .ensures)
+
+within-keys : (k : tie.After-key-row Inv-loop μ-loop) → k .key-row .result ≤ length (k .key-row .last .0)
+within-keys k =
+    let i = turn k in
+    omega (
+      arith,
+      count-is k,
+      asked-few (sets (done-with i)) (width k) (from k),
+      k .key-row .kept .0,
+      i .before .before .loop .inv .4,
+      known (typed (counting (done-with i))) .within .sides .widest,
+    )
+
+length-listed : (k : tie.After-key-row Inv-loop μ-loop) → length (listed k) ≡ k .key-row .result
+length-listed k = length-take-le (k .key-row .result) (k .key-row .last .0) (within-keys k)
+
+-- the place after them
+after-is : (k : tie.After-key-row Inv-loop μ-loop) →
+    turn k .before .before .loop .base + k .key-row .result ≡ asked (sets (done-with (turn k))) 0 (from k + width k)
+after-is k = omega (arith, turn k .before .before .loop .inv .2 .count, count-is k, asked-on (sets (done-with (turn k))) (from k) (width k))
+
+few-after : (k : tie.After-key-row Inv-loop μ-loop) → turn k .before .before .loop .base + k .key-row .result ≤ 6291456
+few-after k =
+    let i = turn k in
+    omega (arith, after-is k, below (roomy i) (from k + width k) (ends i), few-quads (done-with i))
+
+array-share-prefix-keys : tie.Need-array-share-prefix-keys Inv-loop μ-loop
+array-share-prefix-keys c = within-keys (c .before .before .before)
+
+slice-aggregate-index-row : tie.Need-slice-aggregate-index-row Inv-loop μ-loop
+slice-aggregate-index-row c = sym (length-listed (c .before .before .before .before))
+
+-- slots that hold no quad
+bare-slots : (w : tie.After-new Inv-loop μ-loop) →
+    let s = begin (counted (w .before .before .before .before)) in
+    w .new .last .0 ++ drop (6 * w .before .before .cell-count .result) (now (s .args .slots)) ≡ replicate (faces (scene s)) NONE ++ drop (faces (scene s)) (now (s .args .slots))
+bare-slots w =
+    let k = w .before .before in
+    let s = begin (counted (k .before .before)) in
+    let n = k .cell-count .ensures in
+    let l = length-take-le (6 * k .cell-count .result) (now (s .args .slots)) (slots-end k) in
+    let e = w .new .ensures ∙ ap (λ (m : ℕ). replicate m NONE) (l ∙ ap (λ (m : ℕ). 6 * m) n) in
+    λ j. e j ++ drop (6 * n j) (now (s .args .slots))
+
+slots-kept : (w : tie.After-new Inv-loop μ-loop) →
+    let s = begin (counted (w .before .before .before .before)) in
+    length (w .new .last .0 ++ drop (6 * w .before .before .cell-count .result) (now (s .args .slots))) ≡ length (now (s .args .slots))
+slots-kept w =
+    let q = counted (w .before .before .before .before) in
+    let s = begin q in
+    ap length (bare-slots w)
+    ∙ simp (length-append, length-drop, length-replicate) (omega (arith, known (typed (counting q)) .slotted))
+
+index-row-requires : tie.Need-index-row-requires Inv-loop μ-loop
+index-row-requires c κs =
+    let k = c .before .before .before .before in
+    let i = turn k in
+    let q = done-with i in
+    let l = i .before .before .loop in
+    let kept = kept-slots _ _ _ _ _ _ (l .inv .2) ∙ slots-kept (i .before .before .before .before .before .before .before .before .before) in
+    let wide = known (typed (counting q)) in
+    let n = length (l .slots) in
+    let e = ends i in
+    let far : 6 * (from k + width k) ≤ n = omega (arith, e, kept, wide .slotted) in
+    let all = subst (All (Slotted n)) (sym (keys-are k)) (row-slots (sets q) (from k) (width k) n far (omega (arith, e, wide .within .most))) in
+    let links = kept-links _ _ _ _ _ _ (l .inv .2) (links-room (roomy i) (from k) (omega (arith, e))) in (
+      λ j h. all-at (Slotted n) (listed k) j 0 all h,
+      omega (arith, length-listed k, after-is k, links-room (roomy i) (from k + width k) e, links),
+      omega (arith, length-listed k, few-after k),
+    )
+
+array-share-prefix-keys-2 : tie.Need-array-share-prefix-keys-2 Inv-loop μ-loop
+array-share-prefix-keys-2 c = within-keys (c .before .before .before .before .before .before .before .before .before .before)
+
+slice-aggregate-vertex-row : tie.Need-slice-aggregate-vertex-row Inv-loop μ-loop
+slice-aggregate-vertex-row c = sym (length-listed (c .before .before .before .before .before .before .before .before .before .before .before))
+
+vertex-row-requires : tie.Need-vertex-row-requires Inv-loop μ-loop
+vertex-row-requires c κs =
+    let k = c .before .before .before .before .before .before .before .before .before .before .before in
+    let i = turn k in
+    let q = done-with i in
+    let s = begin q in
+    let a = s .args in
+    let l = i .before .before .loop in
+    let wide = known (typed (counting q)) in
+    let e = ends i in
+    let sides = found-sides (scene s) (by q .before .is-culling .result) (by q .outer-set .result) (now (a .grid))
+    (record { within = wide .within; whole = wide .whole; typed = wide .type }) (wide .typed) (from k) (width k) refl e in
+    let all = subst (All (Side (scene s) (now (a .grid)) (from k))) (sym (keys-are k)) sides in
+    let kept = kept-vertices _ _ _ _ _ _ (l .inv .2) (vertices-room (roomy i) (from k) (omega (arith, e))) in
+    let n : l .base + length (listed k) ≡ asked (sets q) 0 (from k + width k) = omega (arith, length-listed k, after-is k) in (
+      wide .within,
+      row i,
+      λ j h. from-cubes (a .scene) (now (a .kinds)) (now (a .covers)) (now (a .cubes)) (now (a .grid)) (from k) _
+          (all-at (Side (scene s) (now (a .grid)) (from k)) (listed k) j 0 all h),
+      subst (λ (m : ℕ). span (scene s) * m ≤ length (l .vertices)) (sym n) (omega (arith, vertices-room (roomy i) (from k + width k) e, kept)),
+      omega (arith, n, after-is k, few-after k),
+    )
+
+add-base : tie.Need-add-base Inv-loop μ-loop
+add-base c = omega (arith, few-after (c .before .before .before .before .before .before .before .before .before .before .before .before .before .before))
+
+next-requires : tie.Need-next-requires Inv-loop μ-loop
+next-requires c κs = let i = turn (c .before .before .before .before .before .before .before .before .before .before .before .before .before .before) in (known (typed (counting (done-with i))) .within, row i)
+
+loop-less : tie.Need-loop-less Inv-loop μ-loop
+loop-less c =
+    let i = turn (c .before .before .before .before .before .before .before .before .before .before .before .before .before .before .before) in
+    omega (arith, c .next .ensures .0, row i .inside, known (typed (counting (done-with i))) .within .sides .wide)
+
+loop-again : tie.Need-loop-again Inv-loop μ-loop
+loop-again c =
+    let k = c .before .before .before .before .before .before .before .before .before .before .before .before .before .before .before in
+    let i = turn k in
+    let l = i .before .before .loop in
+    let e = c .next .ensures .0 in (
+      omega (arith, e, ends i),
+      c .next .ensures .1,
+      rw e (row-more _ _ _ _ _ _ (width k) (l .inv .2) (count-is k) (keys-are k) (c .before .before .before .vertex-row .ensures) (c .before .before .before .before .before .before .before .before .before .before .index-row .ensures .0) (c .before .before .before .before .before .before .before .before .before .before .index-row .ensures .1)),
+      k .before .before .before .before .side-row .kept .0 ∙ l .inv .3,
+      k .key-row .kept .0 ∙ l .inv .4,
+    )
+
+same-length : tie.Need-same-length Inv-loop μ-loop
+same-length c =
+    let l = c .before .before .loop in
+    kept-vertices _ _ _ _ _ _ (l .inv .2) (vertices-room (c .before .before .before .before .before .before .before .before .before .before .before .before .before) (l .row .first) (l .inv .0))
+
+same-length-2 : tie.Need-same-length-2 Inv-loop μ-loop
 same-length-2 c = search needs
 
-same-length-3 : tie.Need-same-length-3
-same-length-3 c = search needs
+same-length-3 : tie.Need-same-length-3 Inv-loop μ-loop
+same-length-3 c =
+    let l = c .before .before .loop in
+    kept-links _ _ _ _ _ _ (l .inv .2) (links-room (c .before .before .before .before .before .before .before .before .before .before .before .before .before) (l .row .first) (l .inv .0))
 
-same-length-4 : tie.Need-same-length-4
-same-length-4 c = search needs
+same-length-4 : tie.Need-same-length-4 Inv-loop μ-loop
+same-length-4 c = let l = c .before .before .loop in kept-slots _ _ _ _ _ _ (l .inv .2) ∙ slots-kept (c .before .before .before .before .before .before .before .before .before)
 
-returns-3 : tie.Need-returns-3
+returns-3 : tie.Need-returns-3 Inv-loop μ-loop
 returns-3 c =
-    let d = c .before .before .before .before .before .before .before .before .before in
-    let l = d .before .before .before .before .before .before .before in
-    let q = l .before .before .before in
-    let o = q .before .before .before .before .before .before in
-    let n = o .before in
-    let e = n .before in
-    let s = start (e .before .before) in
+    let l = c .before .before .loop in
+    let w = c .before .before .before .before .before .before .before .before .before in
+    let q = counted (c .before .before .before .before .before .before .before .before .before .before .before .before .before) in
+    let s = begin q in
     let S = scene s in
     let g = now (s .args .grid) in
     let u = now (s .args .outer) in
     let m = isCulling (s .args .algorithm) in
-    let fit : length (freshMesh S u g m) ≤ room S (lists s) = omega (arith, l .if1 .left, room-is (l .before), quads-are q) in
+    let fit : length (freshMesh S u g m) ≤ room S (lists s) = omega (arith, fits (c .before .before .before .before .before .before .before .before .before .before .before .before .before), quads-are q) in
+    let all : l .row .first ≡ cells (S .size) = omega (arith, l .inv .0, c .if2 .left, w .before .before .cell-count .ensures) in
     let x = quads-are q in
-    let y = d .draw-cells .ensures ∙ drew-by S u g m (lists s) (known e) _ _ (n .is-culling .ensures) (o .outer-set .ensures) fit in
-    (λ i. record { answer = answered (x i) 0; lists = y i }) ∙ sym (done S u g m (lists s) (passed e) fit)
+    let y = drawn-all S u g m _ _ (by q .before .is-culling .ensures) (by q .outer-set .ensures) (lists s) all x (l .inv .2) (bare-slots w)
+    (c .before .before .before .before .before .write-patterns .ensures) in
+    (λ i. record { answer = answered (x i) 0; lists = y i }) ∙ sym (done S u g m (lists s) (passed (typed (counting q))) fit)
 
 pub mesh-grid-spec : {M : Type 1} → statement M
 mesh-grid-spec =
     tie.close
     (tie.spec
+    Inv-loop
+    μ-loop
     input-verdict-requires
     enum-known-told
     returns
     enum-told
     is-culling-requires
     outer-set-requires
+    clear-types-requires
+    full-from-requires
     slice-aggregate-sides-along
     sides-along-requires
     slice-aggregate-count-quads
@@ -195,9 +489,32 @@ mesh-grid-spec =
     count-quads-requires
     room-of-requires
     returns-2
-    slice-aggregate-draw-cells
-    slice-aggregate-draw-cells-2
-    draw-cells-requires
+    cast-width
+    cell-count-requires
+    cast-six
+    mul-six
+    slice-relend-prefix-new
+    slice-aggregate-new
+    new-requires
+    write-patterns-requires
+    loop-holds
+    slice-aggregate-side-row
+    slice-aggregate-side-row-2
+    side-row-requires
+    slice-aggregate-key-row
+    array-share-prefix-sets
+    slice-aggregate-key-row-2
+    key-row-requires
+    array-share-prefix-keys
+    slice-aggregate-index-row
+    index-row-requires
+    array-share-prefix-keys-2
+    slice-aggregate-vertex-row
+    vertex-row-requires
+    add-base
+    next-requires
+    loop-less
+    loop-again
     same-length
     same-length-2
     same-length-3

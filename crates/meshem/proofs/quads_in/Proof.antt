@@ -7,8 +7,7 @@ use native.Mathlib.Omega.{arith}
 use denote.Ref.{now}
 use lib.ListN.{length, getD, drop, length-drop}
 use lib.Seq.{getD-take, getD-drop, length-take-le}
-use Rattle.drawing.specs.Drawn.{asked}
-use Rattle.meshem.specs.Fresh.{setsFrom}
+use Rattle.meshem.specs.Fresh.{setsFrom, asked}
 use Rattle.meshem.proofs.Rows.{asked-few, asked-row, asked-on}
 use Rattle.meshem.proofs.quads_in.Statement.{statement}
 use Rattle.meshem.proofs.quads_in.Tie as tie

@@ -6,8 +6,7 @@ use native.Mathlib.Omega.{arith}
 use denote.Ref.{now}
 use lib.ListN.{length, getD}
 use Rattle.rules.specs.Cells.{quadsOf}
-use Rattle.drawing.specs.Drawn.{asked}
-use Rattle.meshem.specs.Fresh.{setsFrom}
+use Rattle.meshem.specs.Fresh.{setsFrom, asked}
 use Rattle.meshem.proofs.Sets.{quads-le, asked-more, asked-none}
 use Rattle.meshem.proofs.quads_in_few.Statement.{statement}
 use Rattle.meshem.proofs.quads_in_few.Tie as tie

@@ -29,8 +29,8 @@ returns c x h =
     let s = c .before .before .before .before .before .before .before .before .before .before in
     let d = c .before .before in
     let size = sizeOf (s .args .dims) in
-    let faces = facesOf (s .args .outer) in
-    rw (c .before .before .before .before .if1 .taken) (d .drawn-row .ensures faces (outer-faces (s .args .outer) (s .pre .1)) x h
+    let faces = facesOf (s .args .look .outer) in
+    rw (c .before .before .before .before .if1 .taken) (d .drawn-row .ensures faces (outer-faces (s .args .look .outer) (s .pre .1)) x h
     ∙ ap (λ k. setOf (drawn (worldOf size (now (s .args .kinds)) (now (s .args .covers))) faces (now (s .args .grid)) k)) (cell-is size (s .pre .0 .grid .within) (s .pre .2) x))
 
 cube-row-requires : tie.Need-cube-row-requires
@@ -48,7 +48,7 @@ same-length-2 c = search needs
 returns-2 : tie.Need-returns-2
 returns-2 c x h =
     let s = c .before .before .before .before .before .before .before .before .before .before in
-    rw (c .before .before .before .before .if1 .left) (c .before .before .cube-row .ensures (now (s .args .covers)) (facesOf (s .args .outer)) x h)
+    rw (c .before .before .before .before .if1 .left) (c .before .before .cube-row .ensures (now (s .args .covers)) (facesOf (s .args .look .outer)) x h)
 
 pub side-row-spec : {M : Type 1} → statement M
 side-row-spec = tie.close (tie.spec drawn-row-requires same-length returns cube-row-requires same-length-2 returns-2)

@@ -3,7 +3,8 @@ use native.Mathlib.Omega.{arith}
 use borrow.Author.Needs.{needs}
 use Rattle.face.specs.Face.{number}
 use Rattle.face.proofs.Laws.{number-below}
-use Rattle.util.specs.Grid.{cordsOf}
+use Rattle.util.specs.Grid as grid
+use Rattle.floats.specs.Triples.{tripleOf}
 use Rattle.quads.proofs.Writing.{quad-written}
 use Rattle.quads.proofs.write_quad.Statement.{statement}
 use Rattle.quads.proofs.write_quad.Tie as tie
@@ -79,7 +80,7 @@ returns c =
     let numbered = first .before .before in
     let t = numbered .before .before .before in
     let a = t .args in
-    quad-written (a .cube .now) (a .floats) (cordsOf (a .dx) (a .dy) (a .dz)) (number (a .face)) (cordsOf (a .x) (a .y) (a .z)) (a .out .now)
+    quad-written (a .cube .now) (a .floats) (tripleOf (a .d)) (number (a .face)) (grid.tripleOf (a .at)) (a .out .now)
     (numbered .number .ensures) (t .pre .1) (first .write-vertex .ensures) (second .write-vertex2 .ensures) (third .write-vertex3 .ensures)
     (fourth .write-vertex4 .ensures)
 

@@ -3,7 +3,8 @@ use mathlib.Core.Path.{_≡_, ap, _∙_}
 use Prim.Native.Nat.{_+_, _-_}
 use native.Mathlib.Omega.{arith}
 use borrow.Author.Needs.{needs}
-use Rattle.util.specs.Grid.{cordsOf}
+use Rattle.util.specs.Grid as grid
+use Rattle.floats.specs.Triples.{tripleOf}
 use Rattle.vav.specs.Rows.{put}
 use Rattle.quads.specs.Quads.{four, wordAt}
 use Rattle.quads.proofs.Writing.{finite-x, finite-y, finite-z, eight, vertex-of-eight, vertex-written}
@@ -20,7 +21,7 @@ eight-written : (c : tie.After-copy-four) →
     let t = begun c in
     let a = t .args in
     c .copy-four .last .0
-    ≡ eight (a .cube .now) (a .floats) (cordsOf (a .dx) (a .dy) (a .dz)) (cordsOf (a .x) (a .y) (a .z)) (a .vertex) (a .to) (a .out .now) (t .pre .2)
+    ≡ eight (a .cube .now) (a .floats) (tripleOf (a .d)) (grid.tripleOf (a .at)) (a .vertex) (a .to) (a .out .now) (t .pre .2)
 eight-written c =
     let wrote = c .before .before .before .before in
     let fourth = wrote .before .before in
@@ -81,7 +82,7 @@ returns c =
     let t = begun copied in
     let a = t .args in
     eight-written copied
-    ∙ vertex-of-eight (a .cube .now) (a .floats) (cordsOf (a .dx) (a .dy) (a .dz)) (cordsOf (a .x) (a .y) (a .z)) (a .vertex) (a .to) (a .out .now)
+    ∙ vertex-of-eight (a .cube .now) (a .floats) (tripleOf (a .d)) (grid.tripleOf (a .at)) (a .vertex) (a .to) (a .out .now)
     (t .pre .2) (c .if1 .taken)
 
 sub-copy-four : tie.Need-sub-copy-four
@@ -106,7 +107,7 @@ returns-2 c =
     let w = t .pre .0 .words in
     last .copy-four2 .ensures
     ∙ ap (put (a .to + (a .floats - 4)) (four (wordAt (a .cube .now) (a .floats) (a .vertex)) (a .floats - 4))) (eight-written copied)
-    ∙ vertex-written (a .cube .now) (a .floats) (cordsOf (a .dx) (a .dy) (a .dz)) (cordsOf (a .x) (a .y) (a .z)) (a .vertex) (a .to) (a .out .now)
+    ∙ vertex-written (a .cube .now) (a .floats) (tripleOf (a .d)) (grid.tripleOf (a .at)) (a .vertex) (a .to) (a .out .now)
     (t .pre .2) (w .least) (w .most)
 
 pub write-vertex-spec : {M : Type 1} → statement M

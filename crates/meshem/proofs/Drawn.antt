@@ -1,0 +1,135 @@
+-- The rows of cells before a cell are drawn: what each list holds then, a row more, and the whole mesh. Assumes nothing.
+use mathlib.Core.Path.{_≡_, refl, sym, ap, _∙_}
+use mathlib.Core.Bool.{Bool}
+use mathlib.Core.List.{List, _∷_, [], _++_, map}
+use Prim.Native.Nat.{ℕ, _+_, _-_, _*_, _/_, _%_, _≤_, _<_}
+use native.Mathlib.Omega.{arith}
+use lib.ListN.{length, drop, replicate, length-map}
+use Rattle.rules.specs.Lists.{each}
+use Rattle.rules.specs.Cells.{cells, linkOf}
+use Rattle.rules.specs.Mesh.{Quad, Lists, NONE, pattern, typeAt, laid, slotted, layout, listsOf}
+use Rattle.rules.specs.Calls.{Scene, world, span, faces, freshMesh}
+use Rattle.rules.proofs.Demands.{words-sized}
+use Rattle.vav.specs.Rows.{put}
+use Rattle.vav.proofs.Laws.{put-none}
+use Rattle.culling.specs.Culling.{worldOf, outerSet}
+use Rattle.drawing.specs.Written.{rowsOf, linkRow, wordRow, named}
+use Rattle.drawing.proofs.Patterns.{length-patterns}
+use Rattle.drawing.proofs.Turns.{rows-then, kept-rows, named-then, kept-named}
+use Rattle.drawing.proofs.Laid.{rows-laid, places-laid, slots-named}
+use Rattle.meshem.specs.Fresh.{setAt, facesOf, asked, keysOf}
+use Rattle.meshem.proofs.Sets.{named-set, asked-cong}
+use Rattle.meshem.proofs.Rows.{asked-on}
+use Rattle.meshem.proofs.Keys.{length-keys, keys-none, keys-on, keys-like, rising-first, quadOn, quads-of-keys, asked-fresh}
+use Rattle.meshem.proofs.Turns.{set-world}
+
+module _ (S : Scene) (g : List ℕ) (sets : ℕ → ℕ) where
+  words-wide : (k : ℕ) → length (wordRow S g k) ≡ span S
+  words-wide k = words-sized S (typeAt g (k / 6)) (k % 6) (k / 6)
+
+  module _ (vs₀ ls₀ ss₀ : List ℕ) where
+    -- the cells before c are drawn, and `base` is the next place
+    pub record Drawn (c base : ℕ) (vertices links slots : List ℕ) : Type 0 where
+      pub count : base ≡ asked sets 0 c
+      pub vertices-are : vertices ≡ put (span S * 0) (rowsOf (wordRow S g) (keysOf sets 0 c)) vs₀
+      pub links-are : links ≡ put (1 * 0) (rowsOf linkRow (keysOf sets 0 c)) ls₀
+      pub slots-are : slots ≡ named 0 (keysOf sets 0 c) ss₀
+
+    pub begun : Drawn 0 0 vs₀ ls₀ ss₀
+    unfolding asked
+    begun =
+        let e = sym (keys-none sets 0) in
+        record {
+          count = refl;
+          vertices-are = put-none (span S * 0) vs₀ ∙ ap (λ (r : List ℕ). put (span S * 0) (rowsOf (wordRow S g) r) vs₀) e;
+          links-are = put-none (1 * 0) ls₀ ∙ ap (λ (r : List ℕ). put (1 * 0) (rowsOf linkRow r) ls₀) e;
+          slots-are = ap (λ (r : List ℕ). named 0 r ss₀) e;
+        }
+
+    -- a row more: its faces, in each list from `base` on
+    pub row-more : {c base n : ℕ} (w : ℕ) {vs ls ss vs₁ ls₁ ss₁ keys : List ℕ} → Drawn c base vs ls ss → n ≡ asked sets c w → keys ≡ keysOf sets c w
+        → vs₁ ≡ put (span S * base) (rowsOf (wordRow S g) keys) vs → ls₁ ≡ put (1 * base) (rowsOf linkRow keys) ls → ss₁ ≡ named base keys ss
+        → Drawn (c + w) (base + n) vs₁ ls₁ ss₁
+    row-more {c} {base} {n} w {vs} {ls} {ss} {vs₁} {ls₁} {ss₁} {keys} d e k v l s =
+        let before = keysOf sets 0 c in
+        let at : base ≡ 0 + length before = omega (arith, d .count, length-keys sets c 0) in
+        let z : 0 + c ≡ c = omega arith in
+        let all : before ++ keys ≡ keysOf sets 0 (c + w) =
+        ap (λ (r : List ℕ). before ++ r) k ∙ ap (λ (i : ℕ). before ++ keysOf sets i w) (sym z) ∙ sym (keys-on sets c w 0) in
+        record {
+          count = omega (arith, d .count, e, asked-on sets c w);
+          vertices-are = v ∙ ap (put (span S * base) (rowsOf (wordRow S g) keys)) (d .vertices-are)
+              ∙ rows-then (span S) (wordRow S g) words-wide 0 base before keys vs₀ at (let y : span S * 0 ≡ 0 = omega arith in omega arith)
+              ∙ ap (λ (r : List ℕ). put (span S * 0) (rowsOf (wordRow S g) r) vs₀) all;
+          links-are = l ∙ ap (put (1 * base) (rowsOf linkRow keys)) (d .links-are)
+              ∙ rows-then 1 linkRow (λ i. refl) 0 base before keys ls₀ at (omega arith)
+              ∙ ap (λ (r : List ℕ). put (1 * 0) (rowsOf linkRow r) ls₀) all;
+          slots-are = s ∙ ap (named base keys) (d .slots-are) ∙ ap (λ (i : ℕ). named i keys (named 0 before ss₀)) at
+              ∙ named-then 0 before keys ss₀ ∙ ap (λ (r : List ℕ). named 0 r ss₀) all;
+        }
+
+    -- the lists keep their lengths
+    module _ {c base : ℕ} {vs ls ss : List ℕ} (d : Drawn c base vs ls ss) where
+      pub kept-vertices : span S * asked sets 0 c ≤ length vs₀ → length vs ≡ length vs₀
+      kept-vertices h =
+          ap length (d .vertices-are)
+          ∙ kept-rows (span S) (wordRow S g) words-wide 0 (keysOf sets 0 c) vs₀
+          (let e : 0 + length (keysOf sets 0 c) ≡ asked sets 0 c = omega (arith, length-keys sets c 0) in rw e h)
+
+      pub kept-links : asked sets 0 c ≤ length ls₀ → length ls ≡ length ls₀
+      kept-links h =
+          ap length (d .links-are) ∙ kept-rows 1 linkRow (λ i. refl) 0 (keysOf sets 0 c) ls₀ (omega (arith, length-keys sets c 0))
+
+      pub kept-slots : length ss ≡ length ss₀
+      kept-slots = ap length (d .slots-are) ∙ kept-named 0 (keysOf sets 0 c) ss₀
+
+-- ---- the sets that the code finds are those of the fresh mesh
+module _ (S : Scene) (outer g : List ℕ) (culling by : Bool) (set : ℕ) (mode : by ≡ culling) (named-by : set ≡ outerSet outer) where
+  abbrev pub found : ℕ → ℕ
+  found = setAt by (worldOf (S .size) (S .types .kinds) (S .types .covers)) (facesOf set) g
+
+  found-is : (c : ℕ) → found c ≡ setAt culling (world S) outer g c
+  found-is c = set-world S by (facesOf set) g c ∙ rw (mode, named-by) (named-set culling (world S) outer g c)
+
+  pub found-asked : asked found 0 (cells (S .size)) ≡ length (freshMesh S outer g culling)
+  found-asked = asked-cong (cells (S .size)) 0 found (setAt culling (world S) outer g) found-is ∙ asked-fresh S outer g culling
+
+  found-quads : map (quadOn (world S) g) (keysOf found 0 (cells (S .size))) ≡ freshMesh S outer g culling
+  found-quads =
+      ap (map (quadOn (world S) g)) (keys-like found (setAt culling (world S) outer g) (cells (S .size)) 0 (λ k a b. found-is k)) ∙ quads-of-keys S outer g culling
+
+  -- LAW: when every row is drawn, the lists are the layout of the fresh mesh
+  pub drawn-all : (B : Lists) {c base Q : ℕ} {vs T ls ss ss₀ : List ℕ} → c ≡ cells (S .size) → Q ≡ length (freshMesh S outer g culling)
+      → Drawn S g found (B .vertices) (B .links) ss₀ c base vs ls ss
+      → ss₀ ≡ replicate (faces S) NONE ++ drop (faces S) (B .slots) → T ≡ put (6 * 0) (each (Q - 0) 0 pattern) (B .triangles)
+      → listsOf vs T ls ss ≡ layout (faces S) (span S) (length (freshMesh S outer g culling)) (freshMesh S outer g culling) B
+  unfolding slotted
+  drawn-all B {c} {base} {Q} {vs} {T} {ls} {ss} {ss₀} e q d bare t =
+      let m = freshMesh S outer g culling in
+      let keys = keysOf found 0 (cells (S .size)) in
+      let quad = quadOn (world S) g in
+      let f = found-quads in
+      let n : length keys ≡ length m = sym (length-map keys quad) ∙ ap length f in
+      let v = d .vertices-are ∙ ap (λ (i : ℕ). put (span S * 0) (rowsOf (wordRow S g) (keysOf found 0 i)) (B .vertices)) e
+      ∙ rows-laid (span S) (λ x. x .words) quad keys (B .vertices) (words-wide S g found)
+      ∙ (λ i. laid (span S) (λ q x. x .words) (n i) (f i) (B .vertices)) in
+      let p = t ∙ ap (λ (i : ℕ). put (6 * 0) (each (i - 0) 0 pattern) (B .triangles)) q
+      ∙ places-laid 6 pattern m (B .triangles) length-patterns in
+      let l = d .links-are ∙ ap (λ (i : ℕ). put (1 * 0) (rowsOf linkRow (keysOf found 0 i)) (B .links)) e ∙ links-laid keys (B .links)
+      ∙ (λ i. laid 1 (λ q x. linkOf (x .key) ∷ []) (n i) (f i) (B .links)) in
+      let s = d .slots-are ∙ (λ i. named 0 (keysOf found 0 (e i)) (bare i))
+      ∙ slots-named (faces S) quad (λ k. whole k) (drop (faces S) (B .slots)) keys (rising-first found (cells (S .size)))
+      ∙ ap (λ (r : List Quad). slotted (faces S) r (B .slots)) f in
+      λ i. listsOf (v i) (p i) (l i) (s i)
+    where
+      whole : (k : ℕ) → 6 * (k / 6) + k % 6 ≡ k
+      whole k = omega arith
+
+      links-same : (keys : List ℕ) → rowsOf linkRow keys ≡ rowsOf (λ k. linkOf (6 * (k / 6) + k % 6) ∷ []) keys
+      links-same [] = refl
+      links-same (k ∷ keys) = λ i. linkOf (sym (whole k) i) ∷ links-same keys i
+
+      links-laid : (keys old : List ℕ)
+          → put (1 * 0) (rowsOf linkRow keys) old ≡ laid 1 (λ q x. linkOf (x .key) ∷ []) (length keys) (map (quadOn (world S) g) keys) old
+      links-laid keys old =
+          ap (λ (r : List ℕ). put (1 * 0) r old) (links-same keys) ∙ rows-laid 1 (λ x. linkOf (x .key) ∷ []) (quadOn (world S) g) keys old (λ k. refl)
