@@ -1,6 +1,10 @@
 -- What the call answers, as the rule's outcome. Definitions only.
+use Prim.Native.Nat.{ℕ}
+use mathlib.Core.Option.{Option, none, some}
+use Rattle.rules.specs.Types.{floats}
 use Rattle.rules.specs.Mesh.{Lists}
-use Rattle.rules.specs.Calls.{Answer, answered, Outcome}
+use Rattle.rules.specs.Answers.{Verdict, _then_, BAD-SIZE, SHORT-SLOTS, BAD-COUNT}
+use Rattle.rules.specs.Calls.{Scene, Answer, answered, Outcome, typesVerdict}
 use Rattle.answers.specs.Verdicts.{numberOf}
 use Rattle.update.specs.declared.Updated.{Updated}
 use Rattle.update.specs.declared.Updated.the-variants.{Done, Refused}
@@ -13,3 +17,12 @@ answerOf (Refused why place count) = record { number = numberOf why; place = pla
 -- with the lists at exit
 abbrev pub outcomeOf : Updated → Lists → Outcome
 outcomeOf r B = record { answer = answerOf r; lists = B }
+
+-- 2, 3, 4, 6, 9 and 10: what is asked before the mesh is looked at
+abbrev pub toldVerdict : Scene → Lists → ℕ → Verdict
+toldVerdict S B Q = BAD-SIZE (S .size) then typesVerdict S then SHORT-SLOTS (S .size) B then BAD-COUNT (floats (S .types)) B Q
+
+-- a log's end: through, or NO_ROOM at an entry
+abbrev pub endedAnswer : Option ℕ → ℕ → ℕ → Answer
+endedAnswer none Q v = answered Q v
+endedAnswer (some k) Q v = record { number = 14; place = k; quads = Q; moved = v }

@@ -1,87 +1,144 @@
 // An update: the mesh is mended in place, entry by entry of a log.
-use admit::Scene;
-use admit::lent_verdict;
-use admit::room_of;
-use admit::size_verdict;
 use answers::Refusal;
 use answers::Verdict;
 use answers::is_refusal;
 use answers::refuse_if;
-use changes::Ran;
-use changes::apply_entry;
+use drawing::write_patterns;
 use entries::Entry;
 use entries::first_bad_entry;
 use entries::read_entry;
-use mending::Count;
-use sides::Tested;
+use indexing::Tally;
+use indexing::index_work;
+use indexing::quads_needed;
+use lent::lent_verdict;
+use lent::links::links_verdict;
+use lent::room_of;
+use lent::size_verdict;
+use lent::triangles::triangles_verdict;
+use steps::replay;
+use terms::Count;
+use terms::Lengths;
+use terms::Scene;
+use terms::Tested;
 use types::types_verdict;
+use vav::clear;
+use works::work_of;
 ghost use mathlib.Core.Path.{_≡_};
-ghost use Prim.Native.Nat.{_/_};
+ghost use Prim.Native.Nat.{_*_, _≤_, max};
 ghost use lib.ListN.{length};
-ghost use Rattle.rules.specs.Update.{work, entryAt};
+ghost use Rattle.rules.specs.Mesh.{NONE, Lists, listsOf};
 ghost use Rattle.rules.specs.Answers.{BAD-ENTRY};
-ghost use Rattle.rules.specs.Calls.{world, span, updateVerdict, updateMesh};
+ghost use Rattle.rules.specs.Calls.{updateMesh};
 ghost use Rattle.answers.specs.Verdicts.{verdictOf};
-ghost use Rattle.admit.specs.Scenes.{sceneOf};
-ghost use Rattle.rules.specs.Mesh.{listsOf};
-ghost use Rattle.flat.specs.Courses.{flowFrom};
-ghost use Rattle.changes.specs.Ran.{ranOf};
-ghost use Rattle.update.specs.Outcome.{outcomeOf};
-ghost use Rattle.mending.specs.States.{stateOf};
-ghost use Rattle.flat.specs.Holding.{Logging};
-ghost use Rattle.sides.specs.Tests.{testedBy};
+ghost use Rattle.terms.specs.Scenes.{sceneOf};
+ghost use Rattle.terms.specs.Modes.{testedBy};
+ghost use Rattle.update.specs.Runs.{ranOf, laidOut, courseIn, Logging, patternsMended};
+ghost use Rattle.lent.specs.Scenes.{Long};
+ghost use Rattle.update.specs.Outcome.{outcomeOf, toldVerdict};
 
-// The entries of a log in order, up to the first that finds no room.
+// What a log is run under: the scene, the side tested, the room and the quads that there are.
+pub struct Task {
+    pub scene: Scene,
+    pub tested: Tested,
+    pub room: usize,
+    pub quads: usize,
+}
+
+// What a log has come to: the count, and the highest number of quads on the way.
+pub struct Course {
+    pub count: Count,
+    pub highest: usize,
+}
+
+// How far a log has gone: through it, or to an entry that found no room.
+pub enum Ran {
+    Through(Course),
+    Full(usize, Course),
+}
+
+fn larger(a: usize, b: usize) -> usize
+    ensures { λ r. ⌜ r ≡ max a b ⌝ }
+{
+    if a <= b { b } else { a }
+}
+
+// The entries of a log in order, up to the first that finds no room: each on the index, and by its steps on the vertices.
 fn run_log(
     vertices: &mut [u32],
-    triangles: &mut [u32],
     links: &mut [u32],
     slots: &mut [u32],
-    scene: Scene,
     kinds: &[u8],
     covers: &[u8],
     cubes: &[u32],
-    tested: Tested,
     log: &[u8],
-    room: usize,
-    count: usize,
-    moved: &mut u64,
+    task: Task,
 ) -> Ran
-    requires { ⌜ Logging (sceneOf scene (now kinds) (now covers) (now cubes)) room (now log) (stateOf (listsOf (now vertices) (now triangles) (now links) (now slots)) count (now moved)) ⌝ }
-    ensures { λ r. ⌜ ranOf r (listsOf (now (vertices .exit)) (now (triangles .exit)) (now (links .exit)) (now (slots .exit))) (now (moved .exit))
-        ≡ flowFrom (span (sceneOf scene (now (kinds .entry)) (now (covers .entry)) (now (cubes .entry)))) room (λ k. work (testedBy tested) (world (sceneOf scene (now (kinds .entry)) (now (covers .entry)) (now (cubes .entry)))) (entryAt (now (log .entry)) k)) 0 (length (now (log .entry)) / 12) (stateOf (listsOf (now (vertices .entry)) (now (triangles .entry)) (now (links .entry)) (now (slots .entry))) count (now (moved .entry))) ⌝ }
+    requires { ⌜ Logging (sceneOf (task .scene) (now kinds) (now covers) (now cubes)) (task .room) (now log) (now vertices) (now links) (now slots) (task .quads) ⌝ }
+    ensures { λ r. ⌜ ranOf r (now (vertices .exit)) (now (links .exit)) (now (slots .exit))
+        ≡ laidOut (sceneOf (task .scene) (now (kinds .entry)) (now (covers .entry)) (now (cubes .entry))) (now (vertices .entry)) (now (links .entry))
+        (courseIn (testedBy (task .tested)) (sceneOf (task .scene) (now (kinds .entry)) (now (covers .entry)) (now (cubes .entry))) (task .room) (now (log .entry)) (now (vertices .entry)) (now (links .entry)) (task .quads)) ⌝ }
 {
+    let scene = task.scene;
+    let tested = task.tested;
     let entries = log.len() / Entry::BYTES;
-    let mut left = count;
+    let mut steps: [u32; 48] = [0; 48];
+    let mut quads = task.quads;
+    let mut moved: u64 = 0;
+    let mut highest = task.quads;
     let mut k: usize = 0;
     while k < entries {
-        let ran = apply_entry(
-            vertices,
-            triangles,
+        let entry = read_entry(log, k);
+        let work = work_of(kinds, covers, tested, entry);
+        let needed = quads_needed(slots, scene.dims, entry.cell, work, quads);
+        if task.room < needed {
+            return Ran::Full(
+                k,
+                Course {
+                    count: Count {
+                        quads: quads,
+                        moved: moved,
+                    },
+                    highest: highest,
+                },
+            );
+        }
+        let tally = index_work(
             links,
             slots,
-            scene,
-            kinds,
-            covers,
-            cubes,
-            tested,
-            read_entry(log, k),
-            room,
-            k,
-            left,
-            moved,
+            &mut steps,
+            scene.dims,
+            entry,
+            work,
+            Tally {
+                quads: quads,
+                moved: moved,
+                steps: 0,
+            },
         );
-        match ran {
-            Ran::Through(done) => {
-                left = done;
-            }
-            Ran::Full(at, done) => {
-                return Ran::Full(at, done);
-            }
-        }
+        replay(vertices, scene, cubes, &steps, tally.steps, quads);
+        quads = tally.quads;
+        moved = tally.moved;
+        highest = larger(highest, needed);
         k += 1;
     }
-    Ran::Through(left)
+    Ran::Through(Course {
+        count: Count {
+            quads: quads,
+            moved: moved,
+        },
+        highest: highest,
+    })
+}
+
+// The triangles follow the counts: patterns up to the last quad, zeros up to the highest count.
+fn mend_patterns(triangles: &mut [u32], before: usize, after: usize, highest: usize)
+    requires { ⌜ (after ≤ highest) × (6 * highest ≤ length (now triangles)) × (4 * highest ≤ NONE) ⌝ }
+    ensures { λ _. ⌜ now (triangles .exit) ≡ patternsMended before after highest (now (triangles .entry)) ⌝ }
+{
+    write_patterns(triangles, before, after);
+    let start = 6 * after;
+    let end = 6 * highest;
+    clear(&mut triangles[start..end], end - start, 0);
 }
 
 // BAD_ENTRY: the lowest bad entry, else a ragged end.
@@ -97,20 +154,16 @@ fn entry_verdict(log: &[u8], cells: u32, types: u32) -> Verdict
     refuse_if(log.len() % Entry::BYTES != 0, Refusal::BadEntry, entries)
 }
 
-// BAD_SIZE, BAD_TYPES, BAD_NUMBER, NOT_A_CUBE, and SHORT_ROOM to BAD_ENTRY.
-fn update_verdict(
+// BAD_SIZE, BAD_TYPES, BAD_NUMBER, NOT_A_CUBE, SHORT_ROOM and BAD_COUNT: what is asked before the mesh is looked at.
+fn told_verdict(
     scene: Scene,
     kinds: &[u8],
     covers: &[u8],
     cubes: &[u32],
-    log: &[u8],
-    vertices: &[u32],
-    triangles: &[u32],
-    links: &[u32],
-    slots: &[u32],
+    lengths: Lengths,
     quads: usize,
 ) -> Verdict
-    ensures { λ r. ⌜ verdictOf r ≡ updateVerdict (sceneOf scene (now (kinds .entry)) (now (covers .entry)) (now (cubes .entry))) (now (log .entry)) (listsOf (now (vertices .entry)) (now (triangles .entry)) (now (links .entry)) (now (slots .entry))) quads ⌝ }
+    ensures { λ r. ⌜ ((B : Lists) → Long B lengths → verdictOf r ≡ toldVerdict (sceneOf scene (now (kinds .entry)) (now (covers .entry)) (now (cubes .entry))) B quads) ⌝ }
 {
     let size = size_verdict(scene.dims);
     if is_refusal(size) {
@@ -120,12 +173,7 @@ fn update_verdict(
     if is_refusal(typed) {
         return typed;
     }
-    let lent = lent_verdict(scene, vertices, triangles, links, slots, quads);
-    if is_refusal(lent) {
-        return lent;
-    }
-    let dims = scene.dims;
-    entry_verdict(log, dims.cell_count(), kinds.len() as u32)
+    lent_verdict(scene, lengths, quads)
 }
 
 // What an update answers: what was done; or why and where it refuses, and what was done before: nothing, unless an entry finds no room.
@@ -136,66 +184,72 @@ pub enum Updated {
 
 // Mends the mesh in place, entry by entry of the log, by the side tested.
 pub fn update_mesh(
-    vertices: &mut [u32],
-    triangles: &mut [u32],
-    links: &mut [u32],
-    slots: &mut [u32],
     scene: Scene,
     kinds: &[u8],
     covers: &[u8],
     cubes: &[u32],
     tested: Tested,
     log: &[u8],
+    vertices: &mut [u32],
+    triangles: &mut [u32],
+    links: &mut [u32],
+    slots: &mut [u32],
     quads: usize,
 ) -> Updated
     ensures { λ r. ⌜ outcomeOf r (listsOf (now (vertices .exit)) (now (triangles .exit)) (now (links .exit)) (now (slots .exit))) ≡ updateMesh (testedBy tested) (sceneOf scene (now (kinds .entry)) (now (covers .entry)) (now (cubes .entry))) (now (log .entry)) (listsOf (now (vertices .entry)) (now (triangles .entry)) (now (links .entry)) (now (slots .entry))) quads ⌝ }
 {
-    let verdict = update_verdict(
-        scene,
-        kinds,
-        covers,
-        cubes,
-        log,
-        vertices,
-        triangles,
-        links,
-        slots,
-        quads,
-    );
-    if let Verdict::Refuse(why, place) = verdict {
-        return Updated::Refused(why, place, Count { quads: 0, moved: 0 });
+    let none = Count { quads: 0, moved: 0 };
+    let lengths = Lengths {
+        vertices: vertices.len(),
+        triangles: triangles.len(),
+        links: links.len(),
+        slots: slots.len(),
+    };
+    let told = told_verdict(scene, kinds, covers, cubes, lengths, quads);
+    if let Verdict::Refuse(why, place) = told {
+        return Updated::Refused(why, place, none);
     }
     let dims = scene.dims;
-    let six = 6 * dims.cell_count() as usize;
-    let room = room_of(scene.coloured, vertices.len(), triangles.len(), links.len());
-    let mut moved: u64 = 0;
+    let cells = dims.cell_count();
+    let linked = links_verdict(cells, links, slots, quads);
+    if let Verdict::Refuse(why, place) = linked {
+        return Updated::Refused(why, place, none);
+    }
+    let patterned = triangles_verdict(triangles, quads);
+    if let Verdict::Refuse(why, place) = patterned {
+        return Updated::Refused(why, place, none);
+    }
+    let entered = entry_verdict(log, cells, kinds.len() as u32);
+    if let Verdict::Refuse(why, place) = entered {
+        return Updated::Refused(why, place, none);
+    }
+    let six = 6 * cells as usize;
+    let room = room_of(scene.coloured, lengths);
     let ran = run_log(
         vertices,
-        triangles,
         links,
         &mut slots[..six],
-        scene,
         kinds,
         covers,
         cubes,
-        tested,
         log,
-        room,
-        quads,
-        &mut moved,
+        Task {
+            scene: scene,
+            tested: tested,
+            room: room,
+            quads: quads,
+        },
     );
     match ran {
-        Ran::Through(done) => Updated::Done(Count {
-            quads: done,
-            moved: moved,
-        }),
-        Ran::Full(entry, done) => Updated::Refused(
-            Refusal::NoRoom,
-            entry,
-            Count {
-                quads: done,
-                moved: moved,
-            },
-        ),
+        Ran::Through(course) => {
+            let count = course.count;
+            mend_patterns(triangles, quads, count.quads, course.highest);
+            Updated::Done(count)
+        }
+        Ran::Full(entry, course) => {
+            let count = course.count;
+            mend_patterns(triangles, quads, count.quads, course.highest);
+            Updated::Refused(Refusal::NoRoom, entry, count)
+        }
     }
 }

@@ -1,19 +1,28 @@
 -- `update::update_mesh` meets its contract: a refusal, or the rule's course. Assumes nothing.
 use mathlib.Core.Path.{_≡_, refl, sym, ap, _∙_}
 use Prim.Native.Nat.{ℕ, _*_}
+use native.Mathlib.Omega.{arith}
+use lib.ListN.{length}
 use lib.Seq.{length-take-le}
+use Rattle.rules.specs.Cells.{cells}
 use Rattle.rules.specs.Mesh.{Lists, listsOf}
+use Rattle.rules.specs.Types.{floats}
 use Rattle.rules.specs.Update.{Tested}
-use Rattle.rules.specs.Answers as rules
-use Rattle.rules.specs.Answers.{fine}
-use Rattle.rules.specs.Calls.{Scene, faces, room, updateVerdict, updateBy, course}
+use Rattle.rules.specs.Answers.{Verdict, fine, _then_, BAD-SIZE, SHORT-SLOTS, BAD-COUNT, BAD-LINKS, BAD-TRIANGLES, BAD-ENTRY}
+use Rattle.rules.specs.Calls.{Scene, faces, room, typesVerdict}
+use Rattle.rules.proofs.Checking.{then-fine}
+use Rattle.rules.proofs.Demands.{Room}
 use Rattle.answers.specs.Verdicts.{verdictOf}
-use Rattle.admit.specs.Scenes.{sceneOf}
-use Rattle.admit.proofs.Admitting.{sized}
-use Rattle.sides.specs.Tests.{testedBy}
-use Rattle.changes.specs.declared.Ran.{Ran}
-use Rattle.changes.specs.Ran.{ranOf}
-use Rattle.flat.proofs.Whole.{size-fine, lent-ends, lent-logging, lent-outcome}
+use Rattle.util.specs.Grid.{Within}
+use Rattle.terms.specs.Scenes.{sceneOf}
+use Rattle.terms.specs.Modes.{testedBy}
+use Rattle.lent.specs.Scenes.{Lent}
+use Rattle.lent.proofs.Admitted.{sized, typed, lent}
+use Rattle.lent.proofs.Linked.{few-linked}
+use Rattle.update.specs.declared.Ran.{Ran}
+use Rattle.update.specs.Runs.{ranOf, laidOut, courseIn}
+use Rattle.update.specs.Outcome.{toldVerdict}
+use Rattle.update.proofs.Whole.{past, at-it, tests, refused-so, lent-ends, lent-logging, lent-mend, lent-outcome}
 use borrow.Author.Needs.{needs}
 use Rattle.update.proofs.update_mesh.Statement.{statement}
 use Rattle.update.proofs.update_mesh.Tie as tie
@@ -27,20 +36,131 @@ side t = testedBy (t .args .tested)
 abbrev lists : tie.Start → Lists
 lists t = let a = t .args in listsOf (a .vertices .now) (a .triangles .now) (a .links .now) (a .slots .now)
 
-accepted : (c : tie.After-enum-told) → let t = c .before .before .before .before .before .before .before .before .before .before .before .before .before .before .before in updateVerdict (scene t) (t .args .log .now) (lists t) (t .args .quads) ≡ fine
-accepted c = sym (c .before .before .update-verdict .ensures) ∙ ap verdictOf (c .enum-told .given .1)
+abbrev size : tie.Start → ℕ
+size t = cells ((scene t) .size)
 
-six : (c : tie.After-cell-count) → 6 * c .cell-count .result ≡ faces (scene (c .before .before .before .before .before .before .before .before .before .before .before .before .before .before .before .before .before))
-six c = ap (λ (n : ℕ). 6 * n) (c .cell-count .ensures)
+-- ---- 2, 3, 4, 6, 9 and 10
+abbrev begun : tie.After-told-verdict → tie.Start
+begun c = c .before .before .before .before .before .before .before .before .before
 
-found : (c : tie.After-room-of) → c .room-of .result ≡ room (scene (c .before .before .before .before .before .before .before .before .before .before .before .before .before .before .before .before .before .before)) (lists (c .before .before .before .before .before .before .before .before .before .before .before .before .before .before .before .before .before .before))
-found c = c .room-of .ensures (lists (c .before .before .before .before .before .before .before .before .before .before .before .before .before .before .before .before .before .before)) (record { vertices = refl; triangles = refl; links = refl })
+told-is : (c : tie.After-told-verdict) → verdictOf (c .told-verdict .result) ≡ toldVerdict (scene (begun c)) (lists (begun c)) (begun c .args .quads)
+told-is c = c .told-verdict .ensures (lists (begun c)) (record { vertices = refl; triangles = refl; links = refl; slots = refl })
 
-update-verdict-requires : tie.Need-update-verdict-requires
-update-verdict-requires c κs = search needs
+abbrev asked : tie.After-enum-told → tie.Start
+asked c = begun (c .before .before)
 
-enum-known-verdict : tie.Need-enum-known-verdict
-enum-known-verdict c = search needs
+told-fine : (c : tie.After-enum-told) → toldVerdict (scene (asked c)) (lists (asked c)) (asked c .args .quads) ≡ fine
+told-fine c = sym (told-is (c .before .before)) ∙ ap verdictOf (c .enum-told .given .1)
+
+within : (c : tie.After-enum-told) → Within ((scene (asked c)) .size)
+within c = let t = asked c in sized (scene t) (then-fine (BAD-SIZE ((scene t) .size)) _ (told-fine c) .0)
+
+lent-well : (c : tie.After-enum-told) → let t = asked c in Lent (size t) (t .args .links .now) (t .args .slots .now) (t .args .quads) × Room (scene t) (lists t) (t .args .quads)
+lent-well c =
+    let t = asked c in
+    let S = scene t in
+    let a = then-fine (typesVerdict S) _ (then-fine (BAD-SIZE (S .size)) _ (told-fine c) .1) .1 in
+    let b = then-fine (SHORT-SLOTS (S .size) (lists t)) (BAD-COUNT (floats (S .types)) (lists t) (t .args .quads)) a in
+    lent S (lists t) (t .args .quads) (within c) (omega arith) (b .0) (b .1)
+
+-- ---- 11
+abbrev opened : tie.After-links-verdict → tie.After-enum-told
+opened c = c .before .before .before .before .before
+
+links-are : (c : tie.After-links-verdict) → let t = asked (opened c) in verdictOf (c .links-verdict .result) ≡ BAD-LINKS (size t) (lists t) (t .args .quads)
+links-are c =
+    let t = asked (opened c) in
+    c .links-verdict .ensures (t .args .vertices .now) (t .args .triangles .now)
+    ∙ ap (λ (n : ℕ). BAD-LINKS n (lists t) (t .args .quads)) (c .before .before .before .cell-count .ensures)
+
+abbrev listed : tie.After-enum-told2 → tie.Start
+listed c = asked (opened (c .before .before))
+
+links-fine : (c : tie.After-enum-told2) → BAD-LINKS (size (listed c)) (lists (listed c)) (listed c .args .quads) ≡ fine
+links-fine c = sym (links-are (c .before .before)) ∙ ap verdictOf (c .enum-told2 .given .1)
+
+-- ---- 12
+abbrev linked : tie.After-triangles-verdict → tie.After-enum-told2
+linked c = c .before .before
+
+triangles-are : (c : tie.After-triangles-verdict) → let t = listed (linked c) in verdictOf (c .triangles-verdict .result) ≡ BAD-TRIANGLES (lists t) (t .args .quads)
+triangles-are c = let a = listed (linked c) .args in c .triangles-verdict .ensures (a .vertices .now) (a .links .now) (a .slots .now)
+
+abbrev drawn : tie.After-enum-told3 → tie.Start
+drawn c = listed (linked (c .before .before))
+
+triangles-fine : (c : tie.After-enum-told3) → BAD-TRIANGLES (lists (drawn c)) (drawn c .args .quads) ≡ fine
+triangles-fine c = sym (triangles-are (c .before .before)) ∙ ap verdictOf (c .enum-told3 .given .1)
+
+-- ---- 13
+abbrev patterned : tie.After-entry-verdict → tie.After-enum-told3
+patterned c = c .before
+
+abbrev counted : tie.After-entry-verdict → tie.After-cell-count
+counted c = (linked (patterned c .before .before)) .before .before .before .before .before
+
+entries-are : (c : tie.After-entry-verdict) → let t = drawn (patterned c) in
+    verdictOf (c .entry-verdict .result) ≡ BAD-ENTRY (size t) (length (t .args .kinds .now)) (t .args .log .now)
+entries-are c = rw (counted c .cell-count .ensures) at (c .entry-verdict .ensures)
+
+abbrev whole : tie.After-enum-told4 → tie.Start
+whole c = drawn (patterned (c .before .before))
+
+entries-fine : (c : tie.After-enum-told4) → BAD-ENTRY (size (whole c)) (length (whole c .args .kinds .now)) (whole c .args .log .now) ≡ fine
+entries-fine c = sym (entries-are (c .before .before)) ∙ ap verdictOf (c .enum-told4 .given .1)
+
+-- ---- all passed
+accepted : (c : tie.After-enum-told4) → let t = whole c in tests (side t) (scene t) (t .args .log .now) (lists t) (t .args .quads) ≡ fine
+accepted c =
+    let p = patterned (c .before .before) in
+    let l = linked (p .before .before) in
+    past (told-fine (opened (l .before .before))) (past (links-fine l) (past (triangles-fine p) (entries-fine c)))
+
+six : (c : tie.After-enum-told4) → 6 * counted (c .before .before) .cell-count .result ≡ faces (scene (whole c))
+six c = ap (λ (n : ℕ). 6 * n) (counted (c .before .before) .cell-count .ensures)
+
+found : (c : tie.After-room-of) → c .room-of .result ≡ room (scene (whole (c .before))) (lists (whole (c .before)))
+found c = c .room-of .ensures (lists (whole (c .before))) (record { vertices = refl; triangles = refl; links = refl; slots = refl })
+
+-- the log's end, as the rule has it
+abbrev roomed : tie.After-run-log → tie.After-room-of
+roomed c = c .before .before .before .before
+
+abbrev Ends : tie.After-run-log → Ran → Type 0
+Ends c x =
+    let t = whole (roomed c .before) in
+    let a = t .args in
+    let l = c .run-log .last in
+    ranOf x (l .0) (l .1 .0) (l .1 .1 .0) ≡ laidOut (scene t) (a .vertices .now) (a .links .now)
+    (courseIn (side t) (scene t) (roomed c .room-of .result) (a .log .now) (a .vertices .now) (a .links .now) (a .quads))
+
+ends : (c : tie.After-run-log) {x : Ran} → c .run-log .result ≡ x → Ends c x
+ends c {x} e = let l = c .run-log .last in ap (λ (y : Ran). ranOf y (l .0) (l .1 .0) (l .1 .1 .0)) (sym e) ∙ c .run-log .ensures
+
+told-verdict-requires : tie.Need-told-verdict-requires
+told-verdict-requires c κs = search needs
+
+enum-known-told : tie.Need-enum-known-told
+enum-known-told c = search needs
+
+returns : tie.Need-returns
+returns c =
+    let t = begun (c .before .before .before) in
+    refused-so (side t) (scene t) (t .args .log .now) (lists t) (t .args .quads) (at-it _ (sym (told-is (c .before .before .before)) ∙ ap verdictOf (c .before .told .given .1)))
+
+enum-told : tie.Need-enum-told
+enum-told c = search needs
+
+cell-count-requires : tie.Need-cell-count-requires
+cell-count-requires c κs = within (c .before) .sides
+
+links-verdict-requires : tie.Need-links-verdict-requires
+links-verdict-requires c κs =
+    let counted = c .before .before in
+    rw (counted .cell-count .ensures) (lent-well (counted .before .before) .0)
+
+enum-known-linked : tie.Need-enum-known-linked
+enum-known-linked c = search needs
 
 same-length : tie.Need-same-length
 same-length c = search needs
@@ -48,26 +168,78 @@ same-length c = search needs
 same-length-2 : tie.Need-same-length-2
 same-length-2 c = search needs
 
+returns-2 : tie.Need-returns-2
+returns-2 c =
+    let l = c .before .before .before in
+    let t = asked (opened l) in
+    refused-so (side t) (scene t) (t .args .log .now) (lists t) (t .args .quads) (past (told-fine (opened l)) (at-it _ (sym (links-are l) ∙ ap verdictOf (c .before .linked .given .1))))
+
+enum-told-2 : tie.Need-enum-told-2
+enum-told-2 c = search needs
+
+triangles-verdict-requires : tie.Need-triangles-verdict-requires
+triangles-verdict-requires c κs =
+    let l = c .before in
+    let t = listed l in
+    let w = lent-well (opened (l .before .before)) in
+    let m = within (opened (l .before .before)) .most in
+    (w .1 .triangles, omega (arith, few-linked (size t) (lists t) (t .args .quads) (w .0 .slotted) (links-fine l)))
+
+enum-known-patterned : tie.Need-enum-known-patterned
+enum-known-patterned c = search needs
+
 same-length-3 : tie.Need-same-length-3
 same-length-3 c = search needs
 
 same-length-4 : tie.Need-same-length-4
 same-length-4 c = search needs
 
-returns : tie.Need-returns
-returns c =
-    let t = c .before .before .before .before .before .before .before .before .before .before .before .before .before .before .before .before in
-    let a = t .args in
-    sym (ap (λ (v : rules.Verdict). updateBy v (scene t) (course (side t) (scene t) (a .log .now) (lists t) (a .quads)) (lists t))
-    (sym (c .before .before .before .update-verdict .ensures) ∙ ap verdictOf (c .before .verdict .given .1)))
+same-length-5 : tie.Need-same-length-5
+same-length-5 c = search needs
 
-enum-told : tie.Need-enum-told
-enum-told c = search needs
+returns-3 : tie.Need-returns-3
+returns-3 c =
+    let p = c .before .before .before in
+    let l = linked p in
+    let t = listed l in
+    refused-so (side t) (scene t) (t .args .log .now) (lists t) (t .args .quads) (past (told-fine (opened (l .before .before))) (past (links-fine l) (at-it _ (sym (triangles-are p) ∙ ap verdictOf (c .before .patterned .given .1)))))
 
-cell-count-requires : tie.Need-cell-count-requires
-cell-count-requires c κs =
-    let t = c .before .before .before .before .before .before .before .before .before .before .before .before .before .before .before .before in
-    sized (scene t) (size-fine (side t) (scene t) (t .args .log .now) (lists t) (t .args .quads) (accepted (c .before))) .sides
+enum-told-3 : tie.Need-enum-told-3
+enum-told-3 c = search needs
+
+cast-entry-verdict : tie.Need-cast-entry-verdict
+cast-entry-verdict c =
+    let told = opened ((linked (c .before .before)) .before .before) in
+    let t = asked told in
+    let few = typed (scene t) (then-fine (typesVerdict (scene t)) _ (then-fine (BAD-SIZE ((scene t) .size)) _ (told-fine told) .1) .0) .counted .few in
+    omega arith
+
+entry-verdict-requires : tie.Need-entry-verdict-requires
+entry-verdict-requires c κs = search needs
+
+enum-known-entered : tie.Need-enum-known-entered
+enum-known-entered c = search needs
+
+same-length-6 : tie.Need-same-length-6
+same-length-6 c = search needs
+
+same-length-7 : tie.Need-same-length-7
+same-length-7 c = search needs
+
+same-length-8 : tie.Need-same-length-8
+same-length-8 c = search needs
+
+returns-4 : tie.Need-returns-4
+returns-4 c =
+    let e = c .before .before .before in
+    let p = patterned e in
+    let l = linked (p .before .before) in
+    let t = drawn p in
+    refused-so (side t) (scene t) (t .args .log .now) (lists t) (t .args .quads)
+    (past (told-fine (opened (l .before .before))) (past (links-fine l) (past (triangles-fine p) (sym (entries-are e) ∙ ap verdictOf (c .before .entered .given .1)))))
+
+enum-told-4 : tie.Need-enum-told-4
+enum-told-4 c = search needs
 
 cast-six : tie.Need-cast-six
 cast-six c = search needs
@@ -80,45 +252,43 @@ room-of-requires c κs = search needs
 
 slice-relend-prefix-run-log : tie.Need-slice-relend-prefix-run-log
 slice-relend-prefix-run-log c =
-    let t = c .before .before .before .before .before .before .before .before .before .before .before .before .before .before .before .before .before .before .before .before .before in
-    lent-ends (side t) (scene t) (t .args .log .now) (lists t) (t .args .quads) (accepted (c .before .before .before .before .before .before)) (six (c .before .before .before .before)) (found (c .before .before .before))
+    let r = c .before .before in
+    let t = whole (r .before) in
+    lent-ends (side t) (scene t) (t .args .log .now) (lists t) (t .args .quads) (accepted (r .before)) (six (r .before)) (found r)
 
 slice-aggregate-run-log : tie.Need-slice-aggregate-run-log
 slice-aggregate-run-log c =
-    let t = c .before .before .before .before .before .before .before .before .before .before .before .before .before .before .before .before .before .before .before .before .before .before in
-    sym (length-take-le _ (t .args .slots .now) (lent-ends (side t) (scene t) (t .args .log .now) (lists t) (t .args .quads) (accepted (c .before .before .before .before .before .before .before)) (six (c .before .before .before .before .before)) (found (c .before .before .before .before))))
+    let r = c .before .before .before in
+    let t = whole (r .before) in
+    sym (length-take-le _ (t .args .slots .now) (lent-ends (side t) (scene t) (t .args .log .now) (lists t) (t .args .quads) (accepted (r .before)) (six (r .before)) (found r)))
 
 run-log-requires : tie.Need-run-log-requires
 run-log-requires c κs =
-    let t = c .before .before .before .before .before .before .before .before .before .before .before .before .before .before .before .before .before .before .before .before .before .before .before in
-    lent-logging (side t) (scene t) (t .args .log .now) (lists t) (t .args .quads) (accepted (c .before .before .before .before .before .before .before .before)) (six (c .before .before .before .before .before .before)) (found (c .before .before .before .before .before))
+    let r = c .before .before .before in
+    let t = whole (r .before) in
+    lent-logging (side t) (scene t) (t .args .log .now) (lists t) (t .args .quads) (accepted (r .before)) (six (r .before)) (found r)
 
 enum-known-ran : tie.Need-enum-known-ran
 enum-known-ran c = search needs
 
+mend-patterns-requires : tie.Need-mend-patterns-requires
+mend-patterns-requires c κs =
+    let met = c .before .before .before in
+    let went = met .before .before .before .before .before .before .before .before in
+    let r = roomed went in
+    let t = whole (r .before) in
+    lent-mend (side t) (scene t) (t .args .log .now) (lists t) (t .args .quads) (accepted (r .before)) (six (r .before)) (found r) (ends went (met .ran .given .1))
+
 enum-known-ran-2 : tie.Need-enum-known-ran-2
 enum-known-ran-2 c = search needs
 
-same-length-5 : tie.Need-same-length-5
-same-length-5 c = search needs
-
-same-length-6 : tie.Need-same-length-6
-same-length-6 c = search needs
-
-same-length-7 : tie.Need-same-length-7
-same-length-7 c = search needs
-
-same-length-8 : tie.Need-same-length-8
-same-length-8 c = search needs
-
-returns-2 : tie.Need-returns-2
-returns-2 c =
-    let went = c .before .before .before .before .before .before .before .before .before .before .before in
-    let roomed = went .before .before .before .before .before .before in
-    let t = roomed .before .before .before .before .before .before .before .before .before .before .before .before .before .before .before .before .before .before in
-    let r = went .run-log in
-    lent-outcome (side t) (scene t) (t .args .log .now) (lists t) (t .args .quads) (accepted (roomed .before .before .before)) (six (roomed .before)) (found roomed)
-    (ap (λ (x : Ran). ranOf x (listsOf (r .last .0) (r .last .1 .0) (r .last .1 .1 .0) (r .last .1 .1 .1 .0)) (r .last .1 .1 .1 .1 .1 .1 .1 .1 .1 .1 .1 .1 .0)) (sym (c .before .ran .given .1)) ∙ r .ensures)
+mend-patterns-requires-2 : tie.Need-mend-patterns-requires-2
+mend-patterns-requires-2 c κs =
+    let met = c .before .before .before in
+    let went = met .before .before .before .before .before .before .before .before in
+    let r = roomed went in
+    let t = whole (r .before) in
+    lent-mend (side t) (scene t) (t .args .log .now) (lists t) (t .args .quads) (accepted (r .before)) (six (r .before)) (found r) (ends went (met .ran2 .given .1))
 
 same-length-9 : tie.Need-same-length-9
 same-length-9 c = search needs
@@ -132,28 +302,66 @@ same-length-11 c = search needs
 same-length-12 : tie.Need-same-length-12
 same-length-12 c = search needs
 
-returns-3 : tie.Need-returns-3
-returns-3 c =
-    let went = c .before .before .before .before .before .before .before .before .before .before .before in
-    let roomed = went .before .before .before .before .before .before in
-    let t = roomed .before .before .before .before .before .before .before .before .before .before .before .before .before .before .before .before .before .before in
-    let r = went .run-log in
-    lent-outcome (side t) (scene t) (t .args .log .now) (lists t) (t .args .quads) (accepted (roomed .before .before .before)) (six (roomed .before)) (found roomed)
-    (ap (λ (x : Ran). ranOf x (listsOf (r .last .0) (r .last .1 .0) (r .last .1 .1 .0) (r .last .1 .1 .1 .0)) (r .last .1 .1 .1 .1 .1 .1 .1 .1 .1 .1 .1 .1 .0)) (sym (c .before .ran2 .given .1)) ∙ r .ensures)
+returns-5 : tie.Need-returns-5
+returns-5 c =
+    let mended = c .before .before in
+    let met = mended .before .before .before .before in
+    let went = met .before .before .before .before .before .before .before .before in
+    let r = roomed went in
+    let t = whole (r .before) in
+    lent-outcome (side t) (scene t) (t .args .log .now) (lists t) (t .args .quads) (accepted (r .before)) (six (r .before)) (found r) (ends went (met .ran .given .1)) (mended .mend-patterns .ensures)
+
+same-length-13 : tie.Need-same-length-13
+same-length-13 c = search needs
+
+same-length-14 : tie.Need-same-length-14
+same-length-14 c = search needs
+
+same-length-15 : tie.Need-same-length-15
+same-length-15 c = search needs
+
+same-length-16 : tie.Need-same-length-16
+same-length-16 c = search needs
+
+returns-6 : tie.Need-returns-6
+returns-6 c =
+    let mended = c .before .before in
+    let met = mended .before .before .before .before in
+    let went = met .before .before .before .before .before .before .before .before in
+    let r = roomed went in
+    let t = whole (r .before) in
+    lent-outcome (side t) (scene t) (t .args .log .now) (lists t) (t .args .quads) (accepted (r .before)) (six (r .before)) (found r) (ends went (met .ran2 .given .1)) (mended .mend-patterns2 .ensures)
 
 pub update-mesh-spec : {M : Type 1} → statement M
 update-mesh-spec =
     tie.close
     (tie.spec
-    update-verdict-requires
-    enum-known-verdict
-    same-length
-    same-length-2
-    same-length-3
-    same-length-4
+    told-verdict-requires
+    enum-known-told
     returns
     enum-told
     cell-count-requires
+    links-verdict-requires
+    enum-known-linked
+    same-length
+    same-length-2
+    returns-2
+    enum-told-2
+    triangles-verdict-requires
+    enum-known-patterned
+    same-length-3
+    same-length-4
+    same-length-5
+    returns-3
+    enum-told-3
+    cast-entry-verdict
+    entry-verdict-requires
+    enum-known-entered
+    same-length-6
+    same-length-7
+    same-length-8
+    returns-4
+    enum-told-4
     cast-six
     mul-six
     room-of-requires
@@ -161,14 +369,16 @@ update-mesh-spec =
     slice-aggregate-run-log
     run-log-requires
     enum-known-ran
+    mend-patterns-requires
     enum-known-ran-2
-    same-length-5
-    same-length-6
-    same-length-7
-    same-length-8
-    returns-2
+    mend-patterns-requires-2
     same-length-9
     same-length-10
     same-length-11
     same-length-12
-    returns-3)
+    returns-5
+    same-length-13
+    same-length-14
+    same-length-15
+    same-length-16
+    returns-6)

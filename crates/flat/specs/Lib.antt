@@ -1,4 +1,0 @@
-pub mod Flat
-pub mod Courses
-pub mod Holding
-pub mod Facing

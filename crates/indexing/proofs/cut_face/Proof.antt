@@ -1,0 +1,96 @@
+-- `indexing::cut_face` meets its contract: VIVI tells the quad. Assumes nothing.
+use mathlib.Core.Path.{_≡_, refl, sym, ap, _∙_, subst}
+use mathlib.Core.List.{List, [], _∷_}
+use Prim.Native.Nat.{ℕ, _+_, _*_, _/_, _<_}
+use native.Mathlib.Omega.{arith}
+use lib.ListN.{length, getD}
+use Rattle.rules.specs.Cells.{UNIT, keyOf}
+use Rattle.rules.specs.Mesh.{NONE}
+use Rattle.face.specs.Face.{number}
+use Rattle.face.proofs.Laws.{number-below}
+use Rattle.indexing.specs.Index.{Index, indexOf, slotIn}
+use Rattle.mesh_metadata.specs.Index.{vertexIn}
+use Rattle.indexing.specs.Index.{Removable, goneAt}
+use Rattle.indexing.proofs.Doing.{standing, removable, hide-none, hide-one, none-told, some-told}
+use borrow.Author.Needs.{needs}
+use Rattle.indexing.proofs.cut_face.Statement.{statement}
+use Rattle.indexing.proofs.cut_face.Tie as tie
+
+abbrev face : tie.Start → ℕ
+face t = keyOf (t .args .cell .0) (number (t .args .face))
+
+abbrev there : tie.Start → Index
+there t = indexOf (t .args .links .now) (t .args .slots .now) (t .args .steps .now) (t .args .tally)
+
+inside : (t : tie.Start) → (t .args .cell .0 < UNIT) × (face t < length (t .args .slots .now))
+inside t =
+    let z = standing (t .pre .1 .booked) .slots in
+    let g = t .pre .1 .good .0 in
+    let s = t .pre .1 .booked .small in
+    let f = number-below (t .args .face) in
+    (omega arith, omega arith)
+
+get-quad-index-requires : tie.Need-get-quad-index-requires
+get-quad-index-requires c κs = inside (c .before .before .before .before)
+
+enum-told : tie.Need-enum-told
+enum-told c = search needs
+
+enum-known-vertex : tie.Need-enum-known-vertex
+enum-known-vertex c = search needs
+
+quad-requires : tie.Need-quad-requires
+quad-requires c κs = search needs
+
+remove-quad-requires : tie.Need-remove-quad-requires
+remove-quad-requires c κs =
+    let met = c .before .before .before .before .before in
+    let found = met .before .before in
+    let t = found .before .before .before .before .before in
+    let e = some-told (slotIn (there t) (face t)) _ (sym (found .get-quad-index .ensures) ∙ ap vertexIn (met .vertex .given .1)) in
+    (subst (λ (q : ℕ). Removable q (there t)) (ap (λ (v : ℕ). v / 4) (e .1) ∙ sym (c .quad .ensures)) (removable (t .pre .1) (e .0)), t .pre .0)
+
+same-length : tie.Need-same-length
+same-length c = search needs
+
+returns : tie.Need-returns
+returns c =
+    let found = c .before .before in
+    let t = found .before .before .before .before .before in
+    sym (hide-none (face t) (there t) (none-told (slotIn (there t) (face t)) (sym (found .get-quad-index .ensures) ∙ ap vertexIn (c .enum-told .given .1))))
+
+same-length-2 : tie.Need-same-length-2
+same-length-2 c = search needs
+
+same-length-3 : tie.Need-same-length-3
+same-length-3 c = search needs
+
+same-length-4 : tie.Need-same-length-4
+same-length-4 c = search needs
+
+returns-2 : tie.Need-returns-2
+returns-2 c =
+    let went = c .before .before .before .before .before .before in
+    let met = went .before .before .before .before .before .before in
+    let found = met .before .before in
+    let t = found .before .before .before .before .before in
+    let e = some-told (slotIn (there t) (face t)) _ (sym (found .get-quad-index .ensures) ∙ ap vertexIn (met .vertex .given .1)) in
+    went .remove-quad .ensures
+    ∙ ap (λ (q : ℕ). goneAt q (there t)) (went .before .quad .ensures ∙ sym (ap (λ (v : ℕ). v / 4) (e .1)))
+    ∙ sym (hide-one (face t) (there t) (e .0))
+
+pub cut-face-spec : {M : Type 1} → statement M
+cut-face-spec =
+    tie.close
+    (tie.spec
+    get-quad-index-requires
+    enum-told
+    enum-known-vertex
+    quad-requires
+    remove-quad-requires
+    same-length
+    returns
+    same-length-2
+    same-length-3
+    same-length-4
+    returns-2)

@@ -1,0 +1,76 @@
+-- `indexing::draw_face` meets its contract. Assumes nothing.
+use mathlib.Core.Path.{_≡_, refl, sym, ap, _∙_, subst}
+use mathlib.Core.List.{List, [], _∷_}
+use Prim.Native.Nat.{ℕ, _+_, _*_, _/_, _<_}
+use native.Mathlib.Omega.{arith}
+use lib.ListN.{length, getD}
+use Rattle.rules.specs.Cells.{UNIT, keyOf}
+use Rattle.rules.specs.Mesh.{NONE}
+use Rattle.face.specs.Face.{number}
+use Rattle.face.proofs.Laws.{number-below}
+use Rattle.indexing.specs.Index.{Index, indexOf, slotIn}
+use Rattle.indexing.proofs.Doing.{standing, drawable, show-there, show-new, filled-no, filled-yes}
+use borrow.Author.Needs.{needs}
+use Rattle.indexing.proofs.draw_face.Statement.{statement}
+use Rattle.indexing.proofs.draw_face.Tie as tie
+
+abbrev face : tie.Start → ℕ
+face t = keyOf (t .args .cell .0) (number (t .args .face))
+
+abbrev there : tie.Start → Index
+there t = indexOf (t .args .links .now) (t .args .slots .now) (t .args .steps .now) (t .args .tally)
+
+inside : (t : tie.Start) → (t .args .cell .0 < UNIT) × (face t < length (t .args .slots .now))
+inside t =
+    let z = standing (t .pre .1 .booked) .slots in
+    let g = t .pre .1 .good .0 .0 in
+    let s = t .pre .1 .booked .small in
+    let f = number-below (t .args .face) in
+    (omega arith, omega arith)
+
+is-filled-requires : tie.Need-is-filled-requires
+is-filled-requires c κs = inside (c .before .before .before .before)
+
+same-length : tie.Need-same-length
+same-length c = search needs
+
+returns : tie.Need-returns
+returns c =
+    let t = c .before .before .before .before .before .before in
+    sym (show-there (face t) (t .args .voxel) (there t) (filled-yes (slotIn (there t) (face t)) (sym (c .before .is-filled .ensures) ∙ c .if1 .taken)))
+
+append-quad-requires : tie.Need-append-quad-requires
+append-quad-requires c κs =
+    let test = c .before .before .before in
+    let t = test .before .before .before .before .before .before in
+    (drawable (t .args .cell .0) (number (t .args .face)) (t .pre .1) (filled-no (slotIn (there t) (face t)) (sym (test .before .is-filled .ensures) ∙ test .if1 .left)), t .pre .0)
+
+same-length-2 : tie.Need-same-length-2
+same-length-2 c = search needs
+
+same-length-3 : tie.Need-same-length-3
+same-length-3 c = search needs
+
+same-length-4 : tie.Need-same-length-4
+same-length-4 c = search needs
+
+returns-2 : tie.Need-returns-2
+returns-2 c =
+    let went = c .before .before .before .before .before .before in
+    let test = went .before .before .before .before in
+    let t = test .before .before .before .before .before .before in
+    went .append-quad .ensures
+    ∙ sym (show-new (face t) (t .args .voxel) (there t) (filled-no (slotIn (there t) (face t)) (sym (test .before .is-filled .ensures) ∙ test .if1 .left)))
+
+pub draw-face-spec : {M : Type 1} → statement M
+draw-face-spec =
+    tie.close
+    (tie.spec
+    is-filled-requires
+    same-length
+    returns
+    append-quad-requires
+    same-length-2
+    same-length-3
+    same-length-4
+    returns-2)

@@ -1,0 +1,76 @@
+-- `indexing::remove_quad` meets its contract: each list by the leaf that mends it. Assumes nothing.
+use mathlib.Core.Path.{refl, ap, _∙_}
+use Prim.Native.Nat.{ℕ, _+_}
+use native.Mathlib.Omega.{arith}
+use Rattle.rules.proofs.Quads.{movedBy-le}
+use Rattle.steps.specs.Steps.{CUT, stepsIn}
+use Rattle.indexing.specs.Index.{goneAt}
+use Rattle.indexing.proofs.Doing.{same-index, steps-more}
+use borrow.Author.Needs.{needs}
+use Rattle.indexing.proofs.remove_quad.Statement.{statement}
+use Rattle.indexing.proofs.remove_quad.Tie as tie
+
+cast-place : tie.Need-cast-place
+cast-place c = search needs
+
+moved-by-requires : tie.Need-moved-by-requires
+moved-by-requires c κs = search needs
+
+add-moved : tie.Need-add-moved
+add-moved c =
+    let t = c .before .before .before .before .before .before in
+    let few = movedBy-le (t .args .tally .quads) (t .args .quad .0) (t .pre .0 .within) in
+    omega (arith, c .before .moved-by .ensures, t .pre .0 .moves)
+
+renumber-requires : tie.Need-renumber-requires
+renumber-requires c κs = search needs
+
+free-row-requires : tie.Need-free-row-requires
+free-row-requires c κs = search needs
+
+write-step-requires : tie.Need-write-step-requires
+write-step-requires c κs = search needs
+
+sub-t10 : tie.Need-sub-t10
+sub-t10 c = search needs
+
+add-t21 : tie.Need-add-t21
+add-t21 c = search needs
+
+same-length : tie.Need-same-length
+same-length c = search needs
+
+same-length-2 : tie.Need-same-length-2
+same-length-2 c = search needs
+
+same-length-3 : tie.Need-same-length-3
+same-length-3 c = search needs
+
+returns : tie.Need-returns
+unfolding goneAt
+returns c =
+    let wrote = c .before .before in
+    let linked = wrote .before .before .before .before in
+    let renamed = linked .before .before .before .before in
+    let counted = renamed .before .before .before .before in
+    let t = counted .before .before .before .before .before in
+    let a = t .args in
+    same-index (linked .free-row .ensures) (renamed .renumber .ensures) refl (ap (λ (v : ℕ). a .tally .moved + v) (counted .moved-by .ensures))
+    (ap (stepsIn (a .tally .steps + 1)) (wrote .write-step .ensures) ∙ steps-more (a .tally .steps) (a .quad .0) CUT (a .steps .now) (t .pre .1))
+
+pub remove-quad-spec : {M : Type 1} → statement M
+remove-quad-spec =
+    tie.close
+    (tie.spec
+    cast-place
+    moved-by-requires
+    add-moved
+    renumber-requires
+    free-row-requires
+    write-step-requires
+    sub-t10
+    add-t21
+    same-length
+    same-length-2
+    same-length-3
+    returns)

@@ -1,0 +1,96 @@
+-- `steps::draw_row` meets its contract. Assumes nothing.
+use mathlib.Core.Path.{_≡_, ap, _∙_}
+use mathlib.Core.List.{List, []}
+use Prim.Native.Nat.{ℕ, _+_, _*_, _≤_}
+use native.Mathlib.Omega.{arith}
+use lib.ListN.{length}
+use Rattle.rules.specs.Calls as rules
+use Rattle.face.specs.Face.{number}
+use Rattle.voxel_mesh.proofs.Shapes.{few}
+use Rattle.terms.specs.Scenes.{sceneOf}
+use Rattle.steps.proofs.Placing.{lent-drawable, lent-put}
+use borrow.Author.Needs.{needs}
+use Rattle.steps.proofs.draw_row.Statement.{statement}
+use Rattle.steps.proofs.draw_row.Tie as tie
+
+abbrev scene : tie.Start → rules.Scene
+scene t = sceneOf (t .args .scene) [] [] (t .args .cubes .now)
+
+words : (c : tie.After-floats-of) → c .floats-of .result ≤ 12
+words c = rw (c .floats-of .ensures) (few (c .before .before .before .args .scene .coloured) .1)
+
+ends : (c : tie.After-floats-of) →
+    let a = c .before .before .before .args in
+    24 * c .floats-of .result * a .voxel + 24 * c .floats-of .result ≤ length (a .cubes .now)
+ends c = rw (c .floats-of .ensures) (c .before .before .before .pre .2 .whole)
+
+floats-of-requires : tie.Need-floats-of-requires
+floats-of-requires c κs = search needs
+
+mul-start : tie.Need-mul-start
+mul-start c = search needs
+
+mul-start-2 : tie.Need-mul-start-2
+mul-start-2 c = omega (arith, words c, ends c)
+
+mul-end : tie.Need-mul-end
+mul-end c = search needs
+
+add-end : tie.Need-add-end
+add-end c = omega (arith, words c, ends c)
+
+three-d-cords-requires : tie.Need-three-d-cords-requires
+three-d-cords-requires c κs = search needs
+
+mul-write-place : tie.Need-mul-write-place
+mul-write-place c = omega (arith, ends (c .before .before))
+
+sub-write-place : tie.Need-sub-write-place
+sub-write-place c = search needs
+
+part-write-place-start : tie.Need-part-write-place-start
+part-write-place-start c = search needs
+
+part-write-place-end : tie.Need-part-write-place-end
+part-write-place-end c = omega (arith, ends (c .before .before))
+
+write-place-requires : tie.Need-write-place-requires
+write-place-requires c κs =
+    let placed = c .before .before in
+    let sized = placed .before in
+    let t = sized .before .before .before in
+    let a = t .args in (
+      lent-drawable (scene t) (a .voxel) (a .cell .0) _ _ (t .pre .0) (t .pre .1) (t .pre .2) (sized .floats-of .ensures) (placed .three-d-cords .ensures),
+      rw (sized .floats-of .ensures) (t .pre .3),
+    )
+
+same-length : tie.Need-same-length
+same-length c = search needs
+
+returns : tie.Need-returns
+returns c =
+    let wrote = c .before .before in
+    let placed = wrote .before .before .before in
+    let sized = placed .before in
+    let t = sized .before .before .before in
+    let a = t .args in
+    wrote .write-place .ensures
+    ∙ lent-put (scene t) (a .voxel) (a .cell .0) _ _ (t .pre .0) (t .pre .1) (t .pre .2) (sized .floats-of .ensures) (placed .three-d-cords .ensures) (a .q) (number (a .face)) (a .vertices .now)
+
+pub draw-row-spec : {M : Type 1} → statement M
+draw-row-spec =
+    tie.close
+    (tie.spec
+    floats-of-requires
+    mul-start
+    mul-start-2
+    mul-end
+    add-end
+    three-d-cords-requires
+    mul-write-place
+    sub-write-place
+    part-write-place-start
+    part-write-place-end
+    write-place-requires
+    same-length
+    returns)

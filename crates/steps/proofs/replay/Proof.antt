@@ -1,0 +1,75 @@
+-- `steps::replay` meets its contract. Assumes nothing.
+use mathlib.Core.Path.{sym, ap, _∙_, subst}
+use mathlib.Core.List.{[]}
+use Prim.Native.Nat.{ℕ, _+_, _-_}
+use native.Mathlib.Omega.{arith}
+use Rattle.rules.specs.Calls as rules
+use Rattle.rules.specs.Calls.{span}
+use Rattle.terms.specs.Scenes.{sceneOf}
+use Rattle.steps.specs.Steps.{Step, shelf, replayOne}
+use Rattle.steps.specs.Rows.{wordsBy, Stepping}
+use Rattle.steps.proofs.Turns.{Turning, start, this, turn, done}
+use Rattle.steps.proofs.replay.Statement.{statement}
+use Rattle.steps.proofs.replay.Tie as tie
+
+abbrev Inv-loop : tie.InvT-loop
+Inv-loop vertices₀ scene cubes steps n count left₀ i₀ vertices left i =
+    Turning (sceneOf scene [] [] cubes) steps n i (shelf vertices₀ left₀) (shelf vertices left)
+
+abbrev μ-loop : tie.MeasureT-loop
+μ-loop vertices₀ scene cubes steps n count left₀ i₀ vertices left i = n - i
+
+loop-holds : tie.Need-loop-holds Inv-loop μ-loop
+loop-holds c = start (c .before .before .before .pre .1)
+
+step-at-requires : tie.Need-step-at-requires Inv-loop μ-loop
+step-at-requires c κs =
+    let t = c .before .before .before .before .before .before in
+    let room = t .pre .0 in
+    let test = c .before .loop-test .taken in
+    omega arith
+
+replay-one-requires : tie.Need-replay-one-requires Inv-loop μ-loop
+replay-one-requires c κs =
+    let l = c .before .before .before .loop in
+    let t = c .before .before .before .before .before .before .before in
+    subst (λ (x : Step). Stepping (sceneOf (t .args .scene) [] [] (t .args .cubes .now)) x (shelf (l .vertices) (l .left))) (sym (c .step-at .ensures))
+    (this (l .inv) (c .before .before .loop-test .taken))
+
+add-i : tie.Need-add-i Inv-loop μ-loop
+add-i c = omega arith
+
+loop-less : tie.Need-loop-less Inv-loop μ-loop
+loop-less c = omega arith
+
+loop-again : tie.Need-loop-again Inv-loop μ-loop
+loop-again c =
+    let went = c .before .before in
+    let stepped = went .before in
+    let test = stepped .before .before in
+    let l = test .before .loop in
+    let t = test .before .before .before .before .before in
+    let S = sceneOf (t .args .scene) [] [] (t .args .cubes .now) in
+    turn (l .inv) (test .loop-test .taken)
+    (went .replay-one .ensures ∙ ap (λ (x : Step). replayOne (span S) (wordsBy S) x (shelf (l .vertices) (l .left))) (stepped .step-at .ensures))
+
+same-length : tie.Need-same-length Inv-loop μ-loop
+same-length c = c .before .loop .inv .kept
+
+returns : tie.Need-returns Inv-loop μ-loop
+returns c = done (c .before .loop .inv) (c .loop-test .left)
+
+pub replay-spec : {M : Type 1} → statement M
+replay-spec =
+    tie.close
+    (tie.spec
+    Inv-loop
+    μ-loop
+    loop-holds
+    step-at-requires
+    replay-one-requires
+    add-i
+    loop-less
+    loop-again
+    same-length
+    returns)

@@ -1,0 +1,52 @@
+-- The vertices of a mesh, as steps replay them. Definitions only.
+use Prim.Native.Nat.{ℕ, _+_, _*_, _/_, _%_, _≤_, _<_}
+use mathlib.Core.List.{List}
+use lib.ListN.{length}
+use lib.Dec.{T}
+use Rattle.rules.specs.Cells.{cells, keyOf}
+use Rattle.rules.specs.Floats.{finite3}
+use Rattle.rules.specs.Types.{floats, cubeOf}
+use Rattle.rules.specs.Calls.{Scene, world, span}
+use Rattle.face.specs.Face.{number}
+use Rattle.util.specs.Grid.{Within}
+use Rattle.types.specs.Tests.{Placed}
+use Rattle.steps.specs.Steps as rule
+use Rattle.steps.specs.Steps.{Shelf, CanOne, Can}
+use Rattle.steps.specs.declared.Step.{Step}
+use Rattle.steps.specs.declared.Step.the-variants.{Cut, Draw}
+
+-- the code's step as the rule has it
+abbrev pub stepOf : Step → rule.Step
+stepOf (Cut q) = rule.gone q
+stepOf (Draw cell face voxel) = rule.came (keyOf (cell .0) (number face)) voxel
+
+-- the vertex words of a key and a type
+abbrev pub wordsBy : Scene → ℕ → ℕ → List ℕ
+wordsBy S k t = (world S) .wordsOf t (k % 6) (k / 6)
+
+-- a type whose cube can be drawn
+pub record Shaped (S : Scene) (t : ℕ) : Type 0 where
+  pub whole : 24 * floats (S .types) * t + 24 * floats (S .types) ≤ length (S .types .cubes)
+  pub placed : Placed (cubeOf (S .types) t) (floats (S .types))
+  pub finite : T (finite3 (S .d))
+
+-- a face of the grid, and a type with a cube
+abbrev pub Drawn : Scene → ℕ → ℕ → Type 0
+Drawn S k t = (k / 6 < cells (S .size)) × Shaped S t
+
+-- room for R quads
+pub record Shelved (S : Scene) (R : ℕ) (v : Shelf) : Type 0 where
+  pub within : Within (S .size)
+  pub fits : span S * R ≤ length (v .words)
+  pub here : v .quads ≤ R
+
+-- a step, and steps, that can be done
+pub record Stepping (S : Scene) (x : rule.Step) (v : Shelf) : Type 0 where
+  pub room : ℕ
+  pub shelved : Shelved S room v
+  pub can : CanOne (Drawn S) room x (v .quads)
+
+pub record Replaying (S : Scene) (xs : List rule.Step) (v : Shelf) : Type 0 where
+  pub room : ℕ
+  pub shelved : Shelved S room v
+  pub can : Can (Drawn S) room xs (v .quads)

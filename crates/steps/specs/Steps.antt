@@ -1,0 +1,106 @@
+-- The steps of an update, and what each does to one list. Definitions only.
+use Prim.Native.Nat.{ℕ, zero, suc, _+_, _-_, _*_, _≤_, _<_, max}
+use mathlib.Core.Bool.{cond, not}
+use mathlib.Core.List.{List, [], _∷_, _++_, map}
+use lib.ListN.{length, getD}
+use lib.Dec.{ltb}
+use Rattle.rules.specs.Lists.{each, only, table}
+use Rattle.rules.specs.Mesh.{Quad, there, placeOf}
+use Rattle.rules.specs.Update.{removeAt, remove, draw, Op, put, cut}
+use Rattle.vav.specs.Rows as rows
+use Rattle.vav.specs.Rows.{freed}
+
+-- the quad at a place goes, or the face of a key is drawn for a type, after the last
+pub data Step : Type 0 where
+  gone : ℕ → Step
+  came : ℕ → ℕ → Step
+
+-- two words a step: a key and a type's code, or a place and CUT
+abbrev pub CUT : ℕ
+CUT = 256
+
+abbrev pub stepIn : ℕ → ℕ → Step
+stepIn a b = cond (ltb b CUT) (came a b) (gone a)
+
+abbrev pub stepAt : List ℕ → ℕ → Step
+stepAt xs i = stepIn (getD xs (2 * i) 0) (getD xs (2 * i + 1) 0)
+
+-- steps i, i + 1, .., n of them
+abbrev pub stepsFrom : ℕ → ℕ → List ℕ → List Step
+stepsFrom i n xs = each n i (λ k. stepAt xs k ∷ [])
+
+abbrev pub stepsIn : ℕ → List ℕ → List Step
+stepsIn n xs = stepsFrom 0 n xs
+
+-- ---- on a list of s words a quad
+
+pub record Shelf : Type 0 where
+  pub words : List ℕ
+  pub quads : ℕ
+
+abbrev pub shelf : List ℕ → ℕ → Shelf
+shelf xs Q = record { words = xs; quads = Q }
+
+abbrev pub countAfter : Step → ℕ → ℕ
+countAfter (gone q) Q = Q - 1
+countAfter (came k t) Q = Q + 1
+
+-- the row of a key and a type
+abbrev pub replayOne : ℕ → (ℕ → ℕ → List ℕ) → Step → Shelf → Shelf
+replayOne s row (gone q) S = shelf (freed s q (S .quads) (S .words)) (S .quads - 1)
+replayOne s row (came k t) S = shelf (rows.put (s * S .quads) (row k t) (S .words)) (S .quads + 1)
+
+abbrev pub replayed : ℕ → (ℕ → ℕ → List ℕ) → List Step → Shelf → Shelf
+replayed s row [] S = S
+replayed s row (x ∷ xs) S = replayed s row xs (replayOne s row x S)
+
+-- ---- what steps ask for: a place that is there, room, and a key and a type that can be drawn
+abbrev pub CanOne : (ℕ → ℕ → Type 0) → ℕ → Step → ℕ → Type 0
+CanOne P R (gone q) Q = q < Q
+CanOne P R (came k t) Q = (Q < R) × P k t
+
+abbrev pub Can : (ℕ → ℕ → Type 0) → ℕ → List Step → ℕ → Type 0
+Can P R [] Q = Unit {0}
+Can P R (x ∷ xs) Q = CanOne P R x Q × Can P R xs (countAfter x Q)
+
+-- ---- on the quads
+
+-- the quad of a key, for a type whose words are told
+abbrev pub quadBy : (ℕ → ℕ → List ℕ) → ℕ → ℕ → Quad
+quadBy words k t = record { key = k; words = words k t }
+
+abbrev pub stepped : (ℕ → ℕ → Quad) → Step → List Quad → List Quad
+stepped quad (gone q) m = removeAt q m
+stepped quad (came k t) m = m ++ (quad k t ∷ [])
+
+abbrev pub steppedAll : (ℕ → ℕ → Quad) → List Step → List Quad → List Quad
+steppedAll quad [] m = m
+steppedAll quad (x ∷ xs) m = steppedAll quad xs (stepped quad x m)
+
+-- the highest count reached
+abbrev pub topOf : ℕ → List Step → ℕ → ℕ
+topOf h [] Q = h
+topOf h (x ∷ xs) Q = topOf (max h (countAfter x Q)) xs (countAfter x Q)
+
+-- ---- what is to be done to faces, and the steps that it takes
+
+pub data Deed : Type 0 where
+  show : ℕ → ℕ → Deed
+  hide : ℕ → Deed
+
+abbrev pub opOf : (ℕ → ℕ → Quad) → Deed → Op
+opOf quad (show k t) = put (quad k t)
+opOf quad (hide k) = cut k
+
+abbrev pub opsOf : (ℕ → ℕ → Quad) → List Deed → List Op
+opsOf quad ds = map (opOf quad) ds
+
+abbrev pub stepsOf : (ℕ → ℕ → Quad) → List Deed → List Quad → List Step
+stepsOf quad [] m = []
+stepsOf quad (show k t ∷ ds) m = only (not (there k m)) (came k t) ++ stepsOf quad ds (draw (quad k t) m)
+stepsOf quad (hide k ∷ ds) m = only (there k m) (gone (placeOf k m)) ++ stepsOf quad ds (remove k m)
+
+-- a face that is drawn can be
+abbrev pub Able : (ℕ → ℕ → Type 0) → Deed → Type 0
+Able P (show k t) = P k t
+Able P (hide k) = Unit {0}

@@ -1,0 +1,92 @@
+-- What an entry draws are cubes of the registry, on faces of the grid. Assumes nothing.
+use mathlib.Core.Path.{_≡_, refl, sym, ap, _∙_, subst}
+use mathlib.Core.Logic.{⊎-elim}
+use mathlib.Core.Bool.{Bool, true}
+use mathlib.Core.List.{List, []}
+use mathlib.Core.Option.{some}
+use Prim.Native.Nat.{ℕ, _+_, _*_, _/_, _%_, _≤_, _<_}
+use native.Mathlib.Omega.{arith}
+use lib.Dec.{T, eqb}
+use lib.Ieee.Fits.{and-l}
+use lib.ListN.{length, getD, List·getD-eq-default}
+use borrow.Author.Tests.{eqb-true}
+use Rattle.rules.specs.Lists.{every}
+use Rattle.rules.specs.Cells.{cells, opposite, neighbour, keyOf}
+use Rattle.rules.specs.Floats.{finite}
+use Rattle.rules.specs.Types.{floats, cubeOf, isCube, positionOf}
+use Rattle.rules.specs.Update.{Entry, givenAt}
+use Rattle.rules.specs.Calls.{Scene, world, span, faces}
+use Rattle.rules.proofs.ListLaws.{All}
+use Rattle.rules.proofs.Neighbours.{beside, opposite-lt}
+use Rattle.rules.proofs.Demands.{words-sized}
+use Rattle.mesh_metadata.proofs.Slots.{order}
+use Rattle.util.specs.Grid.{Within}
+use Rattle.types.proofs.Known.{placed}
+use Rattle.voxel_mesh.proofs.Shapes.{row-within}
+use Rattle.lent.specs.Scenes.{Typed}
+use Rattle.steps.specs.Steps.{Deed, Able}
+use Rattle.steps.specs.Rows.{wordsBy, Shaped, Drawn}
+use Rattle.works.specs.declared.Work.{Work}
+use Rattle.works.specs.Sets.{deeds, Cubes}
+use Rattle.indexing.specs.Index.{Good}
+use Rattle.indexing.proofs.Sets.{Each, all-deeds}
+
+-- the scene without its tables of types: what a list of vertices is drawn from
+abbrev pub bare : Scene → Scene
+bare S =
+    record {
+      size = S .size;
+      types = record { coloured = S .types .coloured; kinds = []; covers = []; cubes = S .types .cubes };
+      d = S .d;
+      centre = S .centre;
+    }
+
+-- only a type is a cube
+cube-listed : (kinds : List ℕ) (t : ℕ) → eqb (getD kinds t 0) 1 ≡ true → t < length kinds
+cube-listed kinds t e =
+    ⊎-elim (λ l. l) (λ l. absurd (omega (arith, List·getD-eq-default kinds 0 l, eqb-true (getD kinds t 0) 1 e))) (order t (length kinds))
+
+module _ (S : Scene) (k : Typed S) where
+  shaped : (t : ℕ) → eqb (getD (S .types .kinds) t 0) 1 ≡ true → Shaped (bare S) t
+  unfolding isCube
+  shaped t e =
+      let l = cube-listed (S .types .kinds) t e in
+      let w = k .counted .whole in
+      let r = row-within (24 * floats (S .types)) t (length (S .types .kinds)) l in
+      record {
+        whole = omega arith;
+        placed = placed (cubeOf (S .types) t) (floats (S .types))
+            (and-l (every 72 (λ k. finite (positionOf (cubeOf (S .types) t) (floats (S .types)) (k / 3) (k % 3)))) _
+            (subst T (sym (k .cube t l (eqb-true (getD (S .types .kinds) t 0) 1 e))) tt));
+        finite = k .d;
+      }
+
+  module _ (w : Within (S .size)) (e : Entry) (h : e .cell < cells (S .size)) (v : Work) where
+    next-inside : (f n : ℕ) → neighbour (S .size) (e .cell) f ≡ some n → n < cells (S .size)
+    next-inside f n q = beside (S .size) (w .sides .wide) (w .sides .long) (e .cell) h f n q .inside
+
+    -- LAW: every deed is on a face of the grid, and its words are as long as a quad's
+    pub deeds-good : All (Good (wordsBy (bare S)) (faces S) (span S)) (deeds (S .size) e v)
+    deeds-good =
+        all-deeds (record {
+          own = λ f l. omega arith;
+          shown = λ f n l b q. (next f n l q, words-sized S (givenAt e f) (keyOf n (opposite f) % 6) (keyOf n (opposite f) / 6));
+          drawn = λ f l b. (omega arith, words-sized S (e .type) (keyOf (e .cell) f % 6) (keyOf (e .cell) f / 6));
+          hidden = λ f n l q. next f n l q;
+        })
+      where
+        next : (f n : ℕ) → f < 6 → neighbour (S .size) (e .cell) f ≡ some n → keyOf n (opposite f) < 6 * cells (S .size)
+        next f n l q = let a = next-inside f n q in let b = opposite-lt f l in omega arith
+
+    -- LAW: what is drawn can be
+    pub deeds-able : Cubes (S .types .kinds) e v → All (Able (Drawn (bare S))) (deeds (S .size) e v)
+    deeds-able c =
+        all-deeds (record {
+          own = λ f l. tt;
+          shown = λ f n l b q. (next f n l q, shaped (givenAt e f) (c .shown f l b));
+          drawn = λ f l b. (omega arith, shaped (e .type) (c .drawn f l b));
+          hidden = λ f n l q. tt;
+        })
+      where
+        next : (f n : ℕ) → f < 6 → neighbour (S .size) (e .cell) f ≡ some n → keyOf n (opposite f) / 6 < cells (S .size)
+        next f n l q = let a = next-inside f n q in let b = opposite-lt f l in omega arith
