@@ -18,11 +18,11 @@ use Rattle.rules.proofs.Demands.{mended-accepted}
 use Rattle.answers.specs.declared.Refusal.the-variants.{NoRoom}
 use Rattle.answers.specs.declared.Verdict.{Verdict}
 use Rattle.answers.specs.declared.Verdict.the-variants.{Fine}
-use Rattle.sides.specs.declared.Tested.{Tested}
-use Rattle.sides.specs.declared.Tested.the-variants.{Opposite, Itself}
-use Rattle.sides.specs.Tests.{testedBy}
+use Rattle.terms.specs.declared.Tested.{Tested}
+use Rattle.terms.specs.declared.Tested.the-variants.{Opposite, Itself}
+use Rattle.terms.specs.Modes.{testedBy}
 use Rattle.meshem.specs.declared.Meshed.the-variants as meshed
-use Rattle.mending.specs.declared.Count.{Count}
+use Rattle.terms.specs.declared.Count.{Count}
 use Rattle.update.specs.declared.Updated.{Updated}
 use Rattle.update.specs.declared.Updated.the-variants.{Done, Refused}
 use Rattle.demands.specs.Contracts.{Meshes, Updates, Checks}

@@ -23,7 +23,7 @@ use Rattle.rules.proofs.Demands.{asked-of}
 use Rattle.answers.specs.declared.Refusal.{Refusal}
 use Rattle.answers.specs.declared.Refusal.the-variants.{NoRoom}
 use Rattle.answers.specs.Verdicts.{numberOf}
-use Rattle.mending.specs.declared.Count.{Count}
+use Rattle.terms.specs.declared.Count.{Count}
 use Rattle.update.specs.declared.Updated.{Updated}
 use Rattle.update.specs.declared.Updated.the-variants as updated
 use Rattle.update.specs.Outcome.{outcomeOf}

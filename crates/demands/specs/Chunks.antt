@@ -6,10 +6,10 @@ use Rattle.rules.specs.Mesh.{Lists}
 use Rattle.rules.specs.Update.{source, gridLog, Honest, Mends, AddsAlike}
 use Rattle.rules.specs.Calls.{Scene, world, entriesOf}
 use Rattle.answers.specs.declared.Verdict.the-variants.{Fine}
-use Rattle.sides.specs.declared.Tested.{Tested}
-use Rattle.sides.specs.declared.Tested.the-variants.{Opposite, Itself}
-use Rattle.sides.specs.Tests.{testedBy}
-use Rattle.mending.specs.declared.Count.{Count}
+use Rattle.terms.specs.declared.Tested.{Tested}
+use Rattle.terms.specs.declared.Tested.the-variants.{Opposite, Itself}
+use Rattle.terms.specs.Modes.{testedBy}
+use Rattle.terms.specs.declared.Count.{Count}
 use Rattle.update.specs.declared.Updated.the-variants.{Done}
 use Rattle.demands.specs.Contracts.{Updates, Checks}
 

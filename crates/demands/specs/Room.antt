@@ -6,7 +6,7 @@ use Rattle.rules.specs.Mesh.{Quad, Lists, decode}
 use Rattle.rules.specs.Update.{Tested, work, entryAt, needed, meshAfter}
 use Rattle.rules.specs.Calls.{Scene, world, span, room}
 use Rattle.answers.specs.declared.Refusal.the-variants.{NoRoom}
-use Rattle.mending.specs.declared.Count.{Count}
+use Rattle.terms.specs.declared.Count.{Count}
 use Rattle.update.specs.declared.Updated.{Updated}
 use Rattle.update.specs.declared.Updated.the-variants.{Done, Refused}
 

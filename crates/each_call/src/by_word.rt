@@ -1,20 +1,20 @@
 // Each call alone, under the word that demands/specs/Contracts gives its contract: a contract that says less breaks here.
-use admit::Scene;
 use answers::Verdict;
 use checking::check_mesh;
 use meshem::Meshed;
-use meshem::MeshingAlgorithm;
 use meshem::mesh_grid;
-use sides::Tested;
+use terms::MeshingAlgorithm;
+use terms::Scene;
+use terms::Tested;
 use update::Updated;
 use update::update_mesh;
 use voxel_mesh::Cubed;
 use voxel_mesh::Shape;
 use voxel_mesh::generate_voxel_mesh;
 ghost use Rattle.voxel_mesh.specs.Outcome.{shapeOf};
-ghost use Rattle.meshem.specs.Outcome.{isCulling};
-ghost use Rattle.admit.specs.Scenes.{sceneOf};
-ghost use Rattle.sides.specs.Tests.{testedBy};
+ghost use Rattle.terms.specs.Modes.{isCulling};
+ghost use Rattle.terms.specs.Scenes.{sceneOf};
+ghost use Rattle.terms.specs.Modes.{testedBy};
 ghost use Rattle.rules.specs.Mesh.{listsOf};
 ghost use Rattle.demands.specs.Contracts.{Cubes, Meshes, Updates, Checks};
 
@@ -76,16 +76,16 @@ pub fn update_call(
         (listsOf (now (vertices .exit)) (now (triangles .exit)) (now (links .exit)) (now (slots .exit))) ⌝ }
 {
     update_mesh(
-        vertices,
-        triangles,
-        links,
-        slots,
         scene,
         kinds,
         covers,
         cubes,
         tested,
         log,
+        vertices,
+        triangles,
+        links,
+        slots,
         quads,
     )
 }

@@ -1,13 +1,13 @@
 // The C calls, in the form that include/meshem.h declares. Each but meshem_abi returns 0 or a refusal's number, and writes its answer through
 // the pointers at its end.
-use admit::Scene;
 use answers::Verdict;
 use checking::check_mesh;
 use floats::Triple;
 use meshem::Meshed;
-use meshem::MeshingAlgorithm;
 use meshem::mesh_grid;
-use sides::Tested;
+use terms::MeshingAlgorithm;
+use terms::Scene;
+use terms::Tested;
 use update::Updated;
 use update::update_mesh;
 use util::Dimensions;
@@ -20,10 +20,11 @@ ghost use Prim.Native.Nat.{ℕ};
 ghost use Rattle.rules.specs.Calls.{checkBy, generateVoxelMesh, meshGrid, updateMesh, checkMesh};
 ghost use Rattle.answers.specs.Verdicts as answers;
 ghost use Rattle.voxel_mesh.specs.Outcome as cube;
-ghost use Rattle.meshem.specs.Outcome.{answerOf, isCulling};
+ghost use Rattle.meshem.specs.Outcome.{answerOf};
+ghost use Rattle.terms.specs.Modes.{isCulling};
 ghost use Rattle.update.specs.Outcome as update;
-ghost use Rattle.admit.specs.Scenes.{sceneOf};
-ghost use Rattle.sides.specs.Tests.{testedBy};
+ghost use Rattle.terms.specs.Scenes.{sceneOf};
+ghost use Rattle.terms.specs.Modes.{testedBy};
 ghost use Rattle.rules.specs.Mesh.{listsOf};
 ghost use Rattle.exports.specs.Answers.{ABI, isYes, testedFrom, answer, toldOf, mendedOf, shapeFrom, sceneFrom, cubeOut, outcome};
 
@@ -331,16 +332,16 @@ pub extern "C" fn meshem_update_mesh(
     let scene = scene_of(width, height, length, coloured, dx, dy, dz, cx, cy, cz);
     let side = tested_of(tested);
     let mended = told_by_update(update_mesh(
-        vertices,
-        triangles,
-        links,
-        slots,
         scene,
         kinds,
         covers,
         cubes,
         side,
         log,
+        vertices,
+        triangles,
+        links,
+        slots,
         count as usize,
     ));
     *place = mended.place;

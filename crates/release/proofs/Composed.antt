@@ -15,9 +15,9 @@ use Rattle.answers.proofs.Chains.{stops}
 use Rattle.meshem.specs.declared.Meshed.{Meshed}
 use Rattle.meshem.specs.declared.Meshed.the-variants as meshed
 use Rattle.meshem.specs.Outcome as mesh
-use Rattle.sides.specs.declared.Tested as code
-use Rattle.sides.specs.Tests.{testedBy}
-use Rattle.mending.specs.declared.Count.{Count}
+use Rattle.terms.specs.declared.Tested as code
+use Rattle.terms.specs.Modes.{testedBy}
+use Rattle.terms.specs.declared.Count.{Count}
 use Rattle.update.specs.declared.Updated.{Updated}
 use Rattle.update.specs.declared.Updated.the-variants as updated
 use Rattle.update.specs.Outcome.{answerOf, outcomeOf}

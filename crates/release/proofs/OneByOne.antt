@@ -18,9 +18,9 @@ use Rattle.rules.proofs.ListLaws.{split}
 use Rattle.answers.specs.declared.Refusal.{Refusal}
 use Rattle.answers.specs.Verdicts.{numberOf}
 use Rattle.meshem.specs.declared.Meshed.the-variants as meshed
-use Rattle.sides.specs.declared.Tested as code
-use Rattle.sides.specs.Tests.{testedBy}
-use Rattle.mending.specs.declared.Count.{Count}
+use Rattle.terms.specs.declared.Tested as code
+use Rattle.terms.specs.Modes.{testedBy}
+use Rattle.terms.specs.declared.Count.{Count}
 use Rattle.update.specs.declared.Updated.the-variants.{Done, Refused}
 use Rattle.update.specs.Outcome.{outcomeOf}
 use Rattle.answers.specs.declared.Verdict.the-variants.{Fine}

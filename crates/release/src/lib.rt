@@ -1,19 +1,19 @@
 // The calls one after the other, as whoever releases a chunk makes them; each contract is a promise that holds of the calls' contracts, and
 // says the lists that are left.
-use admit::Scene;
 use answers::Verdict;
 use answers::is_refusal;
 use checking::check_mesh;
 use meshem::Meshed;
-use meshem::MeshingAlgorithm;
 use meshem::mesh_grid;
-use sides::Tested;
+use terms::MeshingAlgorithm;
+use terms::Scene;
+use terms::Tested;
 use update::Updated;
 use update::update_mesh;
 ghost use mathlib.Core.Path.{_≡_};
 ghost use Rattle.answers.specs.Verdicts.{verdictOf};
-ghost use Rattle.admit.specs.Scenes.{sceneOf};
-ghost use Rattle.sides.specs.Tests.{testedBy};
+ghost use Rattle.terms.specs.Scenes.{sceneOf};
+ghost use Rattle.terms.specs.Modes.{testedBy};
 ghost use Rattle.rules.specs.Mesh.{listsOf};
 ghost use Rattle.demands.specs.Chunks.{LogFor, gridAfter};
 ghost use Rattle.release.specs.Composed.{endsWith, makeEnding, mendPromise, mendEnding};
@@ -114,16 +114,16 @@ pub fn mend_and_check(
         return passed;
     }
     let mended = update_mesh(
-        vertices,
-        triangles,
-        links,
-        slots,
         scene,
         kinds,
         covers,
         cubes,
         tested,
         log,
+        vertices,
+        triangles,
+        links,
+        slots,
         quads,
     );
     match mended {

@@ -1,20 +1,20 @@
 // A mesh made, mended by a call for each entry of a log, and checked.
-use admit::Scene;
 use answers::Refusal;
 use answers::Verdict;
 use checking::check_mesh;
 use meshem::Meshed;
-use meshem::MeshingAlgorithm;
 use meshem::mesh_grid;
-use sides::Tested;
+use terms::MeshingAlgorithm;
+use terms::Scene;
+use terms::Tested;
 use update::Updated;
 use update::update_mesh;
 ghost use mathlib.Core.Path.{_≡_};
 ghost use Prim.Native.Nat.{_/_};
 ghost use lib.ListN.{length};
 ghost use Rattle.answers.specs.Verdicts.{verdictOf};
-ghost use Rattle.admit.specs.Scenes.{sceneOf};
-ghost use Rattle.sides.specs.Tests.{testedBy};
+ghost use Rattle.terms.specs.Scenes.{sceneOf};
+ghost use Rattle.terms.specs.Modes.{testedBy};
 ghost use Rattle.rules.specs.Mesh.{listsOf};
 ghost use Rattle.demands.specs.Chunks.{LogFor, gridAfter};
 ghost use Rattle.release.specs.Composed.{endsWith};
@@ -52,16 +52,16 @@ fn mend_by_entries(
         let at = 12 * k;
         let end = at + 12;
         let mended = update_mesh(
-            vertices,
-            triangles,
-            links,
-            slots,
             scene,
             kinds,
             covers,
             cubes,
             tested,
             &log[at..end],
+            vertices,
+            triangles,
+            links,
+            slots,
             left,
         );
         match mended {

@@ -13,14 +13,14 @@
 // A patch: a place in the base's record, how many words, and the words. So any word of scene, types, grid and mesh can be another one;
 // the lengths can't.
 // A trial is wrong if it or its base does not keep this form.
-use admit::Scene;
 use answers::Verdict;
 use checking::check_mesh;
 use floats::Triple;
 use meshem::Meshed;
-use meshem::MeshingAlgorithm;
 use meshem::mesh_grid;
-use sides::Tested;
+use terms::MeshingAlgorithm;
+use terms::Scene;
+use terms::Tested;
 use update::Updated;
 use update::update_mesh;
 use util::Dimensions;
@@ -428,16 +428,16 @@ fn answer(
     let quads = size(trial[3]);
     if call == 2 || call == 4 {
         return told_by_update(update_mesh(
-            vertices,
-            triangles,
-            links,
-            slots,
             scene,
             kinds,
             covers,
             registry,
             tested_by(call),
             log,
+            vertices,
+            triangles,
+            links,
+            slots,
             quads,
         ));
     }

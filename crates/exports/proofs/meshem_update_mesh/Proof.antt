@@ -3,7 +3,7 @@ use mathlib.Core.Path.{_≡_, _∙_}
 use denote.Ref.{now}
 use Rattle.rules.specs.Calls.{updateMesh}
 use Rattle.rules.specs.Mesh.{listsOf}
-use Rattle.sides.specs.Tests.{testedBy}
+use Rattle.terms.specs.Modes.{testedBy}
 use Rattle.exports.specs.Answers.{testedFrom}
 use Rattle.exports.proofs.Telling.{mesh-told}
 use borrow.Author.Needs.{needs}

@@ -1,7 +1,7 @@
 -- `release::make_and_check` meets its contract: what was made passes. Assumes nothing.
 use Rattle.rules.specs.Mesh.{Lists, listsOf}
 use Rattle.rules.specs.Calls.{Scene}
-use Rattle.admit.specs.Scenes.{sceneOf}
+use Rattle.terms.specs.Scenes.{sceneOf}
 use Rattle.release.proofs.Composed.{meshes, made, not-made}
 use borrow.Author.Needs.{needs}
 use Rattle.release.proofs.make_and_check.Statement.{statement}

@@ -4,8 +4,8 @@ use mathlib.Core.List.{[]}
 use Rattle.rules.specs.Mesh.{Lists, listsOf}
 use Rattle.rules.specs.Answers.{fine}
 use Rattle.rules.specs.Calls.{Scene, checkVerdict}
-use Rattle.admit.specs.Scenes.{sceneOf}
-use Rattle.sides.specs.Tests.{testedBy}
+use Rattle.terms.specs.Scenes.{sceneOf}
+use Rattle.terms.specs.Modes.{testedBy}
 use Rattle.answers.proofs.Chains.{passes}
 use Rattle.release.proofs.Composed.{updates, stopped, mended, refused, promised}
 use borrow.Author.Needs.{needs}
@@ -25,7 +25,7 @@ first-fine : (c : tie.Else1) → let t = start (c .before .before) in checkVerdi
 first-fine c = passes _ _ (c .before .before .check-mesh .ensures) (sym (c .before .is-refusal .ensures) ∙ c .if1 .left)
 
 abbrev exit : tie.After-update-mesh → Lists
-exit u = let l = u .update-mesh .last in listsOf (l .0) (l .1 .0) (l .1 .1 .0) (l .1 .1 .1 .0)
+exit u = let l = u .update-mesh .last .1 .1 .1 .1 .1 .1 in listsOf (l .0) (l .1 .0) (l .1 .1 .0) (l .1 .1 .1 .0)
 
 slice-aggregate-no-face : tie.Need-slice-aggregate-no-face
 slice-aggregate-no-face c = search needs

@@ -1,7 +1,7 @@
 -- `release::one_by_one::make_mend_and_check` meets its contract: after a log of demand 3 the check refuses nothing. Assumes nothing.
 use Rattle.rules.specs.Mesh.{Lists, listsOf}
 use Rattle.rules.specs.Calls.{Scene}
-use Rattle.admit.specs.Scenes.{sceneOf}
+use Rattle.terms.specs.Scenes.{sceneOf}
 use Rattle.release.proofs.Composed.{meshes}
 use Rattle.release.proofs.OneByOne.{chained, unmade}
 use borrow.Author.Needs.{needs}

@@ -8,8 +8,8 @@ use Rattle.rules.specs.Mesh.{Lists, listsOf}
 use Rattle.rules.specs.Update.{Tested}
 use Rattle.rules.specs.Calls.{Scene, updateMesh}
 use Rattle.vav.proofs.Laws.{part-lent}
-use Rattle.admit.specs.Scenes.{sceneOf}
-use Rattle.sides.specs.Tests.{testedBy}
+use Rattle.terms.specs.Scenes.{sceneOf}
+use Rattle.terms.specs.Modes.{testedBy}
 use Rattle.update.specs.Outcome.{outcomeOf}
 use Rattle.release.specs.OneByOne.{entryLog}
 use Rattle.release.proofs.Composed.{updates}
@@ -46,7 +46,7 @@ abbrev here : tie.In-loop Inv-loop μ-loop → Lists
 here i = let l = i .before .loop in listsOf (l .vertices) (l .triangles) (l .links) (l .slots)
 
 abbrev exit : tie.After-update-mesh Inv-loop μ-loop → Lists
-exit u = let l = u .update-mesh .last in listsOf (l .0) (l .1 .0) (l .1 .1 .0) (l .1 .1 .1 .0)
+exit u = let l = u .update-mesh .last .1 .1 .1 .1 .1 .1 in listsOf (l .0) (l .1 .0) (l .1 .1 .0) (l .1 .1 .1 .0)
 
 called : (u : tie.After-update-mesh Inv-loop μ-loop) → let i = test u in
     outcomeOf (u .update-mesh .result) (exit u)
@@ -125,7 +125,7 @@ loop-again c =
     let l = i .before .loop in
     goes-on (side t) (scene t) (t .args .log .now) (length (t .args .log .now) / 12) (lists t) (t .args .quads) (l .k) (here i) (l .left) (exit u)
     (c .before .mended .given .0 .0) (i .loop-test .taken) (l .inv)
-    (let k = u .update-mesh .kept in record { vertices = k .0; triangles = k .1 .0; links = k .1 .1 .0; slots = k .1 .1 .1 .0 })
+    (let k = u .update-mesh .kept .1 .1 .1 .1 .1 .1 in record { vertices = k .0; triangles = k .1 .0; links = k .1 .1 .0; slots = k .1 .1 .1 .0 })
     (updates (exit u) (c .before .mended .given .1) (called u))
 
 same-length-5 : tie.Need-same-length-5 Inv-loop μ-loop

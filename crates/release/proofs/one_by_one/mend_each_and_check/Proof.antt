@@ -2,7 +2,7 @@
 use mathlib.Core.Path.{ap, _∙_}
 use Rattle.rules.specs.Mesh.{Lists, listsOf}
 use Rattle.rules.specs.Calls.{Scene}
-use Rattle.admit.specs.Scenes.{sceneOf}
+use Rattle.terms.specs.Scenes.{sceneOf}
 use Rattle.release.specs.Composed.{endsWith}
 use Rattle.release.specs.OneByOne.{endsOn}
 use Rattle.release.proofs.OneByOne.{went}
