@@ -7,7 +7,7 @@ ghost use Rattle.rules.specs.Lists.{only};
 ghost use Rattle.rules.specs.Cells.{codeIn, keyIn};
 ghost use Rattle.rules.specs.Calls.{refused, answered};
 ghost use Rattle.rules.specs.Program.{digit, decimal, refusedLine, quadLines, meshLines};
-ghost use Rattle.lines.specs.Written.{put, Wrote, Room, facesOf, quadLine, quadsOf, OfFaces};
+ghost use Rattle.lines.specs.Written.{Wrote, Room, facesOf, quadLine, quadsOf, OfFaces};
 
 const SPACE: u8 = b' ';
 

@@ -6,7 +6,7 @@ use face::Quad;
 use face::Vertex;
 ghost use mathlib.Core.Path.{_≡_};
 ghost use mathlib.Core.List.{map};
-ghost use Prim.Native.Nat.{_+_, _-_, _/_, _^_, _≤_, _<_};
+ghost use Prim.Native.Nat.{_+_, _-_, _^_, _≤_, _<_};
 ghost use lib.ListN.{length, getD, set, replicate};
 ghost use Rattle.rules.specs.Cells.{UNIT, linkWord, codeIn, keyOf, keyIn, firstVertex};
 ghost use Rattle.rules.specs.Mesh.{NONE};

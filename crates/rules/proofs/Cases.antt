@@ -1,23 +1,22 @@
 -- 01, "Meshes worked by hand": the ten cases as one table, the two of them that the new mode of 02, Q-2, puts right as another, and the program's
 -- example. Proved by computing. Assumes nothing.
 use mathlib.Core.Path.{_≡_, refl}
-use mathlib.Core.Bool.{Bool, true, false, cond}
+use mathlib.Core.Bool.{Bool, true, false}
 use mathlib.Core.List.{List, [], _∷_, _++_}
 use Prim.Native.Nat.{ℕ, zero, suc, _+_, _*_, _<_}
 use native.Mathlib.Omega.{arith}
-use lib.ListN.{length, replicate}
+use lib.ListN.{replicate}
 use lib.Ieee as ieee
 use Rattle.rules.specs.Lists.{each, table, every, count, lowestFrom, same}
-use Rattle.rules.specs.Cells.{Size, Triple, neighbour, keyOf, linkWord}
+use Rattle.rules.specs.Cells.{Triple, neighbour, linkWord}
 use Rattle.rules.specs.Types as types
-use Rattle.rules.specs.Types.{Types}
 use Rattle.rules.specs.Cube as cube
 use Rattle.rules.specs.Cube.{Shape, cubeWords}
 use Rattle.rules.specs.Mesh.{Quad, World, Lists, meshBy, laid, slotted}
 use Rattle.rules.specs.Update.{Entry, Broken, removeAt, remove, entryAt, Tested, source, itself, work, nothing, ops, run, needed, courseFrom}
 use Rattle.rules.specs.Answers as answers
 use Rattle.rules.specs.Answers.{fine}
-use Rattle.rules.specs.Calls.{Scene, Answer, Outcome, world, wordsIn, meshGrid, updateVerdict, updateMesh}
+use Rattle.rules.specs.Calls.{Scene, Outcome, world, wordsIn, meshGrid, updateVerdict, updateMesh}
 use Rattle.rules.specs.Program.{printed, badFile, digits, buildFrom}
 
 -- 0.0, 1.0, and three of one

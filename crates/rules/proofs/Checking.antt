@@ -1,25 +1,25 @@
 -- The check accepts exactly the right meshes. Assumes nothing.
-use mathlib.Core.Path.{_≡_, refl, sym, ap, _∙_, subst}
-use mathlib.Core.Logic.{_≢_, _↔_}
-use mathlib.Core.Bool.{Bool, true, false, cond, not, _&&_, _||_, true≢false, false≢true}
-use mathlib.Core.List.{List, [], _∷_, _++_}
-use Prim.Native.Nat.{ℕ, zero, suc, _+_, _-_, _*_, _/_, _%_, _≤_, _<_}
+use mathlib.Core.Path.{_≡_, refl, sym, ap, _∙_}
+use mathlib.Core.Logic.{_≢_}
+use mathlib.Core.Bool.{Bool, true, false, cond, not, _||_, true≢false}
+use mathlib.Core.List.{List, [], _∷_}
+use Prim.Native.Nat.{ℕ, _-_, _*_, _/_, _%_, _≤_, _<_}
 use native.Mathlib.Omega.{arith}
 use native.Mathlib.Decide.{decLt}
 use lib.Dec.{eqb, leb, ltb}
 use lib.ListN.{length, getD}
-use borrow.Author.Tests.{eqb-true, eqb-false, eq-eqb, ne-eqb, ltb-false, lt-ltb, le-ltb, leb-false, lt-leb, leb-true}
+use borrow.Author.Tests.{eqb-true, eq-eqb, ltb-false, le-ltb, leb-false, lt-leb}
 use Rattle.rules.specs.Lists.{table, row, same, lowest}
-use Rattle.rules.specs.Cells.{cells, UNIT, cellIn, codeIn, keyOf, keyIn, firstVertex}
-use Rattle.rules.specs.Mesh.{Quad, World, Lists, NONE, typeAt, isNormalCube, drawn, at, there, placeOf, pattern, decoded, decode, layout, slotOf}
+use Rattle.rules.specs.Cells.{cells, cellIn, codeIn, keyOf, firstVertex}
+use Rattle.rules.specs.Mesh.{Quad, World, Lists, NONE, typeAt, drawn, at, there, placeOf, pattern, decoded, decode, layout, slotOf}
 use Rattle.rules.specs.Update.{blank}
 use Rattle.rules.specs.Answers.{Verdict, fine, refuse, _then_, refuseIf, refuseLowest, slotAt, badLink, filled, BAD-LINKS, BAD-TRIANGLES, wrongFace, WRONG-SET, wrongVertex, WRONG-VERTEX}
 use Rattle.rules.specs.Check.{linked, Right}
-use Rattle.rules.proofs.ListLaws.{All, all-at, split, both-ways, or-false, not-true, lowest-none, lowest-good, same-true, same-refl, length-table, getD-table}
-use Rattle.rules.proofs.Quads.{Once, Placed, placed, absent}
+use Rattle.rules.proofs.ListLaws.{All, all-at, both-ways, or-false, not-true, lowest-none, lowest-good, same-true, same-refl, length-table, getD-table}
+use Rattle.rules.proofs.Quads.{Once, placed, absent}
 use Rattle.rules.proofs.Laying.{Fits, keyAt, Distinct, link-inside, keys-at, links-at, vertices-at, triangles-at, length-slots, slots-at, is-there, at-there, place-is, distinct-of-once, once-of-distinct}
-use Rattle.rules.proofs.Index.{Named, In, no-other, no-more}
-use Rattle.rules.proofs.Mending.{due, Shows, Sound, not-drawn}
+use Rattle.rules.proofs.Index.{Named, no-other, no-more}
+use Rattle.rules.proofs.Mending.{Shows, Sound, not-drawn}
 
 -- ---- verdicts
 pub then-fine : (a b : Verdict) → (a then b) ≡ fine → (a ≡ fine) × (b ≡ fine)

@@ -1,30 +1,28 @@
 -- A log that does nothing changes nothing; and a lent mesh has no more quads than faces. Assumes nothing.
 use mathlib.Core.Path.{_≡_, refl, sym, ap, _∙_}
-use mathlib.Core.Logic.{_≢_}
 use mathlib.Core.Bool.{Bool, true, false, cond}
 use mathlib.Core.List.{List, [], _∷_, _++_}
 use mathlib.Core.Option.{none}
 use Prim.Native.Nat.{ℕ, zero, suc, _+_, _-_, _*_, _/_, _≤_, _<_}
 use native.Mathlib.Omega.{arith}
 use native.Mathlib.Decide.{ℕ-discrete}
-use lib.Dec.{leb}
-use lib.ListN.{length, getD, take, drop, replicate, length-take, take-append-drop}
+use lib.ListN.{length, getD, take, drop, take-append-drop}
 use lib.Seq.{take-add, drop-cons, drop-drop, getD-take, length-take-le}
 use borrow.Author.Tests.{ltb-false, le-leb}
 use Rattle.rules.specs.Lists.{table, row}
-use Rattle.rules.specs.Cells.{cells, codeIn, cellIn, firstVertex, linkOf}
-use Rattle.rules.specs.Mesh.{Quad, Lists, NONE, there, placeOf, rows, laid, slotOf, slotted, layout, pattern, decoded, decode}
-use Rattle.rules.specs.Update.{Tested, source, Work, nothing, ops, needed, work, entryAt, blank, Course, courseFrom}
+use Rattle.rules.specs.Cells.{cells, firstVertex, linkOf}
+use Rattle.rules.specs.Mesh.{Quad, Lists, NONE, there, placeOf, rows, laid, slotOf, slotted, layout, pattern, decode}
+use Rattle.rules.specs.Update.{Tested, source, Work, nothing, ops, needed, work, entryAt, blank, courseFrom}
 use Rattle.rules.specs.Answers.{fine, slotAt, SHORT-SLOTS, BAD-COUNT, BAD-SIZE, _then_, BAD-ENTRY}
 use Rattle.rules.specs.Types.{floats}
 use Rattle.rules.specs.Check.{linked}
-use Rattle.rules.specs.Calls.{Answer, answered, Scene, world, span, faces, room, Outcome, bookVerdict, lentVerdict, typesVerdict, updateVerdict, course, courseAnswer, updateBy, updateMesh}
+use Rattle.rules.specs.Calls.{answered, Scene, world, span, faces, room, bookVerdict, lentVerdict, typesVerdict, updateVerdict, updateMesh}
 use Rattle.rules.proofs.Cases.{scene, quadsIn, above, below, withAbove, null-unrefused, null-idle}
 use Rattle.rules.proofs.ListLaws.{table-is, length-table}
-use Rattle.rules.proofs.Laying.{keyAt, row-one, link-of-key}
-use Rattle.rules.proofs.Index.{Named, full-le}
+use Rattle.rules.proofs.Laying.{link-of-key}
+use Rattle.rules.proofs.Index.{full-le}
 use Rattle.rules.proofs.Checking.{then-fine, if-fine, Book, book-of-fine, names-of, filled-named, length-decode, key-decode, words-decode, there-of, place-of}
-use Rattle.rules.proofs.Demands.{Room, room-for}
+use Rattle.rules.proofs.Demands.{room-for}
 
 -- ---- rows that stand as they are laid
 rows-stand : (s : ℕ) (enc : ℕ → Quad → List ℕ) (old : List ℕ) (i : ℕ) (m : List Quad)

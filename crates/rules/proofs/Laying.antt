@@ -1,23 +1,21 @@
 -- How quads lie in the four lists: what is read back is what was laid. Assumes nothing.
-use mathlib.Core.Path.{_≡_, refl, sym, ap, _∙_, subst}
+use mathlib.Core.Path.{_≡_, refl, sym, ap, _∙_}
 use mathlib.Core.Logic.{_≢_}
-use mathlib.Core.Bool.{Bool, true, false, cond, not, true≢false, false≢true}
+use mathlib.Core.Bool.{Bool, true, false, not}
 use mathlib.Core.List.{List, [], _∷_, _++_, append-assoc}
 use Prim.Native.Nat.{ℕ, zero, suc, _+_, _-_, _*_, _/_, _%_, _≤_, _<_}
-use native.Mathlib.Nat.{mul-le-mul-left}
 use native.Mathlib.Omega.{arith}
-use native.Mathlib.Decide.{ℕ-discrete}
 use lib.Dec.{eqb}
-use lib.ListN.{length, getD, take, drop, replicate, length-append, length-drop, length-replicate, List·getD-append}
+use lib.ListN.{length, getD, drop, replicate, length-append, length-drop, length-replicate, List·getD-append}
 use lib.Seq.{getD-take, getD-drop, take-at, drop-append-add}
-use borrow.Author.Tests.{eq-eqb, ne-eqb, eqb-true, eqb-false}
-use Rattle.rules.specs.Lists.{each, only, table, part, row, isNil}
-use Rattle.rules.specs.Cells.{UNIT, code, linkWord, cellIn, codeIn, keyOf, keyIn, linkOf, firstVertex}
+use borrow.Author.Tests.{eq-eqb, ne-eqb, eqb-true}
+use Rattle.rules.specs.Lists.{only, table, row, isNil}
+use Rattle.rules.specs.Cells.{UNIT, cellIn, codeIn, keyIn, linkOf}
 use Rattle.rules.specs.Mesh.{Quad, at, there, placeOf, Lists, NONE, pattern, rows, laid, slotOf, slotted, layout, decoded, decode}
 use Rattle.rules.specs.Update.{blank}
 use Rattle.rules.specs.Answers.{slotAt}
-use Rattle.rules.proofs.ListLaws.{All, all-at, split, length-table, getD-table, table-is}
-use Rattle.rules.proofs.Quads.{Once, Placed, placed, absent, at-append, lone}
+use Rattle.rules.proofs.ListLaws.{All, all-at, length-table, getD-table, table-is}
+use Rattle.rules.proofs.Quads.{Once, placed, absent, lone}
 
 -- ---- link words
 pub key-of-link : (k : ℕ) → k < 3221225472 → keyIn (linkOf k) ≡ k

@@ -1,10 +1,10 @@
 -- Demand 3 on quads: a fresh mesh shows what culling shows, and an honest entry keeps it so. Assumes nothing.
-use mathlib.Core.Path.{_≡_, refl, sym, ap, _∙_, subst}
+use mathlib.Core.Path.{_≡_, refl, sym, ap, _∙_}
 use mathlib.Core.Logic.{_≢_}
 use mathlib.Core.Bool.{Bool, true, false, cond, not, _&&_, _||_}
 use mathlib.Core.List.{List, [], _∷_, _++_}
 use mathlib.Core.Option.{Option, none, some}
-use Prim.Native.Nat.{ℕ, zero, suc, _+_, _-_, _*_, _^_, _/_, _%_, _≤_, _<_}
+use Prim.Native.Nat.{ℕ, _+_, _-_, _^_, _/_, _%_, _≤_, _<_}
 use native.Mathlib.Nat.{zero-div}
 use native.Mathlib.Omega.{arith}
 use native.Mathlib.Decide.{ℕ-discrete, decLt}
@@ -14,9 +14,9 @@ use lib.Seq.{getD-set-same, getD-set-other}
 use borrow.Author.Tests.{eq-eqb, ne-eqb, eqb-true}
 use Rattle.rules.specs.Lists.{each, only, member}
 use Rattle.rules.specs.Cells.{cells, opposite, neighbour, keyOf}
-use Rattle.rules.specs.Mesh.{Quad, World, typeAt, isNormalCube, covering, shown, drawn, allSides, quadAt, quadsBy, meshBy, culled, at}
-use Rattle.rules.specs.Update.{Change, Broken, Added, CullFaces, AddFaces, Entry, givenAt, outside, run, Work, Tested, quadOf, sides, quads, hide, reveal, all, isOpen, added, broken, workBy, work, cuts, puts, ops, isEmpty, emptyType, gridBy, gridAfter, standing, Told, TrueBy, Fills, MendsBy, Alike, AlikeBy}
-use Rattle.rules.proofs.ListLaws.{Reads, read-none, read-one, members, and-true, lowest-bad, split}
+use Rattle.rules.specs.Mesh.{Quad, World, typeAt, isNormalCube, covering, shown, drawn, allSides, quadsBy, meshBy, culled, at}
+use Rattle.rules.specs.Update.{Change, Broken, Added, CullFaces, AddFaces, Entry, givenAt, outside, run, Work, Tested, quadOf, sides, quads, hide, reveal, all, isOpen, added, broken, workBy, cuts, puts, ops, isEmpty, emptyType, gridBy, standing, Told, TrueBy, Fills, MendsBy, Alike, AlikeBy}
+use Rattle.rules.proofs.ListLaws.{Reads, read-none, read-one, members, and-true, lowest-bad}
 use Rattle.rules.proofs.Neighbours.{Beside, beside, opposite-twice, opposite-lt}
 use Rattle.rules.proofs.Quads.{quadsAt, Once, orElse, orElse-nil, at-cuts, at-puts, run-append}
 

@@ -6,7 +6,7 @@ use native.Mathlib.Omega.{arith}
 use lib.ListN.{length, getD}
 use Rattle.rules.specs.Lists.{each, only}
 use Rattle.rules.specs.Cells.{cells, keyOf}
-use Rattle.rules.specs.Mesh.{Quad, World, typeAt, quadAt, quadsBy, meshBy}
+use Rattle.rules.specs.Mesh.{Quad, World, quadAt, quadsBy, meshBy}
 use Rattle.rules.specs.Update.{blank}
 use Rattle.rules.proofs.ListLaws.{All, all-append, all-at, all-each, all-only}
 

@@ -2,17 +2,17 @@
 use mathlib.Core.Path.{_≡_, refl, sym, ap, _∙_, subst}
 use mathlib.Core.Logic.{_≢_}
 use mathlib.Core.Bool.{Bool, true, false, cond, not, true≢false, false≢true}
-use mathlib.Core.List.{List, [], _∷_, _++_, map, append-assoc, append-nil}
-use Prim.Native.Nat.{ℕ, zero, suc, _+_, _-_, _*_, _≤_, _<_, max}
+use mathlib.Core.List.{List, [], _∷_, _++_, append-assoc, append-nil}
+use Prim.Native.Nat.{ℕ, suc, _+_, _-_, _≤_, _<_}
 use native.Mathlib.Omega.{arith}
-use lib.Dec.{eqb, leb}
-use lib.ListN.{length, getD, set, take, drop, length-append, length-set, length-take, length-drop, drop-of-length-le, List·getD-append}
+use lib.Dec.{eqb}
+use lib.ListN.{length, getD, set, take, drop, length-append, length-set, length-take, length-drop, drop-of-length-le}
 use lib.Seq.{split-at, set-split, set-append-left, take-at, getD-take, length-take-le}
-use borrow.Author.Tests.{eqb-true, eq-eqb, ne-eqb, leb-true, leb-false}
+use borrow.Author.Tests.{eqb-true, leb-true, leb-false}
 use Rattle.rules.specs.Lists.{only, isNil, member}
 use Rattle.rules.specs.Mesh.{Quad, at, there, placeOf}
 use Rattle.rules.specs.Update.{blank, draw, shifts, removeAt, remove, movedBy, moved, Op, put, cut, step, run, cuts, puts}
-use Rattle.rules.proofs.ListLaws.{Reads, split, not-false, not-true}
+use Rattle.rules.proofs.ListLaws.{Reads, split}
 
 pub at-append : (k : ℕ) (a b : List Quad) → at k (a ++ b) ≡ at k a ++ at k b
 at-append k [] b = refl

@@ -4,15 +4,15 @@ use mathlib.Core.Logic.{_≢_}
 use mathlib.Core.Bool.{Bool, true, false, cond}
 use mathlib.Core.List.{List, [], _∷_, _++_}
 use mathlib.Core.Option.{Option, none, some}
-use Prim.Native.Nat.{ℕ, zero, suc}
+use Prim.Native.Nat.{ℕ}
 use native.Mathlib.Omega.{arith}
 use lib.Dec.{eqb}
 use Rattle.rules.specs.Lists.{member}
 use Rattle.rules.specs.Cube.{Shape}
-use Rattle.rules.specs.Mesh.{Quad, Lists}
+use Rattle.rules.specs.Mesh.{Lists}
 use Rattle.rules.specs.Update.{Tested, Course}
 use Rattle.rules.specs.Answers.{Verdict, fine, refuse, _then_, refuseIf, BAD-NUMBER, BAD-TEXTURE, BAD-TYPES, BAD-LINKS, BAD-ENTRY}
-use Rattle.rules.specs.Calls.{Answer, CubeOutcome, cubeVerdict, cubeBy, generateVoxelMesh, Scene, typesVerdict, Outcome, meshVerdict, meshBy, meshGrid, freshMesh, updateVerdict, course, courseAnswer, updateBy, updateMesh, bookVerdict, checkVerdict, checkBy, checkMesh}
+use Rattle.rules.specs.Calls.{cubeVerdict, cubeBy, generateVoxelMesh, Scene, typesVerdict, meshVerdict, meshBy, meshGrid, freshMesh, updateVerdict, course, courseAnswer, updateBy, updateMesh, bookVerdict, checkVerdict, checkBy, checkMesh}
 use Rattle.rules.proofs.ListLaws.{split, member-append}
 
 -- ---- one numbered refusal

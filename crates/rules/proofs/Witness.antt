@@ -1,19 +1,18 @@
 -- Demand 3's second half says something: in each mode a log of two entries meets all that it asks; and one stops for want of room. Assumes nothing.
 use mathlib.Core.Path.{_≡_, refl}
-use mathlib.Core.Bool.{Bool, true, false}
-use mathlib.Core.List.{List, [], _∷_, _++_}
-use Prim.Native.Nat.{ℕ, zero, suc, _+_, _≤_, _<_}
+use mathlib.Core.Bool.{true}
+use mathlib.Core.List.{List, [], _∷_}
+use Prim.Native.Nat.{ℕ, zero, suc, _<_}
 use native.Mathlib.Omega.{arith}
-use lib.Dec.{lit<, lit≤}
-use lib.ListN.{length}
+use lib.Dec.{lit<}
 use lib.Ieee as ieee
 use Rattle.rules.specs.Lists.{each, every, count, lowestFrom, same}
-use Rattle.rules.specs.Cells.{neighbour, opposite}
+use Rattle.rules.specs.Cells.{neighbour}
 use Rattle.rules.specs.Types as types
-use Rattle.rules.specs.Mesh.{Lists, meshBy, laid, slotted, covering}
-use Rattle.rules.specs.Update.{Entry, Broken, Added, givenAt, standing, entryAt, removeAt, remove, ops, needed, courseFrom, emptyType, source, itself, gridLog, Told, Honest, Mends, AddsAlike}
+use Rattle.rules.specs.Mesh.{meshBy, laid, slotted}
+use Rattle.rules.specs.Update.{entryAt, removeAt, remove, ops, needed, courseFrom, emptyType, source, itself, gridLog, Honest, Mends, AddsAlike}
 use Rattle.rules.specs.Answers as answers
-use Rattle.rules.specs.Calls.{Scene, Answer, Outcome, answered, world, entriesOf, meshGrid, updateMesh, checkMesh}
+use Rattle.rules.specs.Calls.{Scene, Outcome, answered, world, entriesOf, meshGrid, updateMesh, checkMesh}
 use Rattle.rules.proofs.Cases.{scene, lent}
 use Rattle.rules.proofs.Modes.{itself-alike}
 use Rattle.rules.proofs.Demands.{fresh-accepted, mended-accepted}

@@ -1,16 +1,15 @@
 -- 01, "Limits and answers": the refusals, each with its condition and its place. Definitions only.
-use Prim.Native.Nat.{ℕ, zero, suc, _+_, _-_, _*_, _/_, _%_, min}
-use mathlib.Core.Bool.{Bool, true, false, cond, not, _&&_, _||_}
-use mathlib.Core.List.{List, [], _∷_, _++_}
-use mathlib.Core.Option.{Option, none, some}
+use Prim.Native.Nat.{ℕ, _+_, _-_, _*_, _/_, _%_, min}
+use mathlib.Core.Bool.{Bool, cond, not, _&&_, _||_}
+use mathlib.Core.List.{List}
 use lib.ListN.{length, getD}
 use lib.Dec.{eqb, leb, ltb}
 use Rattle.rules.specs.Lists.{every, count, lowest, row, same}
-use Rattle.rules.specs.Cells.{Size, Triple, cells, cellIn, codeIn, keyIn, coordinates, firstVertex}
+use Rattle.rules.specs.Cells.{Size, Triple, cells, cellIn, codeIn, keyIn, firstVertex}
 use Rattle.rules.specs.Floats.{finite, finite3}
-use Rattle.rules.specs.Types.{Types, floats, cubeOf, isCube, quadWords}
+use Rattle.rules.specs.Types.{Types, floats, cubeOf, isCube}
 use Rattle.rules.specs.Cube.{Shape, floatsOf}
-use Rattle.rules.specs.Mesh.{Quad, World, Lists, NONE, drawn, there, decode, decoded, pattern, typeAt}
+use Rattle.rules.specs.Mesh.{Quad, World, Lists, NONE, drawn, there, pattern, typeAt}
 use Rattle.rules.specs.Update.{u32At}
 
 -- nothing to refuse, or a refusal with its number and its place

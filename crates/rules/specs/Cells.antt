@@ -1,10 +1,9 @@
 -- 01, "Cells, faces, words". Definitions only.
 use Prim.Native.Nat.{ℕ, zero, suc, _+_, _-_, _*_, _/_, _%_, _^_}
 use mathlib.Core.Bool.{Bool, cond}
-use mathlib.Core.List.{List}
 use mathlib.Core.Option.{Option, none, some}
 use lib.Dec.{eqb, ltb}
-use Rattle.rules.specs.Lists.{count, each}
+use Rattle.rules.specs.Lists.{count}
 
 -- width (x), height (y), length (z)
 pub record Size : Type 0 where

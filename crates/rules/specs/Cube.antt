@@ -1,9 +1,9 @@
 -- 01, "The types": the words of a cube's 24 vertices. Definitions only.
 use Prim.Native.Nat.{ℕ, zero, suc, _+_, _-_, _*_, _/_, _%_}
-use mathlib.Core.Bool.{Bool, true, false, cond}
-use mathlib.Core.List.{List, [], _∷_, _++_}
+use mathlib.Core.Bool.{Bool, cond}
+use mathlib.Core.List.{List, [], _∷_}
 use lib.ListN.{getD}
-use lib.Dec.{eqb, leb, ltb}
+use lib.Dec.{eqb, ltb}
 use lib.Ieee.{Float, binary32, add, sub, mul, div, toBits}
 use Rattle.rules.specs.Lists.{each, table}
 use Rattle.rules.specs.Floats.{f32, whole, one, two}

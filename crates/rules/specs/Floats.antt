@@ -4,7 +4,7 @@ use mathlib.Core.Bool.{Bool, _&&_}
 use lib.IntN.{pos}
 use lib.Dec.{ltb}
 use Rattle.rules.specs.Cells.{Triple}
-use lib.Ieee.{Float, binary32, add, sub, mul, div, ofBits, toBits, ofInt}
+use lib.Ieee.{Float, binary32, ofBits, ofInt}
 
 -- the float of a pattern, and a whole number as a float
 abbrev pub f32 : ℕ → Float

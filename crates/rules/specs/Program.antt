@@ -1,17 +1,15 @@
 -- 01, "The program and its file". Definitions only.
 use Prim.Native.Nat.{ℕ, zero, suc, _+_, _-_, _*_, _/_, _%_}
-use mathlib.Core.Bool.{Bool, true, false, cond, not, _&&_, _||_}
+use mathlib.Core.Bool.{Bool, cond, not, _&&_, _||_}
 use mathlib.Core.List.{List, [], _∷_, _++_}
-use lib.ListN.{length, getD, take, drop, replicate}
-use lib.Dec.{eqb, leb, ltb}
+use lib.ListN.{length, getD, replicate}
+use lib.Dec.{eqb, ltb}
 use Rattle.rules.specs.Lists.{each, table, only, part}
 use Rattle.rules.specs.Cells.{Size, Triple, cells, has}
-use Rattle.rules.specs.Types.{Types}
 use Rattle.rules.specs.Cube.{Shape, floatsOf}
 use Rattle.rules.specs.Mesh.{Lists, Quad, decode}
 use Rattle.rules.specs.Update.{u32At, source}
-use Rattle.rules.specs.Answers.{Verdict, fine, refuse, refuseIf}
-use Rattle.rules.specs.Calls.{Answer, refused, CubeOutcome, generateVoxelMesh, Scene, Outcome, meshGrid, updateMesh, span, faces}
+use Rattle.rules.specs.Calls.{Answer, refused, CubeOutcome, generateVoxelMesh, Scene, Outcome, meshGrid, updateMesh, span}
 
 -- ---- the file: types, grid, log, then a 92-byte trailer of 23 u32 pointing back
 

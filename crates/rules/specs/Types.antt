@@ -1,12 +1,12 @@
 -- 01, "The types": kinds, covering sets and the registry's floats; which cubes are cubes. Definitions only.
-use Prim.Native.Nat.{ℕ, zero, suc, _+_, _-_, _*_, _/_, _%_}
-use mathlib.Core.Bool.{Bool, true, false, cond, not, _&&_}
+use Prim.Native.Nat.{ℕ, _+_, _*_, _/_, _%_}
+use mathlib.Core.Bool.{Bool, cond, _&&_}
 use mathlib.Core.List.{List, [], _∷_}
-use lib.ListN.{length, getD}
+use lib.ListN.{getD}
 use lib.Dec.{eqb, ltb}
-use lib.Ieee.{Float, eq, lt, binary32, add, mul, toBits}
-use Rattle.rules.specs.Lists.{each, table, part, every, lowest}
-use Rattle.rules.specs.Cells.{has, Triple, along}
+use lib.Ieee.{eq, lt, binary32, add, mul, toBits}
+use Rattle.rules.specs.Lists.{each, table, part, every}
+use Rattle.rules.specs.Cells.{Triple, along}
 use Rattle.rules.specs.Floats.{f32, whole, finite}
 use Rattle.rules.specs.Cube.{floatsOf}
 

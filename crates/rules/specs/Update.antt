@@ -1,13 +1,13 @@
 -- 01, "An update"; 02, Q-2. Definitions only.
-use Prim.Native.Nat.{ℕ, zero, suc, _+_, _-_, _*_, _≤_, _<_, max}
+use Prim.Native.Nat.{ℕ, zero, suc, _+_, _-_, _*_, _<_, max}
 use mathlib.Core.Path.{_≡_}
-use mathlib.Core.Bool.{Bool, true, false, cond, not, _&&_, _||_}
+use mathlib.Core.Bool.{Bool, true, cond, not, _&&_, _||_}
 use mathlib.Core.List.{List, [], _∷_, _++_, map}
 use mathlib.Core.Option.{Option, none, some}
 use lib.ListN.{length, getD, set, take, drop}
 use lib.Dec.{eqb, leb, ltb}
-use Rattle.rules.specs.Lists.{each, table, only, part, lowest}
-use Rattle.rules.specs.Cells.{Size, cells, opposite, neighbour, keyOf}
+use Rattle.rules.specs.Lists.{each, only, part, lowest}
+use Rattle.rules.specs.Cells.{opposite, neighbour, keyOf}
 use Rattle.rules.specs.Mesh.{Quad, World, typeAt, isNormalCube, covering, there, placeOf}
 
 -- ---- a log entry, 12 bytes

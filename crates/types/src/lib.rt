@@ -13,7 +13,6 @@ ghost use lib.ListN.{length};
 ghost use lib.Dec.{T};
 ghost use Rattle.rules.specs.Lists.{every, lowest};
 ghost use Rattle.rules.specs.Floats.{finite, finite3};
-ghost use Rattle.rules.specs.Cells.{along};
 ghost use Rattle.rules.specs.Types.{positionOf, classOn, classAt, classOf, classed, isCube};
 ghost use Rattle.rules.specs.Answers.{badCounts, badType, notACube};
 ghost use Rattle.answers.specs.Verdicts.{verdictOf};

@@ -1,7 +1,6 @@
 -- The 36 triangle words of a cube, face by face. Assumes nothing.
 use mathlib.Core.Path.{_≡_}
 use Prim.Native.Nat.{ℕ, _+_, _*_, _<_}
-use native.Mathlib.Omega.{arith}
 use lib.Dec.{eqb, ltb}
 use lib.Ieee.Bits.{is-true}
 use lib.ListN.{getD}

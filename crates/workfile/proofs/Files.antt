@@ -1,16 +1,16 @@
 -- Laws of the file's tests: counts that are capped, and what a file that is not bad is known to be. Assumes nothing.
 use mathlib.Core.Path.{_≡_, refl, sym, ap, _∙_}
-use mathlib.Core.Bool.{Bool, true, false, cond, not, _&&_, _||_}
+use mathlib.Core.Bool.{Bool, true, false, not, _&&_, _||_}
 use mathlib.Core.List.{List}
 use Prim.Native.Nat.{ℕ, _+_, _-_, _*_, _≤_, _<_}
 use native.Mathlib.Nat.{mul-le-mul, mul-le-mul-left, mul-one, mul-zero, le-refl}
 use native.Mathlib.Omega.{arith}
 use lib.ListN.{length, take, drop}
 use lib.Dec.{eqb, ltb}
-use borrow.Author.Tests.{eqb-true, eqb-false, eq-eqb, ne-eqb, ltb-true, ltb-false, lt-ltb, le-ltb}
+use borrow.Author.Tests.{eqb-true, ne-eqb, ltb-true, ltb-false, lt-ltb, le-ltb}
 use Rattle.rules.specs.Cells.{cells}
 use Rattle.rules.specs.Program.{body, word, typeCount, sizeIn, gridStart, logStart, gridIn, logIn, adjoining, badFile}
-use Rattle.rules.proofs.ListLaws.{split, not-false, not-true, and-true, or-false}
+use Rattle.rules.proofs.ListLaws.{not-true, and-true, or-false}
 use Rattle.floats.specs.declared.Triple.{Triple}
 use Rattle.util.specs.declared.Dimensions.{Dimensions}
 use Rattle.workfile.specs.declared.Work.{Work}

@@ -1,11 +1,10 @@
 -- The work file as the declared structs hold it. Definitions only.
-use Prim.Native.Nat.{ℕ, _+_, _*_, _≤_, _<_}
+use Prim.Native.Nat.{ℕ, _+_, _*_, _≤_}
 use mathlib.Core.Path.{_≡_}
 use mathlib.Core.Bool.{cond}
-use mathlib.Core.List.{List, _++_}
-use lib.ListN.{length, drop}
+use mathlib.Core.List.{List}
+use lib.ListN.{length}
 use lib.Dec.{eqb, ltb}
-use Rattle.rules.specs.Lists.{table}
 use Rattle.rules.specs.Cells.{cells}
 use Rattle.rules.specs.Program.{body, word, typeCount, sizeIn, gridStart, logStart, colouredIn}
 use Rattle.floats.specs.declared.Triple.{Triple}

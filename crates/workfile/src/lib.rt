@@ -2,9 +2,9 @@
 use floats::Triple;
 use util::Dimensions;
 ghost use mathlib.Core.Path.{_≡_};
-ghost use Prim.Native.Nat.{ℕ, _+_, _*_, _≤_, _<_};
+ghost use Prim.Native.Nat.{_+_, _*_, _≤_, _<_};
 ghost use lib.ListN.{length};
-ghost use Rattle.rules.specs.Lists.{table, filled};
+ghost use Rattle.rules.specs.Lists.{filled};
 ghost use Rattle.rules.specs.Cells.{cells};
 ghost use Rattle.rules.specs.Update.{u32At};
 ghost use Rattle.rules.specs.Program.{word, typeCount, sizeIn, adjoining, badFile, typeByte, shapeIn, gridIn, logIn};

@@ -1,6 +1,5 @@
 -- `voxel_mesh::write_vertex` meets its contract: after k turns the first k words are the vertex's. Assumes nothing.
 use mathlib.Core.Path.{_≡_, refl, ap, _∙_}
-use mathlib.Core.List.{List}
 use Prim.Native.Nat.{ℕ, _≤_, _-_}
 use denote.Ref.{now}
 use lib.ListN.{length, set}
