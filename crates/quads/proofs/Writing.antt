@@ -22,6 +22,7 @@ use Rattle.face.specs.Face.{number}
 use Rattle.face.proofs.Laws.{number-below}
 use Rattle.vav.specs.Rows.{put}
 use Rattle.vav.proofs.Laws.{length-put, put-before, put-within, put-past, put-none}
+pub use Rattle.vav.proofs.Laws.{put-next, put-whole, stored}
 use Rattle.quads.specs.Quads.{four, wordAt, vertexWord, vertexWords, Drawable}
 
 -- ---- corners
@@ -68,30 +69,6 @@ module _ {cube : List ℕ} {n : ℕ} {a d : Triple} (h : Drawable cube n a d) wh
   low-along k = along-of (λ x. x ≤ 1024) a k (h .x) (h .y) (h .z)
 
 -- ---- words written over a list
-
--- word after word
-pub stored : (at : ℕ) (ys xs : List ℕ) → at + length ys ≤ length xs → sets xs at ys ≡ put at ys xs
-unfolding put
-stored at ys xs h = sets-eq ys xs at h ∙ append-assoc (take at xs) ys (drop (at + length ys) xs)
-
--- a list where another one ends
-pub put-next : (at : ℕ) (ys zs xs : List ℕ) → at ≤ length xs → put (at + length ys) zs (put at ys xs) ≡ put at (ys ++ zs) xs
-unfolding put
-put-next at ys zs xs h =
-    let front = take at xs ++ ys in
-    let rest = drop (at + length ys) xs in
-    let l : length front ≡ at + length ys = simp (length-append, length-take) (omega arith) in
-    let e : at + length ys + length zs ≡ at + length (ys ++ zs) = simp length-append (omega arith) in
-    let d : drop (at + length ys + length zs) (front ++ rest) ≡ drop (at + length (ys ++ zs)) xs =
-    ap (λ (k : ℕ). drop (k + length zs) (front ++ rest)) (sym l) ∙ drop-append-add front rest (length zs)
-    ∙ drop-drop (length zs) (at + length ys) xs ∙ ap (λ (k : ℕ). drop k xs) e in
-    ap (λ (r : List ℕ). take (at + length ys) r ++ (zs ++ drop (at + length ys + length zs) r)) (sym (append-assoc (take at xs) ys rest))
-    ∙ rw (take-at front rest (at + length ys) l, d) (simp append-assoc)
-
--- a whole list over another
-pub put-whole : (ys xs : List ℕ) → length ys ≡ length xs → put 0 ys xs ≡ ys
-unfolding put
-put-whole ys xs e = rw (drop-of-length-le xs {i = 0 + length ys} (omega arith)) (append-nil ys)
 
 -- m words from word i on, over the first j, which reach as far at least
 module _ (v : ℕ → ℕ) (to i m j : ℕ) (xs : List ℕ) (a : i ≤ j) (b : j ≤ i + m) (h : to + (i + m) ≤ length xs) where

@@ -3,6 +3,7 @@ use face::Face;
 use floats::Triple;
 use floats::moved_word;
 use util::Coordinates;
+use vav::write_four;
 ghost use mathlib.Core.Path.{_≡_};
 ghost use mathlib.Core.List.{[], _∷_};
 ghost use Prim.Native.Nat.{_+_, _*_, _≤_, _<_};
@@ -72,17 +73,6 @@ pub fn quad_word(
     } else {
         word
     }
-}
-
-// Writes four words.
-fn write_four(out: &mut [u32], at: usize, a: u32, b: u32, c: u32, d: u32)
-    requires { ⌜ at + 4 ≤ length (now out) ⌝ }
-    ensures { λ _. ⌜ now (out .exit) ≡ put at (a ∷ b ∷ c ∷ d ∷ []) (now (out .entry)) ⌝ }
-{
-    out[at] = a;
-    out[at + 1] = b;
-    out[at + 2] = c;
-    out[at + 3] = d;
 }
 
 // Copies four words of a vertex of a cube, from word k on, into the vertex at `to`.

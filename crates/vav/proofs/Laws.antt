@@ -3,13 +3,13 @@ use mathlib.Core.Path.{_≡_, refl, sym, ap, _∙_}
 use mathlib.Core.Logic.{_≢_, _⊎_, inl, inr, ⊎-elim}
 use Prim.Native.Nat.{ℕ, suc, _+_, _-_, _*_, _≤_, _<_}
 use mathlib.Core.Bool.{cond}
-use mathlib.Core.List.{List, [], _∷_, _++_, append-assoc}
+use mathlib.Core.List.{List, [], _∷_, _++_, append-assoc, append-nil}
 use native.Mathlib.Numerals.{add-one}
 use native.Mathlib.Nat.{add-zero, mul-le-mul-left}
 use native.Mathlib.Omega.{arith}
 use native.Mathlib.Decide.{decLt}
-use lib.ListN.{length, take, drop, getD, set, replicate, length-append, length-take, length-drop, length-replicate, List·getD-append, take-append-drop, replicate-append-replicate}
-use lib.Seq.{ext-getD, take-at, drop-at, drop-append-add, take-suc, drop-cons, getD-drop, getD-take, set-at, set-split, length-take-le, getD-append-add, drop-drop}
+use lib.ListN.{length, take, drop, getD, set, replicate, length-append, length-take, length-drop, length-replicate, List·getD-append, take-append-drop, drop-of-length-le, replicate-append-replicate}
+use lib.Seq.{ext-getD, sets, sets-eq, take-at, drop-at, drop-append-add, take-suc, drop-cons, getD-drop, getD-take, set-at, set-split, length-take-le, getD-append-add, drop-drop}
 use borrow.Author.Tests.{leb-false}
 use borrow.Rule.Slice.PartMut.{putMid}
 use Rattle.rules.specs.Lists.{part, row}
@@ -118,6 +118,32 @@ module _ (pre mid post : List ℕ) (at n : ℕ) (l : length pre ≡ at) (m : len
       ap (λ (k : ℕ). drop (k + length ys) (pre ++ (mid ++ post))) (sym l)
       ∙ drop-append-add pre (mid ++ post) (length ys) ∙ drop-at mid post (length ys) (m ∙ sym e) in
       rw (d, take-at pre (mid ++ post) at l)
+
+-- ---- words written over a list, one after the other
+
+-- word after word
+pub stored : (at : ℕ) (ys xs : List ℕ) → at + length ys ≤ length xs → sets xs at ys ≡ put at ys xs
+unfolding put
+stored at ys xs h = sets-eq ys xs at h ∙ append-assoc (take at xs) ys (drop (at + length ys) xs)
+
+-- a list where another one ends
+pub put-next : (at : ℕ) (ys zs xs : List ℕ) → at ≤ length xs → put (at + length ys) zs (put at ys xs) ≡ put at (ys ++ zs) xs
+unfolding put
+put-next at ys zs xs h =
+    let front = take at xs ++ ys in
+    let rest = drop (at + length ys) xs in
+    let l : length front ≡ at + length ys = simp (length-append, length-take) (omega arith) in
+    let e : at + length ys + length zs ≡ at + length (ys ++ zs) = simp length-append (omega arith) in
+    let d : drop (at + length ys + length zs) (front ++ rest) ≡ drop (at + length (ys ++ zs)) xs =
+    ap (λ (k : ℕ). drop (k + length zs) (front ++ rest)) (sym l) ∙ drop-append-add front rest (length zs)
+    ∙ drop-drop (length zs) (at + length ys) xs ∙ ap (λ (k : ℕ). drop k xs) e in
+    ap (λ (r : List ℕ). take (at + length ys) r ++ (zs ++ drop (at + length ys + length zs) r)) (sym (append-assoc (take at xs) ys rest))
+    ∙ rw (take-at front rest (at + length ys) l, d) (simp append-assoc)
+
+-- a whole list over another
+pub put-whole : (ys xs : List ℕ) → length ys ≡ length xs → put 0 ys xs ≡ ys
+unfolding put
+put-whole ys xs e = rw (drop-of-length-le xs {i = 0 + length ys} (omega arith)) (append-nil ys)
 
 -- a part from a to a + k that was lent, came back as ys, and is known to be zs
 pub lent : (a k : ℕ) (xs ys zs : List ℕ) → ys ≡ zs → length zs ≡ k → putMid a (a + k - a) xs ys ≡ put a zs xs

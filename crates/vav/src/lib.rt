@@ -1,10 +1,22 @@
 // Rows of a lent list of words, n words a row: one word a quad for links, six for triangles, 32 or 48 for vertices.
 ghost use mathlib.Core.Path.{_≡_};
+ghost use mathlib.Core.List.{[], _∷_};
 ghost use Prim.Native.Nat.{_+_, _-_, _*_, _≤_, _<_};
 ghost use lib.ListN.{length};
 ghost use Rattle.rules.specs.Lists.{part, row};
 ghost use Rattle.rules.specs.Update.{movedBy};
 ghost use Rattle.vav.specs.Rows.{put, zeros, sourceOf, freed};
+
+// Writes four words. Read before they are written, they go at once.
+pub fn write_four(list: &mut [u32], at: usize, a: u32, b: u32, c: u32, d: u32)
+    requires { ⌜ at + 4 ≤ length (now list) ⌝ }
+    ensures { λ _. ⌜ now (list .exit) ≡ put at (a ∷ b ∷ c ∷ d ∷ []) (now (list .entry)) ⌝ }
+{
+    list[at] = a;
+    list[at + 1] = b;
+    list[at + 2] = c;
+    list[at + 3] = d;
+}
 
 // Writes a row at place `count`.
 pub fn extend(list: &mut [u32], row: &[u32], count: usize)

@@ -1,2 +1,3 @@
 pub mod Shapes
 pub mod Triangles
+mod Making

@@ -3,19 +3,21 @@ use floats::Triple;
 use floats::corner_word;
 use floats::is_finite_bits;
 use floats::uv_word;
+use vav::write_four;
 ghost use mathlib.Core.Path.{_≡_};
-ghost use mathlib.Core.Bool.{not, _&&_};
+ghost use mathlib.Core.Bool.{cond, not, _&&_};
 ghost use mathlib.Core.List.{[], _++_};
 ghost use Prim.Native.Nat.{_+_, _-_, _*_, _/_, _<_, _≤_};
 ghost use lib.ListN.{length, getD, drop};
-ghost use lib.Dec.{ltb};
-ghost use Rattle.rules.specs.Lists.{every, lowest, table};
+ghost use lib.Dec.{T, ltb};
+ghost use Rattle.rules.specs.Lists.{each, every, lowest, table};
 ghost use Rattle.rules.specs.Floats.{finite, finite3};
-ghost use Rattle.rules.specs.Cube.{floatsOf, isHigh, isEnd, lastNaming, atlasAlong, uvOf, normalOf, cubeWord, cubeWords, cubeTriangles};
+ghost use Rattle.rules.specs.Cube.{floatsOf, isHigh, isEnd, lastNaming, atlasAlong, axes, normalOf, cubeWord, cubeWords, cubeTriangles};
 ghost use Rattle.rules.specs.Answers.{entries, badTile, badAtlas};
 ghost use Rattle.rules.specs.Calls.{generateVoxelMesh};
 ghost use Rattle.floats.specs.Triples.{tripleOf};
 ghost use Rattle.voxel_mesh.specs.Outcome.{shapeOf, verdictOf, verdictIn, outcome, Accepted};
+ghost use Rattle.voxel_mesh.specs.Parts.{uvIn, cornerIn, Tiled, Cornered, partWord};
 
 // What a cube is made from; each float is its bits.
 pub struct Shape {
@@ -43,9 +45,6 @@ const HIGH: [u32; 3] = [0x990f66, 0xc3c30f, 0x0f66c3];
 
 // Bit v: vertex v is at the tile's end of u, v.
 const END: [u32; 2] = [0x969696, 0x3c3c3c];
-
-// The axis of each face.
-const AXES: [usize; 6] = [1, 1, 0, 0, 2, 2];
 
 // The triangles of the cube's faces.
 const TRIANGLES: [usize; 36] = [
@@ -116,11 +115,22 @@ fn is_end(vertex: usize, axis: usize) -> bool
     (END[axis] >> vertex) % 2 == 1
 }
 
+// The axis of a face: y for the first two, x for the next.
+fn axis_of(face: usize) -> usize
+    requires { ⌜ face < 6 ⌝ }
+    ensures { λ r. ⌜ r ≡ getD axes face 0 ⌝ }
+{
+    if face < 2 {
+        return 1;
+    }
+    if face < 4 { 0 } else { 2 }
+}
+
 fn normal_word(face: usize, axis: usize) -> u32
     requires { ⌜ face < 6 ⌝ }
     ensures { λ r. ⌜ r ≡ normalOf face axis ⌝ }
 {
-    if AXES[face] != axis {
+    if axis_of(face) != axis {
         return 0;
     }
     if face % 2 == 0 {
@@ -230,14 +240,12 @@ fn last_naming(texture: &[u32], face: usize) -> usize
     6
 }
 
-// A uv coordinate of a vertex: axis 0 for u and 1 for v.
-fn uv_of(shape: Shape, texture: &[u32], vertex: usize, axis: usize) -> u32
-    requires { ⌜ Accepted (shapeOf shape (now texture)) × (vertex < 24) × (axis < 2) ⌝ }
-    ensures { λ r. ⌜ r ≡ uvOf (shapeOf shape (now (texture .entry))) vertex axis ⌝ }
+// Where the tile of texture entry n starts or ends, along u (0) or v (1); 6 is no entry.
+fn uv_at(shape: Shape, texture: &[u32], n: usize, end: bool, axis: usize) -> u32
+    requires { ⌜ Accepted (shapeOf shape (now texture)) × (axis < 2) ⌝ }
+    ensures { λ r. ⌜ r ≡ uvIn (shapeOf shape (now (texture .entry))) n end axis ⌝ }
 {
     let atlas = shape.atlas_along(axis);
-    let end = is_end(vertex, axis);
-    let n = last_naming(texture, vertex / 4);
     if n < 6 {
         uv_word(end, true, texture[3 * n + 1 + axis], atlas, shape.padding)
     } else {
@@ -245,33 +253,87 @@ fn uv_of(shape: Shape, texture: &[u32], vertex: usize, axis: usize) -> u32
     }
 }
 
-// Word k of a vertex.
-fn cube_word(shape: Shape, texture: &[u32], vertex: usize, k: usize) -> u32
-    requires { ⌜ Accepted (shapeOf shape (now texture)) × (vertex < 24) ⌝ }
-    ensures { λ r. ⌜ r ≡ cubeWord (shapeOf shape (now (texture .entry))) vertex k ⌝ }
-{
-    if k < 3 {
-        let d = shape.d;
-        let centre = shape.centre;
-        return corner_word(is_high(vertex, k), d.along(k), centre.along(k));
-    }
-    if k < 6 {
-        return normal_word(vertex / 4, k - 3);
-    }
-    if k < 8 {
-        return uv_of(shape, texture, vertex, k - 6);
-    }
-    if k < 11 { shape.colour } else { shape.alpha }
+// Where the tile of a face starts and ends: left and right along u, top and bottom along v.
+struct Tile {
+    left: u32,
+    right: u32,
+    top: u32,
+    bottom: u32,
 }
 
-fn write_vertex(shape: Shape, texture: &[u32], vertex: usize, out: &mut [u32])
-    requires { ⌜ Accepted (shapeOf shape (now texture)) × (vertex < 24) ⌝ }
-    ensures { λ _. ⌜ now (out .exit) ≡ table (length (now (out .entry))) (cubeWord (shapeOf shape (now (texture .entry))) vertex) ⌝ }
+fn tile_of(shape: Shape, texture: &[u32], face: usize) -> Tile
+    requires { ⌜ Accepted (shapeOf shape (now texture)) × (face < 6) ⌝ }
+    ensures { λ r. ⌜ Tiled (shapeOf shape (now (texture .entry))) face r ⌝ }
 {
-    let mut k: usize = 0;
-    while k < out.len() {
-        out[k] = cube_word(shape, texture, vertex, k);
-        k += 1;
+    let n = last_naming(texture, face);
+    Tile {
+        left: uv_at(shape, texture, n, false, 0),
+        right: uv_at(shape, texture, n, true, 0),
+        top: uv_at(shape, texture, n, false, 1),
+        bottom: uv_at(shape, texture, n, true, 1),
+    }
+}
+
+// The corner on the low or on the high side of all three axes.
+fn corner_at(shape: Shape, high: bool) -> Triple
+    requires { ⌜ T (finite3 (tripleOf (shape .d))) × T (finite3 (tripleOf (shape .centre))) ⌝ }
+    ensures { λ r. ⌜ tripleOf r ≡ cornerIn (shapeOf shape []) high ⌝ }
+{
+    let d = shape.d;
+    let centre = shape.centre;
+    Triple {
+        x: corner_word(high, d.x, centre.x),
+        y: corner_word(high, d.y, centre.y),
+        z: corner_word(high, d.z, centre.z),
+    }
+}
+
+fn pick(on: bool, a: u32, b: u32) -> u32
+    ensures { λ r. ⌜ r ≡ cond on a b ⌝ }
+{
+    if on { a } else { b }
+}
+
+// Writes a vertex from the cube's two corners and its face's tile.
+fn write_vertex(out: &mut [u32], shape: Shape, low: Triple, high: Triple, tile: Tile, vertex: usize)
+    requires { ⌜ (vertex < 24) × (length (now out) ≡ floatsOf (shape .coloured)) ⌝ }
+    ensures { λ _. ⌜ now (out .exit) ≡ table (length (now (out .entry))) (partWord shape low high tile vertex) ⌝ }
+{
+    let face = vertex / 4;
+    let x = pick(is_high(vertex, 0), high.x, low.x);
+    let y = pick(is_high(vertex, 1), high.y, low.y);
+    let z = pick(is_high(vertex, 2), high.z, low.z);
+    let u = pick(is_end(vertex, 0), tile.right, tile.left);
+    let v = pick(is_end(vertex, 1), tile.bottom, tile.top);
+    write_four(out, 0, x, y, z, normal_word(face, 0));
+    write_four(out, 4, normal_word(face, 1), normal_word(face, 2), u, v);
+    if shape.coloured {
+        let colour = shape.colour;
+        write_four(out, 8, colour, colour, colour, shape.alpha);
+    }
+}
+
+// Writes the four vertices of a face.
+fn write_face(
+    out: &mut [u32],
+    shape: Shape,
+    texture: &[u32],
+    low: Triple,
+    high: Triple,
+    face: usize,
+)
+    requires { ⌜ Accepted (shapeOf shape (now texture)) × (face < 6) × (length (now out) ≡ 4 * floatsOf (shape .coloured))
+        × Cornered (shapeOf shape (now texture)) low high ⌝ }
+    ensures { λ _. ⌜ now (out .exit) ≡ each 4 (4 * face) (λ v. table (floatsOf (shape .coloured)) (cubeWord (shapeOf shape (now (texture .entry))) v)) ⌝ }
+{
+    let floats = floats_of(shape.coloured);
+    let tile = tile_of(shape, texture, face);
+    let mut i: usize = 0;
+    while i < 4 {
+        let at = i * floats;
+        let end = at + floats;
+        write_vertex(&mut out[at..end], shape, low, high, tile, 4 * face + i);
+        i += 1;
     }
 }
 
@@ -280,13 +342,15 @@ fn write_cube(shape: Shape, texture: &[u32], out: &mut [u32])
     ensures { λ _. ⌜ now (out .exit) ≡
         cubeWords (shapeOf shape (now (texture .entry))) ++ drop (24 * floatsOf (shape .coloured)) (now (out .entry)) ⌝ }
 {
-    let floats = floats_of(shape.coloured);
-    let mut vertex: usize = 0;
-    while vertex < 24 {
-        let at = vertex * floats;
-        let end = at + floats;
-        write_vertex(shape, texture, vertex, &mut out[at..end]);
-        vertex += 1;
+    let words = 4 * floats_of(shape.coloured);
+    let low = corner_at(shape, false);
+    let high = corner_at(shape, true);
+    let mut face: usize = 0;
+    while face < 6 {
+        let at = face * words;
+        let end = at + words;
+        write_face(&mut out[at..end], shape, texture, low, high, face);
+        face += 1;
     }
 }
 

@@ -1,75 +1,165 @@
--- `voxel_mesh::write_vertex` meets its contract: after k turns the first k words are the vertex's. Assumes nothing.
-use mathlib.Core.Path.{_≡_, refl, ap, _∙_}
-use Prim.Native.Nat.{ℕ, _≤_, _-_}
-use denote.Ref.{now}
-use lib.ListN.{length, set}
-use Rattle.rules.specs.Cube.{cubeWord}
-use Rattle.voxel_mesh.specs.Outcome.{shapeOf}
-use Rattle.rules.specs.Lists.{filled}
-use Rattle.rules.proofs.Rows.{filled-none, filled-more, length-filled, filled-whole}
-use borrow.Author.Needs.{needs}
+-- `voxel_mesh::write_vertex` meets its contract: four words at a time. Assumes nothing.
+use mathlib.Core.Path.{_≡_, ap, _∙_}
+use mathlib.Core.Bool.{Bool, true, false}
+use mathlib.Core.List.{List, [], _∷_}
+use Prim.Native.Nat.{ℕ, _≤_}
 use native.Mathlib.Omega.{arith}
+use lib.ListN.{length}
+use Rattle.rules.specs.Cube.{floatsOf}
+use Rattle.vav.specs.Rows.{put}
+use Rattle.voxel_mesh.specs.Parts.{partWord}
+use Rattle.voxel_mesh.proofs.Shapes.{few}
+use Rattle.voxel_mesh.proofs.Making.{eight, eight-is, twelve-is}
+use borrow.Author.Needs.{needs}
 use Rattle.voxel_mesh.proofs.write_vertex.Statement.{statement}
 use Rattle.voxel_mesh.proofs.write_vertex.Tie as tie
 
-abbrev Inv-loop : tie.InvT-loop
-Inv-loop shape texture vertex out₀ k₀ out k = (k ≤ length out₀) × (out ≡ filled k (cubeWord (shapeOf shape texture) vertex) out₀)
+is-high-requires : tie.Need-is-high-requires
+is-high-requires c κs = search needs
 
-abbrev μ-loop : tie.MeasureT-loop
-μ-loop shape texture vertex out₀ k₀ out k = length out₀ - k
+pick-requires : tie.Need-pick-requires
+pick-requires c κs = search needs
 
-kept : (c : tie.At-loop Inv-loop μ-loop) → length (c .loop .out) ≡ length (now (c .before .before .before .args .out))
-kept c = length-filled _ (c .loop .k) _ _ (c .loop .inv .0) (c .loop .inv .1)
+is-high-requires-2 : tie.Need-is-high-requires-2
+is-high-requires-2 c κs = search needs
 
-loop-holds : tie.Need-loop-holds Inv-loop μ-loop
-loop-holds c = (omega arith, filled-none _ _)
+pick-requires-2 : tie.Need-pick-requires-2
+pick-requires-2 c κs = search needs
 
-cube-word-requires : tie.Need-cube-word-requires Inv-loop μ-loop
-cube-word-requires c κs = search needs
+is-high-requires-3 : tie.Need-is-high-requires-3
+is-high-requires-3 c κs = search needs
 
-mul-out : tie.Need-mul-out Inv-loop μ-loop
-mul-out c = omega (arith, kept (c .before .before))
+pick-requires-3 : tie.Need-pick-requires-3
+pick-requires-3 c κs = search needs
 
-slice-write-out : tie.Need-slice-write-out Inv-loop μ-loop
-slice-write-out c = c .before .loop-test .taken
+is-end-requires : tie.Need-is-end-requires
+is-end-requires c κs = search needs
 
-add-k : tie.Need-add-k Inv-loop μ-loop
-add-k c = omega (arith, kept (c .before .before))
+pick-requires-4 : tie.Need-pick-requires-4
+pick-requires-4 c κs = search needs
 
-loop-less : tie.Need-loop-less Inv-loop μ-loop
-loop-less c = omega (arith, kept (c .before .before))
+is-end-requires-2 : tie.Need-is-end-requires-2
+is-end-requires-2 c κs = search needs
 
-loop-again : tie.Need-loop-again Inv-loop μ-loop
-loop-again c =
-    let l = c .before .before .loop in
-    let a = c .before .before .before .before .before .args in
-    let w : ℕ → ℕ = cubeWord (shapeOf (a .shape) (now (a .texture))) (a .vertex) in (
-      omega (arith, kept (c .before .before)),
-      ap (set (l .out) (l .k)) (c .cube-word .ensures)
-          ∙ filled-more w (l .k) (now (a .out)) (l .out) (omega (arith, kept (c .before .before))) (l .inv .1),
+pick-requires-5 : tie.Need-pick-requires-5
+pick-requires-5 c κs = search needs
+
+normal-word-requires : tie.Need-normal-word-requires
+normal-word-requires c κs = search needs
+
+-- where it began: room for a vertex
+abbrev begun : tie.After-pick5 → tie.Start
+begun c = c .before .before .before .before .before .before .before .before .before .before .before
+
+at-least : (t : tie.Start) → 8 ≤ length (t .args .out .now)
+at-least t = omega (arith, t .pre .1, few (t .args .shape .coloured) .0)
+
+write-four-requires : tie.Need-write-four-requires
+write-four-requires c κs = omega (arith, at-least (begun (c .before .before)))
+
+normal-word-requires-2 : tie.Need-normal-word-requires-2
+normal-word-requires-2 c κs = search needs
+
+normal-word-requires-3 : tie.Need-normal-word-requires-3
+normal-word-requires-3 c κs = search needs
+
+write-four-requires-2 : tie.Need-write-four-requires-2
+write-four-requires-2 c κs =
+    let first = c .before .before .before .before .before in
+    omega (arith, at-least (begun (first .before .before .before)), first .write-four .kept .0)
+
+-- the first eight words are there
+eight-written : (c : tie.After-write-four2) →
+    let a = begun (c .before .before .before .before .before .before .before .before .before) .args in
+    c .write-four2 .last .0 ≡ eight (partWord (a .shape) (a .low) (a .high) (a .tile) (a .vertex)) (a .out .now)
+unfolding partWord
+eight-written c =
+    let third = c .before in
+    let second = third .before in
+    let first = second .before .before .before .before in
+    let normal = first .before in
+    let v = normal .before .before in
+    let u = v .before .before in
+    let z = u .before .before in
+    let y = z .before .before in
+    let x = y .before .before in
+    simp (
+      c .write-four2 .ensures,
+      third .normal-word3 .ensures,
+      second .normal-word2 .ensures,
+      first .write-four .ensures,
+      normal .normal-word .ensures,
+      v .pick5 .ensures,
+      v .before .is-end2 .ensures,
+      u .pick4 .ensures,
+      u .before .is-end .ensures,
+      z .pick3 .ensures,
+      z .before .is-high3 .ensures,
+      y .pick2 .ensures,
+      y .before .is-high2 .ensures,
+      x .pick .ensures,
+      x .before .is-high .ensures,
     )
 
-same-length : tie.Need-same-length Inv-loop μ-loop
-same-length c = kept (c .before)
+coloured-words : (b : Bool) → b ≡ true → floatsOf b ≡ 12
+coloured-words b e = ap floatsOf e
 
-returns : tie.Need-returns Inv-loop μ-loop
+plain-words : (b : Bool) → b ≡ false → floatsOf b ≡ 8
+plain-words b e = ap floatsOf e
+
+write-four-requires-3 : tie.Need-write-four-requires-3
+write-four-requires-3 c κs =
+    let then = c .before in
+    let second = then .before .before .before in
+    let first = second .before .before .before .before .before .before in
+    let t = begun (first .before .before .before) in
+    omega (arith, t .pre .1, coloured-words _ (then .if1 .taken), first .write-four .kept .0, second .write-four2 .kept .0)
+
+same-length : tie.Need-same-length
+same-length c = search needs
+
+returns : tie.Need-returns
+unfolding partWord
 returns c =
-    let out = now (c .before .before .before .before .args .out) in
-    let e : c .before .loop .k ≡ length out = omega (arith, kept (c .before)) in
-    (rw e at (c .before .loop .inv .1)) ∙ filled-whole _ (length out) out refl
+    let last = c .before .before in
+    let then = last .before .before in
+    let second = then .before .before .before in
+    let a = begun (second .before .before .before .before .before .before .before .before .before) in
+    let f = partWord (a .args .shape) (a .args .low) (a .args .high) (a .args .tile) (a .args .vertex) in
+    last .write-four3 .ensures ∙ ap (put 8 (f 8 ∷ f 9 ∷ f 10 ∷ f 11 ∷ [])) (eight-written second)
+    ∙ twelve-is f (a .args .out .now) (a .pre .1 ∙ coloured-words _ (then .if1 .taken))
+
+same-length-2 : tie.Need-same-length-2
+same-length-2 c = search needs
+
+returns-2 : tie.Need-returns-2
+returns-2 c =
+    let second = c .before .before .before in
+    let a = begun (second .before .before .before .before .before .before .before .before .before) in
+    let f = partWord (a .args .shape) (a .args .low) (a .args .high) (a .args .tile) (a .args .vertex) in
+    eight-written second ∙ eight-is f (a .args .out .now) (a .pre .1 ∙ plain-words _ (c .if1 .left))
 
 pub write-vertex-spec : {M : Type 1} → statement M
 write-vertex-spec =
     tie.close
     (tie.spec
-    Inv-loop
-    μ-loop
-    loop-holds
-    cube-word-requires
-    mul-out
-    slice-write-out
-    add-k
-    loop-less
-    loop-again
+    is-high-requires
+    pick-requires
+    is-high-requires-2
+    pick-requires-2
+    is-high-requires-3
+    pick-requires-3
+    is-end-requires
+    pick-requires-4
+    is-end-requires-2
+    pick-requires-5
+    normal-word-requires
+    write-four-requires
+    normal-word-requires-2
+    normal-word-requires-3
+    write-four-requires-2
+    write-four-requires-3
     same-length
-    returns)
+    returns
+    same-length-2
+    returns-2)
