@@ -1,5 +1,6 @@
 -- The C calls' arguments and answers, as the rules see them. Definitions only.
 use Prim.Native.Nat.{ℕ}
+use mathlib.Core.Path.{_≡_}
 use mathlib.Core.Bool.{Bool, cond, not}
 use mathlib.Core.List.{List}
 use lib.Dec.{eqb}
@@ -7,7 +8,7 @@ use Rattle.rules.specs.Cube.{Shape}
 use Rattle.rules.specs.Mesh.{Lists}
 use Rattle.rules.specs.Update.{Tested, source, itself}
 use Rattle.rules.specs.Calls as rules
-use Rattle.rules.specs.Calls.{Answer, CubeOutcome, Outcome}
+use Rattle.rules.specs.Calls.{Answer, CubeOutcome, Outcome, generateVoxelMesh, meshGrid, updateMesh, checkMesh}
 use Rattle.exports.specs.declared.Told.{Told}
 use Rattle.exports.specs.declared.Mended.{Mended}
 
@@ -60,3 +61,18 @@ sceneFrom w h l kinds covers cubes coloured dx dy dz cx cy cz =
       d = record { x = dx; y = dy; z = dz };
       centre = record { x = cx; y = cy; z = cz };
     }
+
+-- ---- the calls' contracts: an answer is told, and lists are left; meshem_check_mesh tells a number and a place
+
+abbrev pub TellsCube : Shape → List ℕ → Answer → List ℕ → Type 0
+TellsCube shape room a exit = cubeOut a exit ≡ generateVoxelMesh shape room
+
+abbrev pub TellsMesh : rules.Scene → List ℕ → List ℕ → Bool → Lists → Answer → Lists → Type 0
+TellsMesh S outer grid culling B a exit = outcome a exit ≡ meshGrid S outer grid culling B
+
+-- the mode by its number: 0 the source's, else the new one
+abbrev pub TellsUpdate : ℕ → rules.Scene → List ℕ → Lists → ℕ → Answer → Lists → Type 0
+TellsUpdate tested S log B Q a exit = outcome a exit ≡ updateMesh (testedFrom tested) S log B Q
+
+abbrev pub TellsCheck : rules.Scene → List ℕ → List ℕ → Lists → ℕ → ℕ → ℕ → Type 0
+TellsCheck S outer grid B Q number place = answer number place 0 0 ≡ checkMesh S outer grid B Q

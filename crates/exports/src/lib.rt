@@ -17,16 +17,16 @@ use voxel_mesh::generate_voxel_mesh;
 ghost use mathlib.Core.Path.{_≡_};
 ghost use mathlib.Core.List.{List};
 ghost use Prim.Native.Nat.{ℕ};
-ghost use Rattle.rules.specs.Calls.{checkBy, generateVoxelMesh, meshGrid, updateMesh, checkMesh};
+ghost use Rattle.rules.specs.Calls.{checkBy};
 ghost use Rattle.answers.specs.Verdicts as answers;
 ghost use Rattle.voxel_mesh.specs.Outcome as cube;
 ghost use Rattle.meshem.specs.Outcome.{answerOf};
 ghost use Rattle.terms.specs.Modes.{isCulling};
 ghost use Rattle.update.specs.Outcome as update;
 ghost use Rattle.terms.specs.Scenes.{sceneOf};
+ghost use Rattle.terms.specs.Loans.{before, after};
 ghost use Rattle.terms.specs.Modes.{testedBy};
-ghost use Rattle.rules.specs.Mesh.{listsOf};
-ghost use Rattle.exports.specs.Answers.{ABI, isYes, testedFrom, answer, toldOf, mendedOf, shapeFrom, sceneFrom, cubeOut, outcome};
+ghost use Rattle.exports.specs.Answers.{ABI, isYes, testedFrom, answer, toldOf, mendedOf, shapeFrom, sceneFrom, TellsCube, TellsMesh, TellsUpdate, TellsCheck};
 
 // An answer's number, place and count.
 pub struct Told {
@@ -220,8 +220,8 @@ pub extern "C" fn meshem_generate_voxel_mesh(
     out: &mut [u32],
     place: &mut u64,
 ) -> u32
-    ensures { λ r. ⌜ cubeOut (answer r (now (place .exit)) 0 0) (now (out .exit))
-        ≡ generateVoxelMesh (shapeFrom dx dy dz «atlas_width» «atlas_height» (now (texture .entry)) cx cy cz padding coloured colour alpha) (now (out .entry)) ⌝ }
+    ensures { λ r. ⌜ TellsCube (shapeFrom dx dy dz «atlas_width» «atlas_height» (now (texture .entry)) cx cy cz padding coloured colour alpha)
+        (now (out .entry)) (answer r (now (place .exit)) 0 0) (now (out .exit)) ⌝ }
 {
     let shape = Shape {
         d: Triple {
@@ -271,11 +271,9 @@ pub extern "C" fn meshem_mesh_grid(
     place: &mut u64,
     quads: &mut u64,
 ) -> u32
-    ensures { λ r. ⌜ outcome (answer r (now (place .exit)) (now (quads .exit)) 0)
-        (listsOf (now (vertices .exit)) (now (triangles .exit)) (now (links .exit)) (now (slots .exit)))
-        ≡ meshGrid (sceneFrom width height length (now (kinds .entry)) (now (covers .entry)) (now (cubes .entry)) coloured dx dy dz cx cy cz)
-        (now (outer .entry)) (now (grid .entry)) (isYes algorithm)
-        (listsOf (now (vertices .entry)) (now (triangles .entry)) (now (links .entry)) (now (slots .entry))) ⌝ }
+    ensures { λ r. ⌜ TellsMesh (sceneFrom width height length (now (kinds .entry)) (now (covers .entry)) (now (cubes .entry)) coloured dx dy dz cx cy cz)
+        (now (outer .entry)) (now (grid .entry)) (isYes algorithm) (before vertices triangles links slots)
+        (answer r (now (place .exit)) (now (quads .exit)) 0) (after vertices triangles links slots) ⌝ }
 {
     let scene = scene_of(width, height, length, coloured, dx, dy, dz, cx, cy, cz);
     let by = algorithm_of(algorithm);
@@ -323,11 +321,9 @@ pub extern "C" fn meshem_update_mesh(
     quads: &mut u64,
     moved: &mut u64,
 ) -> u32
-    ensures { λ r. ⌜ outcome (answer r (now (place .exit)) (now (quads .exit)) (now (moved .exit)))
-        (listsOf (now (vertices .exit)) (now (triangles .exit)) (now (links .exit)) (now (slots .exit)))
-        ≡ updateMesh (testedFrom tested) (sceneFrom width height length (now (kinds .entry)) (now (covers .entry)) (now (cubes .entry)) coloured dx dy dz cx cy cz)
-        (now (log .entry))
-        (listsOf (now (vertices .entry)) (now (triangles .entry)) (now (links .entry)) (now (slots .entry))) count ⌝ }
+    ensures { λ r. ⌜ TellsUpdate tested (sceneFrom width height length (now (kinds .entry)) (now (covers .entry)) (now (cubes .entry)) coloured dx dy dz cx cy cz)
+        (now (log .entry)) (before vertices triangles links slots) count
+        (answer r (now (place .exit)) (now (quads .exit)) (now (moved .exit))) (after vertices triangles links slots) ⌝ }
 {
     let scene = scene_of(width, height, length, coloured, dx, dy, dz, cx, cy, cz);
     let side = tested_of(tested);
@@ -374,10 +370,8 @@ pub extern "C" fn meshem_check_mesh(
     count: u64,
     place: &mut u64,
 ) -> u32
-    ensures { λ r. ⌜ answer r (now (place .exit)) 0 0
-        ≡ checkMesh (sceneFrom width height length (now (kinds .entry)) (now (covers .entry)) (now (cubes .entry)) coloured dx dy dz cx cy cz)
-        (now (outer .entry)) (now (grid .entry))
-        (listsOf (now (vertices .entry)) (now (triangles .entry)) (now (links .entry)) (now (slots .entry))) count ⌝ }
+    ensures { λ r. ⌜ TellsCheck (sceneFrom width height length (now (kinds .entry)) (now (covers .entry)) (now (cubes .entry)) coloured dx dy dz cx cy cz)
+        (now (outer .entry)) (now (grid .entry)) (before vertices triangles links slots) count r (now (place .exit)) ⌝ }
 {
     let scene = scene_of(width, height, length, coloured, dx, dy, dz, cx, cy, cz);
     let checked = told_by_verdict(check_mesh(
