@@ -20,7 +20,7 @@ use Rattle.rules.proofs.Demands.{accepts-exactly, fresh-accepted, mended-accept
 use Rattle.answers.specs.declared.Refusal.the-variants.{NoRoom}
 use Rattle.answers.specs.declared.Verdict.the-variants.{Fine}
 use Rattle.update.specs.declared.Updated.the-variants.{Refused}
-use Rattle.exports.specs.Answers.{testedFrom, answer, outcome}
+use Rattle.telling.specs.Numbers.{testedFrom, answer, outcome}
 use Rattle.demands.specs.Contracts.{TellsCube, TellsMesh, TellsUpdate, TellsCheck}
 use Rattle.demands.specs.Chunks.{firstOf, gridAfter, FillingLog, AlikeLog, MendableLog}
 use Rattle.demands.proofs.Answers.{Stopped, what-an-update-call-says}

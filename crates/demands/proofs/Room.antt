@@ -27,7 +27,7 @@ use Rattle.terms.specs.declared.Count.{Count}
 use Rattle.update.specs.declared.Updated.{Updated}
 use Rattle.update.specs.declared.Updated.the-variants as updated
 use Rattle.update.specs.Outcome.{outcomeOf}
-use Rattle.exports.specs.Answers.{answer, outcome}
+use Rattle.telling.specs.Numbers.{answer, outcome}
 use Rattle.demands.specs.Contracts.{Updates}
 use Rattle.demands.specs.Chunks.{firstOf}
 use Rattle.demands.specs.Room.{FindsRoom, FirstWithout, Did, allDone, stoppedAt}

@@ -3,4 +3,4 @@ pub use Rattle.voxel_mesh.specs.Outcome.{Cubes}
 pub use Rattle.meshem.specs.Outcome.{Meshes}
 pub use Rattle.update.specs.Outcome.{Updates}
 pub use Rattle.checking.specs.Outcome.{Checks}
-pub use Rattle.exports.specs.Answers.{TellsCube, TellsMesh, TellsUpdate, TellsCheck}
+pub use Rattle.telling.specs.Numbers.{TellsCube, TellsMesh, TellsUpdate, TellsCheck}
