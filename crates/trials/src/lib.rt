@@ -595,13 +595,7 @@ fn is_right_call(trial: &[u32], bytes: &[u8], image: &mut [u32], low: &[u8]) -> 
     is_told(told, trial) & are_as_expected(image, &vertices, &triangles, &links, &slots)
 }
 
-fn is_right(
-    trial: &[u32],
-    bytes: &[u8],
-    base: &[u32],
-    image: &mut [u32],
-    low: &mut [u8],
-) -> bool
+fn is_right(trial: &[u32], bytes: &[u8], base: &[u32], image: &mut [u32], low: &mut [u8]) -> bool
     requires { ⌜ (length (now bytes) ≡ 4 * length (now trial)) × (length (now image) ≡ length (now base)) × (length (now low) ≡ length (now image)) ⌝ }
 {
     if trial.len() < HEAD {
