@@ -8,7 +8,7 @@ use borrow.Author.Tests.{eqb-true}
 use Rattle.rules.specs.Mesh.{Lists}
 use Rattle.rules.specs.Update.{Tested, AddsAlike}
 use Rattle.rules.specs.Answers.{Verdict, fine, refuse, _then_}
-use Rattle.rules.specs.Calls.{Answer, Outcome, Scene, world, entriesOf, meshVerdict, updateMesh, checkVerdict}
+use Rattle.rules.specs.Calls.{Answer, Outcome, Scene, world, entriesOf, updateMesh, checkVerdict}
 use Rattle.answers.specs.declared.Refusal.{Refusal}
 use Rattle.answers.specs.Verdicts.{numberOf, refuses}
 use Rattle.answers.proofs.Chains.{stops}
