@@ -26,14 +26,12 @@ ghost use Prim.Native.Nat.{ℕ, _+_, _*_, _≤_, _<_};
 ghost use lib.ListN.{length, getD};
 ghost use Rattle.rules.specs.Lists.{lowest};
 ghost use Rattle.rules.specs.Cells.{cells, has, setOf};
-ghost use Rattle.rules.specs.Calls.{checkVerdict};
-ghost use Rattle.answers.specs.Verdicts.{verdictOf};
 ghost use Rattle.util.specs.Grid.{sizeOf};
-ghost use Rattle.terms.specs.Scenes.{sceneOf};
-ghost use Rattle.rules.specs.Mesh.{listsOf};
+ghost use Rattle.terms.specs.Loans.{sceneLent, before};
 ghost use Rattle.culling.specs.Culling.{worldOf, outerSet};
 ghost use Rattle.culling.specs.Rows.{Along};
 ghost use Rattle.checking.specs.Faces.{filledSet, unlike, wrongSlot, wrongInRow, Gridded};
+ghost use Rattle.checking.specs.Outcome.{Checks};
 
 pub mod words; // words.rt: the words of the quads, compared
 
@@ -157,7 +155,8 @@ pub fn check_mesh(
     slots: &[u32],
     count: usize,
 ) -> Verdict
-    ensures { λ r. ⌜ verdictOf r ≡ checkVerdict (sceneOf scene (now (kinds .entry)) (now (covers .entry)) (now (cubes .entry))) (now (outer .entry)) (now (grid .entry)) (listsOf (now (vertices .entry)) (now (triangles .entry)) (now (links .entry)) (now (slots .entry))) count ⌝ }
+    ensures { λ r. ⌜ Checks (sceneLent scene kinds covers cubes) (now (outer .entry)) (now (grid .entry))
+        (before vertices triangles links slots) count r ⌝ }
 {
     let lengths = Lengths {
         vertices: vertices.len(),

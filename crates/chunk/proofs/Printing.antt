@@ -27,8 +27,9 @@ use Rattle.rules.proofs.Refusals.{Within, UPDATE-FIRST, update-numbers, zero-fi
 use Rattle.lines.specs.Written.{OfFaces, quadsOf}
 use Rattle.lines.proofs.Writing.{room-as}
 use Rattle.lines.proofs.Lining.{lines-decoded, lines-room}
-use Rattle.exports.specs.Answers.{outcome}
-use Rattle.chunk.specs.Steps.{workedOn, linesBy, linesWith, Shown}
+use Rattle.telling.specs.Numbers.{outcome}
+use Rattle.working.specs.Steps.{workedOn}
+use Rattle.chunk.specs.Steps.{linesBy, linesWith, Shown}
 
 -- ---- an update that is not refused
 module _ (S : Scene) (log : List ℕ) (B : Lists) (Q : ℕ) where
@@ -149,21 +150,6 @@ module _ (S : Scene) (outer g : List ℕ) (culling : Bool) (B : Lists) where
       go (refuse n p) e = refl
 
 -- ---- the mesh, then the update
-
--- a refused mesh is the whole outcome
-pub mesh-stops : (S : Scene) (log : List ℕ) {a : Answer} {L : Lists} {o : Outcome} → outcome a L ≡ o → a .number ≢ 0
-    → outcome a L ≡ updateAfter S log o (o .answer .number)
-mesh-stops S log {a} {L} {o} told h = told ∙ go (o .answer .number) refl
-  where
-    go : (k : ℕ) → o .answer .number ≡ k → o ≡ updateAfter S log o k
-    go zero e = absurd (h (ap (λ (x : Outcome). x .answer .number) told ∙ e))
-    go (suc k) e = refl
-
-pub update-follows : (S : Scene) (log : List ℕ) {a : Answer} {L : Lists} {o x : Outcome} → outcome a L ≡ o → a .number ≡ 0
-    → x ≡ updateMesh source S log L (a .quads) → x ≡ updateAfter S log o (o .answer .number)
-update-follows S log {a} {L} {o} told h e =
-    e ∙ (λ i. updateMesh source S log (told i .lists) (told i .answer .quads))
-    ∙ ap (updateAfter S log o) (sym (ap (λ (x : Outcome). x .answer .number) (sym told) ∙ h))
 
 module _ (file : List ℕ) (S : Scene) (outer : List ℕ) (B : Lists) (a : Answer) (L : Lists) (told : outcome a L ≡ workedOn file S outer B) where
   abbrev o : Outcome

@@ -1,18 +1,17 @@
 -- Laws of room and of the parts of it that are lent. Assumes nothing.
 use mathlib.Core.Path.{_≡_, refl, sym, ap, _∙_}
-use mathlib.Core.Bool.{Bool, true, false}
 use mathlib.Core.List.{List, _∷_, _++_}
 use Prim.Native.Nat.{ℕ, zero, suc, _+_, _-_, _*_, _≤_}
-use native.Mathlib.Nat.{mul-le-mul}
 use native.Mathlib.Omega.{arith}
 use lib.ListN.{length, take, drop, replicate, length-replicate, length-append, length-drop}
 use lib.Seq.{take-at, length-take-le}
 use Rattle.rules.specs.Lists.{table, filled}
 use Rattle.rules.specs.Cells.{cells}
 use Rattle.rules.specs.Cube.{floatsOf}
-use Rattle.rules.specs.Program.{word, typeCount, sizeIn, colouredIn, gridStart, gridIn}
+use Rattle.rules.specs.Program.{word, sizeIn, colouredIn, gridStart, gridIn}
 use Rattle.rules.proofs.ListLaws.{length-table}
 use Rattle.workfile.specs.Work.{Good}
+use Rattle.working.proofs.Words.{few-floats}
 use Rattle.lines.specs.Written.{Wrote}
 use Rattle.chunk.specs.Steps.{zeros}
 
@@ -44,10 +43,6 @@ module _ {room : List ℕ} (is : room ≡ zeros 6144) where
 
 -- ---- how much is asked of it
 
-pub few-floats : (coloured : Bool) → floatsOf coloured ≤ 12
-few-floats true = omega arith
-few-floats false = omega arith
-
 module _ (file : List ℕ) where
   abbrev floats : ℕ
   floats = floatsOf (colouredIn file)
@@ -56,13 +51,6 @@ module _ (file : List ℕ) where
   vertices-are e = (omega arith, omega (arith, few-floats (colouredIn file)))
 
   module _ (g : Good file) where
-    pub registry-few : 24 * floats * typeCount file ≤ 2304
-    registry-few = mul-le-mul {n₂ = 288} {m₂ = 8} (omega (arith, few-floats (colouredIn file))) (g .types)
-
-    pub registry-is : {words types : ℕ} → words ≡ 24 * floats → types ≡ typeCount file
-        → (words * types ≡ 24 * floats * typeCount file) × (words * types ≤ 2304)
-    registry-is {words} {types} e t = let p : words * types ≡ 24 * floats * typeCount file = λ i. e i * t i in (p, rw p registry-few)
-
     -- the grid has as many bytes as cells
     grid-long : length (gridIn file) ≡ cells (sizeIn file)
     grid-long =

@@ -1,37 +1,14 @@
--- The program's steps on what is lent to them, as the rules see them. Definitions only.
+-- What is printed of the work's steps, as the rules see it. Definitions only.
 use Prim.Native.Nat.{ℕ, zero, suc, _≤_}
 use mathlib.Core.List.{List}
-use lib.Dec.{eqb}
 use lib.ListN.{length, take, replicate}
 use Rattle.rules.specs.Mesh.{Lists}
-use Rattle.rules.specs.Calls.{Answer, answered, Scene, Outcome, meshGrid}
-use Rattle.rules.specs.Program.{word, sizeIn, tripleIn, colouredIn, gridIn, logIn, updateAfter, meshLines, refusedLine, linesOf, Built, stopped, built}
+use Rattle.rules.specs.Calls.{Answer, answered}
+use Rattle.rules.specs.Program.{meshLines, refusedLine, linesOf}
 use Rattle.lines.specs.Written.{Room, OfFaces, quadsOf}
+use Rattle.working.specs.Steps.{sceneWith, workedOn}
 
--- what the file says, with types as they are lent
-abbrev pub sceneWith : List ℕ → List ℕ → List ℕ → List ℕ → Scene
-sceneWith file kinds covers cubes =
-    record {
-      size = sizeIn file;
-      types = record { coloured = colouredIn file; kinds = kinds; covers = covers; cubes = cubes };
-      d = tripleIn file 10;
-      centre = tripleIn file 13;
-    }
-
--- the cubes, unless a type was refused
-abbrev pub builtBy : ℕ → Answer → List ℕ → Built
-builtBy zero a cubes = built cubes
-builtBy (suc n) a cubes = stopped a
-
-abbrev pub builtOf : Answer → List ℕ → Built
-builtOf a cubes = builtBy (a .number) a cubes
-
--- the mesh in the lists lent, then the update
-abbrev pub workedOn : List ℕ → Scene → List ℕ → Lists → Outcome
-workedOn file S outer B =
-    let o = meshGrid S outer (gridIn file) (eqb (word file 9) 1) B in updateAfter S (logIn file) o (o .answer .number)
-
--- and what it prints
+-- the lines of the work done in the lists lent
 abbrev pub linesIn : List ℕ → List ℕ → List ℕ → List ℕ → List ℕ → Lists → List ℕ
 linesIn file outer kinds covers cubes B =
     let S = sceneWith file kinds covers cubes in linesOf S (workedOn file S outer B)

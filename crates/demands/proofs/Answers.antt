@@ -2,22 +2,22 @@
 -- call changes no lent list; only an update out of room keeps the entries before the one it stopped at, complete, and says how many", and
 -- demand 2, "cubes, fresh meshes and updates .. are proved against 01's face rules": all that an answer says.
 -- That a call ends, for all input, is proved with its code: none of the four has a `requires`. Assumes nothing.
-use Prim.Native.Nat.{ℕ, _*_, _/_, _<_}
+use Prim.Native.Nat.{ℕ, _*_}
 use mathlib.Core.Path.{_≡_, refl, sym, ap, _∙_, subst}
 use mathlib.Core.Logic.{_≢_}
 use mathlib.Core.Bool.{Bool, true, false}
 use mathlib.Core.List.{List, _++_}
 use mathlib.Core.Option.{Option, none, some}
 use native.Mathlib.Omega.{arith}
-use lib.ListN.{length, take, drop}
+use lib.ListN.{length, drop}
 use borrow.Author.Tests.{eqb-false}
 use Rattle.rules.specs.Lists.{member}
 use Rattle.rules.specs.Cube.{Shape, floatsOf, cubeWords}
 use Rattle.rules.specs.Mesh.{Lists, layout}
-use Rattle.rules.specs.Update.{Tested, work, entryAt, needed, Course}
+use Rattle.rules.specs.Update.{Tested, Course}
 use Rattle.rules.specs.Answers as rules
 use Rattle.rules.specs.Answers.{fine, refuse}
-use Rattle.rules.specs.Calls.{CubeOutcome, cubeVerdict, cubeBy, Scene, world, span, faces, room, Outcome, freshMesh, meshVerdict, meshBy, updateVerdict, course, courseAnswer, updateBy, checkVerdict, checkBy}
+use Rattle.rules.specs.Calls.{CubeOutcome, cubeVerdict, cubeBy, Scene, span, faces, Outcome, freshMesh, meshVerdict, meshBy, updateVerdict, course, courseAnswer, updateBy, checkVerdict, checkBy}
 use Rattle.rules.proofs.Refusals.{Within, given, CUBE, MESH, UPDATE-FIRST, CHECK, cube-numbers, mesh-numbers, update-numbers, check-numbers}
 use Rattle.answers.specs.declared.Refusal.{Refusal}
 use Rattle.answers.specs.declared.Refusal.the-variants.{NoRoom}

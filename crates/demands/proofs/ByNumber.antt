@@ -3,7 +3,7 @@ use Prim.Native.Nat.{ℕ, _/_, _≤_}
 use mathlib.Core.Path.{_≡_, refl, sym, ap, _∙_, subst}
 use mathlib.Core.Logic.{_≢_, _↔_}
 use mathlib.Core.Bool.{Bool, true}
-use mathlib.Core.List.{List, [], _∷_, _++_}
+use mathlib.Core.List.{List, [], _∷_}
 use native.Mathlib.Omega.{arith}
 use lib.ListN.{length}
 use borrow.Author.Tests.{ne-eqb}
@@ -13,14 +13,14 @@ use Rattle.rules.specs.Mesh.{Lists}
 use Rattle.rules.specs.Update.{source, AddsAlike}
 use Rattle.rules.specs.Answers.{fine}
 use Rattle.rules.specs.Check.{Right}
-use Rattle.rules.specs.Calls.{Answer, CubeOutcome, generateVoxelMesh, Outcome, Scene, answered, world, span, lentVerdict, entriesOf, openVerdict, meshGrid, updateMesh, checkVerdict, checkMesh}
+use Rattle.rules.specs.Calls.{Answer, CubeOutcome, Outcome, Scene, answered, world, span, lentVerdict, entriesOf, openVerdict, checkVerdict, checkMesh}
 use Rattle.rules.proofs.Refusals.{CUBE, MESH, UPDATE, CHECK, check-numbers, cube-number, mesh-number, update-number, check-number, zero-fine, cube-refused, mesh-refused, update-refused}
 use Rattle.rules.proofs.Modes.{itself-alike, modes-agree}
 use Rattle.rules.proofs.Demands.{accepts-exactly, fresh-accepted, mended-accepted}
 use Rattle.answers.specs.declared.Refusal.the-variants.{NoRoom}
 use Rattle.answers.specs.declared.Verdict.the-variants.{Fine}
 use Rattle.update.specs.declared.Updated.the-variants.{Refused}
-use Rattle.exports.specs.Answers.{testedFrom, answer, outcome}
+use Rattle.telling.specs.Numbers.{testedFrom, answer, outcome}
 use Rattle.demands.specs.Contracts.{TellsCube, TellsMesh, TellsUpdate, TellsCheck}
 use Rattle.demands.specs.Chunks.{firstOf, gridAfter, FillingLog, AlikeLog, MendableLog}
 use Rattle.demands.proofs.Answers.{Stopped, what-an-update-call-says}

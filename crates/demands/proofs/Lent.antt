@@ -9,7 +9,7 @@ use Rattle.rules.specs.Update.{Tested}
 use Rattle.rules.specs.Answers.{fine}
 use Rattle.rules.specs.Calls.{Answer, Outcome, Scene, lentVerdict, updateMesh}
 use Rattle.rules.proofs.Demands.{left-lent}
-use Rattle.exports.specs.Answers.{outcome}
+use Rattle.telling.specs.Numbers.{outcome}
 
 -- an update that tells 0 or 14
 pub left-is-taken : (tested : Tested) (S : Scene) (log : List ℕ) (entry : Lists) (Q : ℕ) (a : Answer) (exit : Lists)

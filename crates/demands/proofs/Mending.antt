@@ -1,7 +1,7 @@
 -- Demand 3, "a mesh that passes with no outer face named passes after any unrefused honest log", its Added as each mode asks (`LogFor`,
 -- specs/Chunks): mesh_grid, then any number of update_mesh calls, then check_mesh says Fine; out of room it says so for the entries that were done.
 -- And what is the same in both modes. Assumes nothing.
-use Prim.Native.Nat.{ℕ, _-_, _*_, _/_, _≤_, _<_}
+use Prim.Native.Nat.{ℕ, _-_, _/_, _≤_}
 use mathlib.Core.Path.{_≡_, refl, sym, ap, _∙_, subst}
 use mathlib.Core.Bool.{true}
 use mathlib.Core.List.{List, [], _∷_, _++_}

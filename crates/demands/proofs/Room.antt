@@ -1,7 +1,7 @@
 -- Demand 1, "only an update out of room keeps the entries before the one it stopped at, complete, and says how many": which entry that is, that
 -- what is left is a mesh which the next update takes. Demand 2: how far quads can have moved. Assumes nothing.
 use Prim.Native.Nat.{ℕ, _*_, _/_, _≤_, _<_}
-use mathlib.Core.Path.{_≡_, refl, sym, ap, _∙_, subst}
+use mathlib.Core.Path.{_≡_, refl, sym, ap, _∙_}
 use mathlib.Core.Logic.{_↔_}
 use mathlib.Core.Bool.{true}
 use mathlib.Core.List.{List, [], _∷_}
@@ -15,7 +15,7 @@ use Rattle.rules.specs.Cells.{cells}
 use Rattle.rules.specs.Mesh.{Lists, decode}
 use Rattle.rules.specs.Update.{Tested, Course, work, entryAt}
 use Rattle.rules.specs.Answers.{Verdict, fine, refuse, _then_, BAD-ENTRY}
-use Rattle.rules.specs.Calls.{Answer, Outcome, answered, Scene, world, span, room, lentVerdict, updateVerdict, course, updateMesh, checkBy}
+use Rattle.rules.specs.Calls.{answered, Scene, world, span, room, lentVerdict, updateVerdict, course, checkBy}
 use Rattle.rules.proofs.ListLaws.{member-append}
 use Rattle.rules.proofs.Refusals.{Within, given, entry-numbers}
 use Rattle.rules.proofs.Courses.{entry-moves, course-moves}
@@ -27,7 +27,7 @@ use Rattle.terms.specs.declared.Count.{Count}
 use Rattle.update.specs.declared.Updated.{Updated}
 use Rattle.update.specs.declared.Updated.the-variants as updated
 use Rattle.update.specs.Outcome.{outcomeOf}
-use Rattle.exports.specs.Answers.{answer, outcome}
+use Rattle.telling.specs.Numbers.{answer}
 use Rattle.demands.specs.Contracts.{Updates}
 use Rattle.demands.specs.Chunks.{firstOf}
 use Rattle.demands.specs.Room.{FindsRoom, FirstWithout, Did, allDone, stoppedAt}

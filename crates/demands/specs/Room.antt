@@ -2,7 +2,7 @@
 use Prim.Native.Nat.{ℕ, _/_, _≤_, _<_}
 use mathlib.Core.List.{List}
 use lib.ListN.{length}
-use Rattle.rules.specs.Mesh.{Quad, Lists, decode}
+use Rattle.rules.specs.Mesh.{Lists, decode}
 use Rattle.rules.specs.Update.{Tested, work, entryAt, needed, meshAfter}
 use Rattle.rules.specs.Calls.{Scene, world, span, room}
 use Rattle.answers.specs.declared.Refusal.the-variants.{NoRoom}

@@ -1,198 +1,23 @@
 // The C calls, in the form that include/meshem.h declares. Each but meshem_abi returns 0 or a refusal's number, and writes its answer through
 // the pointers at its end.
-use answers::Verdict;
 use checking::check_mesh;
 use floats::Triple;
-use meshem::Meshed;
 use meshem::mesh_grid;
-use terms::MeshingAlgorithm;
-use terms::Scene;
-use terms::Tested;
-use update::Updated;
+use telling::algorithm_of;
+use telling::is_yes;
+use telling::scene_of;
+use telling::tested_of;
+use telling::told_by_cube;
+use telling::told_by_mesh;
+use telling::told_by_update;
+use telling::told_by_verdict;
 use update::update_mesh;
-use util::Dimensions;
-use voxel_mesh::Cubed;
 use voxel_mesh::Shape;
 use voxel_mesh::generate_voxel_mesh;
 ghost use mathlib.Core.Path.{_≡_};
-ghost use mathlib.Core.List.{List};
-ghost use Prim.Native.Nat.{ℕ};
-ghost use Rattle.rules.specs.Calls.{checkBy, generateVoxelMesh, meshGrid, updateMesh, checkMesh};
-ghost use Rattle.answers.specs.Verdicts as answers;
-ghost use Rattle.voxel_mesh.specs.Outcome as cube;
-ghost use Rattle.meshem.specs.Outcome.{answerOf};
-ghost use Rattle.terms.specs.Modes.{isCulling};
-ghost use Rattle.update.specs.Outcome as update;
-ghost use Rattle.terms.specs.Scenes.{sceneOf};
-ghost use Rattle.terms.specs.Modes.{testedBy};
-ghost use Rattle.rules.specs.Mesh.{listsOf};
-ghost use Rattle.exports.specs.Answers.{ABI, isYes, testedFrom, answer, toldOf, mendedOf, shapeFrom, sceneFrom, cubeOut, outcome};
-
-// An answer's number, place and count.
-pub struct Told {
-    pub number: u32,
-    pub place: u64,
-    pub quads: u64,
-}
-
-// An update's answer.
-pub struct Mended {
-    pub number: u32,
-    pub place: u64,
-    pub quads: u64,
-    pub moved: u64,
-}
-
-fn wide(n: usize) -> u64
-    ensures { λ r. ⌜ r ≡ n ⌝ }
-{
-    n as u64
-}
-
-fn is_yes(n: u32) -> bool
-    ensures { λ r. ⌜ r ≡ isYes n ⌝ }
-{
-    n != 0
-}
-
-fn told_by_cube(cubed: Cubed) -> Told
-    ensures { λ r. ⌜ toldOf r ≡ checkBy (cube.verdictOf cubed) ⌝ }
-{
-    match cubed {
-        Cubed::Done => Told {
-            number: 0,
-            place: 0,
-            quads: 0,
-        },
-        Cubed::BadNumber => Told {
-            number: 4,
-            place: 0,
-            quads: 0,
-        },
-        Cubed::BadAtlas => Told {
-            number: 5,
-            place: 0,
-            quads: 0,
-        },
-        Cubed::BadFace(place) => Told {
-            number: 7,
-            place: wide(place),
-            quads: 0,
-        },
-        Cubed::ShortRoom => Told {
-            number: 9,
-            place: 0,
-            quads: 0,
-        },
-    }
-}
-
-fn told_by_verdict(verdict: Verdict) -> Told
-    ensures { λ r. ⌜ toldOf r ≡ checkBy (answers.verdictOf verdict) ⌝ }
-{
-    match verdict {
-        Verdict::Fine => Told {
-            number: 0,
-            place: 0,
-            quads: 0,
-        },
-        Verdict::Refuse(why, place) => Told {
-            number: why.number(),
-            place: wide(place),
-            quads: 0,
-        },
-    }
-}
-
-fn told_by_mesh(meshed: Meshed) -> Told
-    ensures { λ r. ⌜ toldOf r ≡ answerOf meshed ⌝ }
-{
-    match meshed {
-        Meshed::Done(quads) => Told {
-            number: 0,
-            place: 0,
-            quads: wide(quads),
-        },
-        Meshed::Refused(why, place) => Told {
-            number: why.number(),
-            place: wide(place),
-            quads: 0,
-        },
-    }
-}
-
-fn told_by_update(updated: Updated) -> Mended
-    ensures { λ r. ⌜ mendedOf r ≡ update.answerOf updated ⌝ }
-{
-    match updated {
-        Updated::Done(count) => Mended {
-            number: 0,
-            place: 0,
-            quads: wide(count.quads),
-            moved: count.moved,
-        },
-        Updated::Refused(why, place, count) => Mended {
-            number: why.number(),
-            place: wide(place),
-            quads: wide(count.quads),
-            moved: count.moved,
-        },
-    }
-}
-
-fn algorithm_of(n: u32) -> MeshingAlgorithm
-    ensures { λ r. ⌜ isCulling r ≡ isYes n ⌝ }
-{
-    if n == 0 {
-        MeshingAlgorithm::Naive
-    } else {
-        MeshingAlgorithm::Culling
-    }
-}
-
-fn tested_of(n: u32) -> Tested
-    ensures { λ r. ⌜ testedBy r ≡ testedFrom n ⌝ }
-{
-    if n != 0 {
-        Tested::Itself
-    } else {
-        Tested::Opposite
-    }
-}
-
-fn scene_of(
-    width: u32,
-    height: u32,
-    length: u32,
-    coloured: u32,
-    dx: u32,
-    dy: u32,
-    dz: u32,
-    cx: u32,
-    cy: u32,
-    cz: u32,
-) -> Scene
-    ensures { λ r. ⌜ ((kinds covers cubes : List ℕ) → sceneOf r kinds covers cubes ≡ sceneFrom width height length kinds covers cubes coloured dx dy dz cx cy cz) ⌝ }
-{
-    Scene {
-        dims: Dimensions {
-            width,
-            height,
-            length,
-        },
-        coloured: is_yes(coloured),
-        d: Triple {
-            x: dx,
-            y: dy,
-            z: dz,
-        },
-        centre: Triple {
-            x: cx,
-            y: cy,
-            z: cz,
-        },
-    }
-}
+ghost use Rattle.terms.specs.Loans.{before, after};
+ghost use Rattle.telling.specs.Numbers.{isYes, answer, sceneFrom, TellsCube, TellsMesh, TellsUpdate, TellsCheck};
+ghost use Rattle.exports.specs.Arguments.{ABI, shapeFrom};
 
 // The level of these calls, which the header repeats as MESHEM_ABI.
 #[no_mangle]
@@ -220,8 +45,8 @@ pub extern "C" fn meshem_generate_voxel_mesh(
     out: &mut [u32],
     place: &mut u64,
 ) -> u32
-    ensures { λ r. ⌜ cubeOut (answer r (now (place .exit)) 0 0) (now (out .exit))
-        ≡ generateVoxelMesh (shapeFrom dx dy dz «atlas_width» «atlas_height» (now (texture .entry)) cx cy cz padding coloured colour alpha) (now (out .entry)) ⌝ }
+    ensures { λ r. ⌜ TellsCube (shapeFrom dx dy dz «atlas_width» «atlas_height» (now (texture .entry)) cx cy cz padding coloured colour alpha)
+        (now (out .entry)) (answer r (now (place .exit)) 0 0) (now (out .exit)) ⌝ }
 {
     let shape = Shape {
         d: Triple {
@@ -242,7 +67,7 @@ pub extern "C" fn meshem_generate_voxel_mesh(
         alpha,
     };
     let cubed = told_by_cube(generate_voxel_mesh(shape, texture, out));
-    *place = cubed.place;
+    *place = cubed.place as u64;
     cubed.number
 }
 
@@ -271,14 +96,12 @@ pub extern "C" fn meshem_mesh_grid(
     place: &mut u64,
     quads: &mut u64,
 ) -> u32
-    ensures { λ r. ⌜ outcome (answer r (now (place .exit)) (now (quads .exit)) 0)
-        (listsOf (now (vertices .exit)) (now (triangles .exit)) (now (links .exit)) (now (slots .exit)))
-        ≡ meshGrid (sceneFrom width height length (now (kinds .entry)) (now (covers .entry)) (now (cubes .entry)) coloured dx dy dz cx cy cz)
-        (now (outer .entry)) (now (grid .entry)) (isYes algorithm)
-        (listsOf (now (vertices .entry)) (now (triangles .entry)) (now (links .entry)) (now (slots .entry))) ⌝ }
+    ensures { λ r. ⌜ TellsMesh (sceneFrom width height length (now (kinds .entry)) (now (covers .entry)) (now (cubes .entry)) coloured dx dy dz cx cy cz)
+        (now (outer .entry)) (now (grid .entry)) (isYes algorithm) (before vertices triangles links slots)
+        (answer r (now (place .exit)) (now (quads .exit)) 0) (after vertices triangles links slots) ⌝ }
 {
     let scene = scene_of(width, height, length, coloured, dx, dy, dz, cx, cy, cz);
-    let by = algorithm_of(algorithm);
+    let by = algorithm_of(is_yes(algorithm));
     let meshed = told_by_mesh(mesh_grid(
         scene,
         outer,
@@ -292,8 +115,8 @@ pub extern "C" fn meshem_mesh_grid(
         links,
         slots,
     ));
-    *place = meshed.place;
-    *quads = meshed.quads;
+    *place = meshed.place as u64;
+    *quads = meshed.quads as u64;
     meshed.number
 }
 
@@ -323,14 +146,12 @@ pub extern "C" fn meshem_update_mesh(
     quads: &mut u64,
     moved: &mut u64,
 ) -> u32
-    ensures { λ r. ⌜ outcome (answer r (now (place .exit)) (now (quads .exit)) (now (moved .exit)))
-        (listsOf (now (vertices .exit)) (now (triangles .exit)) (now (links .exit)) (now (slots .exit)))
-        ≡ updateMesh (testedFrom tested) (sceneFrom width height length (now (kinds .entry)) (now (covers .entry)) (now (cubes .entry)) coloured dx dy dz cx cy cz)
-        (now (log .entry))
-        (listsOf (now (vertices .entry)) (now (triangles .entry)) (now (links .entry)) (now (slots .entry))) count ⌝ }
+    ensures { λ r. ⌜ TellsUpdate tested (sceneFrom width height length (now (kinds .entry)) (now (covers .entry)) (now (cubes .entry)) coloured dx dy dz cx cy cz)
+        (now (log .entry)) (before vertices triangles links slots) count
+        (answer r (now (place .exit)) (now (quads .exit)) (now (moved .exit))) (after vertices triangles links slots) ⌝ }
 {
     let scene = scene_of(width, height, length, coloured, dx, dy, dz, cx, cy, cz);
-    let side = tested_of(tested);
+    let side = tested_of(is_yes(tested));
     let mended = told_by_update(update_mesh(
         scene,
         kinds,
@@ -344,8 +165,8 @@ pub extern "C" fn meshem_update_mesh(
         slots,
         count as usize,
     ));
-    *place = mended.place;
-    *quads = mended.quads;
+    *place = mended.place as u64;
+    *quads = mended.quads as u64;
     *moved = mended.moved;
     mended.number
 }
@@ -374,10 +195,8 @@ pub extern "C" fn meshem_check_mesh(
     count: u64,
     place: &mut u64,
 ) -> u32
-    ensures { λ r. ⌜ answer r (now (place .exit)) 0 0
-        ≡ checkMesh (sceneFrom width height length (now (kinds .entry)) (now (covers .entry)) (now (cubes .entry)) coloured dx dy dz cx cy cz)
-        (now (outer .entry)) (now (grid .entry))
-        (listsOf (now (vertices .entry)) (now (triangles .entry)) (now (links .entry)) (now (slots .entry))) count ⌝ }
+    ensures { λ r. ⌜ TellsCheck (sceneFrom width height length (now (kinds .entry)) (now (covers .entry)) (now (cubes .entry)) coloured dx dy dz cx cy cz)
+        (now (outer .entry)) (now (grid .entry)) (before vertices triangles links slots) count r (now (place .exit)) ⌝ }
 {
     let scene = scene_of(width, height, length, coloured, dx, dy, dz, cx, cy, cz);
     let checked = told_by_verdict(check_mesh(
@@ -393,6 +212,6 @@ pub extern "C" fn meshem_check_mesh(
         slots,
         count as usize,
     ));
-    *place = checked.place;
+    *place = checked.place as u64;
     checked.number
 }

@@ -29,15 +29,13 @@ ghost use mathlib.Core.List.{List, _++_};
 ghost use Prim.Native.Nat.{ℕ, _+_, _*_, _≤_, _<_};
 ghost use lib.ListN.{length, getD, take};
 ghost use Rattle.rules.specs.Cells.{cells, quadsOf};
-ghost use Rattle.rules.specs.Mesh.{listsOf};
-ghost use Rattle.rules.specs.Calls.{meshGrid};
 ghost use Rattle.util.specs.Grid.{sizeOf, Starts};
-ghost use Rattle.terms.specs.Scenes.{sceneOf};
 ghost use Rattle.culling.specs.Culling.{worldOf};
 ghost use Rattle.culling.specs.Rows.{Whole, Along};
 ghost use Rattle.meshem.specs.Fresh.{setAt, facesOf, Rows, RowOf, setsFrom, asked, cellKeys, keysOf};
-ghost use Rattle.meshem.specs.Outcome.{outcome};
+ghost use Rattle.meshem.specs.Outcome.{Meshes};
 ghost use Rattle.terms.specs.Modes.{isCulling};
+ghost use Rattle.terms.specs.Loans.{sceneLent, before, after};
 
 // What the call answers.
 pub enum Meshed {
@@ -205,9 +203,8 @@ pub fn mesh_grid(
     links: &mut [u32],
     slots: &mut [u32],
 ) -> Meshed
-    ensures { λ r. ⌜ outcome r (listsOf (now (vertices .exit)) (now (triangles .exit)) (now (links .exit)) (now (slots .exit)))
-        ≡ meshGrid (sceneOf scene (now (kinds .entry)) (now (covers .entry)) (now (cubes .entry))) (now (outer .entry)) (now (grid .entry)) (isCulling algorithm)
-        (listsOf (now (vertices .entry)) (now (triangles .entry)) (now (links .entry)) (now (slots .entry))) ⌝ }
+    ensures { λ r. ⌜ Meshes (sceneLent scene kinds covers cubes) (now (outer .entry)) (now (grid .entry)) (isCulling algorithm)
+        (before vertices triangles links slots) r (after vertices triangles links slots) ⌝ }
 {
     let told = input_verdict(scene, outer, grid, kinds, covers, cubes, slots.len());
     if let Verdict::Refuse(why, place) = told {

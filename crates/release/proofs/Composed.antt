@@ -8,7 +8,7 @@ use borrow.Author.Tests.{eqb-true}
 use Rattle.rules.specs.Mesh.{Lists}
 use Rattle.rules.specs.Update.{Tested, AddsAlike}
 use Rattle.rules.specs.Answers.{Verdict, fine, refuse, _then_}
-use Rattle.rules.specs.Calls.{Outcome, Scene, world, entriesOf, meshVerdict, updateMesh, checkVerdict}
+use Rattle.rules.specs.Calls.{Answer, Outcome, Scene, world, entriesOf, updateMesh, checkVerdict}
 use Rattle.answers.specs.declared.Refusal.{Refusal}
 use Rattle.answers.specs.Verdicts.{numberOf, refuses}
 use Rattle.answers.proofs.Chains.{stops}
@@ -17,57 +17,68 @@ use Rattle.meshem.specs.declared.Meshed.the-variants as meshed
 use Rattle.meshem.specs.Outcome as mesh
 use Rattle.terms.specs.declared.Tested as code
 use Rattle.terms.specs.Modes.{testedBy}
-use Rattle.terms.specs.declared.Count.{Count}
 use Rattle.update.specs.declared.Updated.{Updated}
 use Rattle.update.specs.declared.Updated.the-variants as updated
-use Rattle.update.specs.Outcome.{answerOf, outcomeOf}
-use Rattle.demands.specs.Contracts.{Meshes, Updates}
+use Rattle.update.specs.Outcome.{answerOf}
+use Rattle.demands.specs.Contracts.{Meshes}
 use Rattle.demands.specs.Chunks.{gridAfter, FillingLog, LogFor}
-use Rattle.release.specs.Composed.{Ending, endsWith, onlyAfter, verdictBy, makeEnding, mendPromise, mendedOn, mendEnding}
+use Rattle.release.specs.Composed.{Ending, meshedBy, endsWith, onlyAfter, verdictBy, checkedAfter, checkedOn, makeEnding, mendPromise, mendEnding}
 use Rattle.demands.proofs.Telling.{numbered}
 use Rattle.demands.proofs.Answers.{what-a-mesh-call-says}
 use Rattle.demands.proofs.Fresh.{fresh-is-fine}
 use Rattle.demands.proofs.Mending.{still-fine, asked}
 
--- an answer by the name that a `match` found it to have
-pub meshes : {o : Outcome} {exit : Lists} {a b : Meshed} → a ≡ b → mesh.outcome a exit ≡ o → mesh.outcome b exit ≡ o
-meshes {exit = exit} p e = ap (λ (x : Meshed). mesh.outcome x exit) (sym p) ∙ e
+-- what a call left, checked: its answer is told with its lists
+pub checked : (S : Scene) (outer grid : List ℕ) {a : Answer} {exit : Lists} {u : Outcome} {v : Verdict} → v ≡ checkedAfter a S outer grid exit
+    → record { answer = a; lists = exit } ≡ u → endsWith v exit ≡ checkedOn S outer grid u
+checked S outer grid {exit = exit} c e = (λ i. endsWith (c i) exit) ∙ ap (checkedOn S outer grid) e
 
-pub updates : (exit : Lists) {o : Outcome} {a b : Updated} → a ≡ b → outcomeOf a exit ≡ o → outcomeOf b exit ≡ o
-updates exit p e = ap (λ (x : Updated). outcomeOf x exit) (sym p) ∙ e
+-- a refusal is the verdict
+pub refusal : (why : Refusal) (place Q moved : ℕ) (S : Scene) (outer grid : List ℕ) (B : Lists)
+    → refuse (numberOf why) place ≡ checkedAfter (record { number = numberOf why; place = place; quads = Q; moved = moved }) S outer grid B
+unfolding _then_
+refusal why place Q moved S outer grid B = rw (numbered why .1)
+
+-- a mesh that was made is checked, one that was not is refused
+pub by-check : (made : Meshed) (quads : ℕ) (S : Scene) (outer grid : List ℕ) (B : Lists) {v : Verdict} → made ≡ meshed.Done quads
+    → v ≡ checkVerdict S outer grid B quads → v ≡ checkedAfter (mesh.answerOf made) S outer grid B
+unfolding _then_
+by-check made quads S outer grid B e c = c ∙ ap (λ (m : Meshed). checkedAfter (mesh.answerOf m) S outer grid B) (sym e)
+
+pub by-refusal : (made : Meshed) (why : Refusal) (place : ℕ) (S : Scene) (outer grid : List ℕ) (B : Lists) → made ≡ meshed.Refused why place
+    → refuse (numberOf why) place ≡ checkedAfter (mesh.answerOf made) S outer grid B
+by-refusal made why place S outer grid B e =
+    refusal why place 0 0 S outer grid B ∙ ap (λ (m : Meshed). checkedAfter (mesh.answerOf m) S outer grid B) (sym e)
+
+-- an update is checked by the answer that it leaves
+pub left-by : (mended : Updated) (S : Scene) (outer grid : List ℕ) (B : Lists)
+    → checkedAfter (mesh.answerOf (meshedBy mended)) S outer grid B ≡ checkedAfter (answerOf mended) S outer grid B
+left-by (updated.Done count) S outer grid B = refl
+left-by (updated.Refused why place count) S outer grid B = sym (refusal why place 0 0 S outer grid B) ∙ refusal why place (count .quads) (count .moved) S outer grid B
 
 -- ---- a mesh made and checked
 
-pub made : (S : Scene) (outer grid : List ℕ) (B exit : Lists) (quads : ℕ) {v : Verdict} → Meshes S outer grid true B (meshed.Done quads) exit
-    → v ≡ checkVerdict S outer grid exit quads → endsWith v exit ≡ makeEnding S outer grid B
-made S outer grid B exit quads e c =
+pub made : (S : Scene) (outer grid : List ℕ) (B exit : Lists) (m : Meshed) {v : Verdict} → v ≡ checkedAfter (mesh.answerOf m) S outer grid exit
+    → Meshes S outer grid true B m exit → endsWith v exit ≡ makeEnding S outer grid B
+unfolding _then_
+made S outer grid B exit (meshed.Done quads) c e =
     let v = c ∙ sym (fresh-is-fine S outer grid B exit quads e) ∙ sym (what-a-mesh-call-says S outer grid true B (meshed.Done quads) exit e .accepted) in
     λ i. endsWith (v i) (e i .lists)
-
-pub not-made : (S : Scene) (outer grid : List ℕ) (B exit : Lists) (why : Refusal) (place : ℕ)
-    → Meshes S outer grid true B (meshed.Refused why place) exit → endsWith (refuse (numberOf why) place) exit ≡ makeEnding S outer grid B
-not-made S outer grid B exit why place e =
-    let v = sym (what-a-mesh-call-says S outer grid true B (meshed.Refused why place) exit e .0 .told) in λ i. endsWith (v i) (e i .lists)
+made S outer grid B exit (meshed.Refused why place) c e =
+    let v = c ∙ sym (refusal why place 0 0 S outer grid exit) ∙ sym (what-a-mesh-call-says S outer grid true B (meshed.Refused why place) exit e .0 .told) in
+    λ i. endsWith (v i) (e i .lists)
 
 -- ---- a mesh mended and checked
 module _ (tested : Tested) (S : Scene) (grid log left : List ℕ) (B : Lists) (Q : ℕ) where
   pub stopped : (x : Verdict) → x ≡ checkVerdict S [] grid B Q → refuses x ≡ true → endsWith x B ≡ mendEnding tested S grid log left B Q
   stopped x e t =
-      let rest = mendedOn S left (updateMesh tested S log B Q) in
+      let rest = checkedOn S [] left (updateMesh tested S log B Q) in
       λ i. endsWith (stops x _ (rest .verdict) e t i) (cond ((sym t ∙ ap refuses e) i) B (rest .lists))
 
-  pub mended : (exit : Lists) (count : Count) {v : Verdict} → checkVerdict S [] grid B Q ≡ fine → Updates tested S log B Q (updated.Done count) exit
-      → v ≡ checkVerdict S [] left exit (count .quads) → endsWith v exit ≡ mendEnding tested S grid log left B Q
+  pub mended : {o : Ending} → checkVerdict S [] grid B Q ≡ fine → o ≡ checkedOn S [] left (updateMesh tested S log B Q)
+      → o ≡ mendEnding tested S grid log left B Q
   unfolding _then_
-  mended exit count p e c = (λ i. endsWith (c i) exit) ∙ (λ i. onlyAfter (sym p i) B (mendedOn S left (e i)))
-
-  pub refused : (exit : Lists) (why : Refusal) (place : ℕ) (count : Count) → checkVerdict S [] grid B Q ≡ fine
-      → Updates tested S log B Q (updated.Refused why place count) exit
-      → endsWith (refuse (numberOf why) place) exit ≡ mendEnding tested S grid log left B Q
-  unfolding _then_
-  refused exit why place count p e =
-      let n : refuse (numberOf why) place ≡ verdictBy (answerOf (updated.Refused why place count)) = rw (numbered why .1) in
-      ap (λ (v : Verdict). endsWith (v then checkVerdict S [] left exit (count .quads)) exit) n ∙ (λ i. onlyAfter (sym p i) B (mendedOn S left (e i)))
+  mended p e = e ∙ (λ i. onlyAfter (sym p i) B (checkedOn S [] left (updateMesh tested S log B Q)))
 
   -- LAW: after a log of demand 3 the second check refuses nothing
   pub second-check-idle : FillingLog S grid log → AddsAlike tested (world S) (entriesOf log) → left ≡ gridAfter S log grid

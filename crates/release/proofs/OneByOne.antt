@@ -17,18 +17,21 @@ use Rattle.rules.specs.Calls.{Outcome, Scene, world, entriesOf, meshVerdict, up
 use Rattle.rules.proofs.ListLaws.{split}
 use Rattle.answers.specs.declared.Refusal.{Refusal}
 use Rattle.answers.specs.Verdicts.{numberOf}
+use Rattle.meshem.specs.declared.Meshed.{Meshed}
 use Rattle.meshem.specs.declared.Meshed.the-variants as meshed
+use Rattle.meshem.specs.Outcome as mesh
 use Rattle.terms.specs.declared.Tested as code
 use Rattle.terms.specs.Modes.{testedBy}
 use Rattle.terms.specs.declared.Count.{Count}
+use Rattle.update.specs.declared.Updated.{Updated}
 use Rattle.update.specs.declared.Updated.the-variants.{Done, Refused}
 use Rattle.update.specs.Outcome.{outcomeOf}
 use Rattle.answers.specs.declared.Verdict.the-variants.{Fine}
-use Rattle.release.specs.declared.one_by_one.Went.{Went}
 use Rattle.demands.specs.Contracts.{Meshes, Updates, Checks}
 use Rattle.demands.specs.Chunks.{gridAfter, LogFor}
-use Rattle.release.specs.OneByOne.{Progress, through, halted, wentOf, onward, entryLog, calls, verdictOn, checkedOn, endsOn, chain, chainPromise, chainEnding}
-use Rattle.release.specs.Composed.{Ending, endsWith, onlyAfter}
+use Rattle.release.specs.OneByOne.{Progress, through, halted, wentOf, onward, entryLog, calls, verdictOn, passedOn, endsOn, chain, chainPromise, chainEnding}
+use Rattle.release.specs.Composed.{Ending, endsWith, onlyAfter, checkedAfter}
+use Rattle.release.proofs.Composed.{refusal}
 use Rattle.demands.proofs.Telling.{numbered}
 use Rattle.demands.proofs.Stopped.{entry-stays}
 use Rattle.demands.proofs.Answers.{what-a-mesh-call-says}
@@ -36,8 +39,19 @@ use Rattle.demands.proofs.Fresh.{fresh-is-fine}
 use Rattle.demands.proofs.Mending.{still-fine, asked}
 
 -- an answer by the name that a `match` found it to have
-pub went : (exit : Lists) {k : Progress} {a b : Went} → a ≡ b → wentOf a exit ≡ k → wentOf b exit ≡ k
-went exit p e = ap (λ (x : Went). wentOf x exit) (sym p) ∙ e
+pub updates : (exit : Lists) {o : Outcome} {a b : Updated} → a ≡ b → outcomeOf a exit ≡ o → outcomeOf b exit ≡ o
+updates exit p e = ap (λ (x : Updated). outcomeOf x exit) (sym p) ∙ e
+
+pub meshes : {o : Outcome} {exit : Lists} {a b : Meshed} → a ≡ b → mesh.outcome a exit ≡ o → mesh.outcome b exit ≡ o
+meshes {exit = exit} p e = ap (λ (x : Meshed). mesh.outcome x exit) (sym p) ∙ e
+
+-- the check of what the calls left
+pub passed : (S : Scene) (left : List ℕ) (went : Meshed) (exit : Lists) {v : Verdict} {k : Progress} → v ≡ checkedAfter (mesh.answerOf went) S [] left exit
+    → wentOf went exit ≡ k → endsWith v exit ≡ endsOn S left k
+unfolding _then_
+passed S left (meshed.Done quads) exit c e = (λ i. endsWith (c i) exit) ∙ ap (endsOn S left) e
+passed S left (meshed.Refused why place) exit c e =
+    let v = c ∙ sym (refusal why place 0 0 S [] left exit) in (λ i. endsWith (v i) exit) ∙ ap (endsOn S left) e
 
 -- the lists keep their lengths
 pub record Kept (A B : Lists) : Type 0 where
@@ -164,7 +178,7 @@ one-by-one mode S log grid B Q p h =
 
 -- ---- a mesh made, mended by a call for each entry, and checked
 module _ (mode : code.Tested) (S : Scene) (grid log left : List ℕ) (B : Lists) where
-  idle-on : (c : Progress) → PassesOn S left c → checkedOn S left c ≡ verdictOn c
+  idle-on : (c : Progress) → PassesOn S left c → passedOn S left c ≡ verdictOn c
   idle-on (through C Q) p = sym p
   idle-on (halted number place C) p = refl
 

@@ -11,17 +11,17 @@ use Rattle.rules.specs.Answers.{Verdict, fine, refuse, _then_}
 use Rattle.rules.specs.Calls.{Outcome, Scene, meshVerdict, meshGrid, updateMesh, checkVerdict}
 use Rattle.answers.specs.Verdicts.{numberOf}
 use Rattle.release.specs.Composed.{Ending, endsWith, onlyAfter}
-use Rattle.release.specs.declared.one_by_one.Went.{Went}
-use Rattle.release.specs.declared.one_by_one.Went.the-variants.{Through, Halted}
+use Rattle.meshem.specs.declared.Meshed.{Meshed}
+use Rattle.meshem.specs.declared.Meshed.the-variants.{Done, Refused}
 
 -- through all the calls, with these lists and so many quads; or halted by a refusal with its number and place
 pub data Progress : Type 0 where
   through : Lists → ℕ → Progress
   halted : ℕ → ℕ → Lists → Progress
 
-abbrev pub wentOf : Went → Lists → Progress
-wentOf (Through quads) B = through B quads
-wentOf (Halted why place) B = halted (numberOf why) place B
+abbrev pub wentOf : Meshed → Lists → Progress
+wentOf (Done quads) B = through B quads
+wentOf (Refused why place) B = halted (numberOf why) place B
 
 -- after a call that was answered, the rest; after one that was refused, nothing
 abbrev pub onward : Outcome → (Lists → ℕ → Progress) → Progress
@@ -47,12 +47,12 @@ listsOn (through B Q) = B
 listsOn (halted number place B) = B
 
 -- and the check of what they left, with no outer face named
-abbrev pub checkedOn : Scene → List ℕ → Progress → Verdict
-checkedOn S left (through B Q) = checkVerdict S [] left B Q
-checkedOn S left (halted number place B) = refuse number place
+abbrev pub passedOn : Scene → List ℕ → Progress → Verdict
+passedOn S left (through B Q) = checkVerdict S [] left B Q
+passedOn S left (halted number place B) = refuse number place
 
 abbrev pub endsOn : Scene → List ℕ → Progress → Ending
-endsOn S left p = endsWith (checkedOn S left p) (listsOn p)
+endsOn S left p = endsWith (passedOn S left p) (listsOn p)
 
 -- a fresh mesh by Culling with no outer face named, then a call for each entry
 abbrev pub chain : Tested → Scene → List ℕ → List ℕ → Lists → Progress

@@ -12,45 +12,41 @@ use update::Updated;
 use update::update_mesh;
 ghost use mathlib.Core.Path.{_≡_};
 ghost use Rattle.answers.specs.Verdicts.{verdictOf};
-ghost use Rattle.terms.specs.Scenes.{sceneOf};
+ghost use Rattle.meshem.specs.Outcome.{answerOf};
+ghost use Rattle.terms.specs.Loans.{sceneLent, before, after};
 ghost use Rattle.terms.specs.Modes.{testedBy};
-ghost use Rattle.rules.specs.Mesh.{listsOf};
 ghost use Rattle.demands.specs.Chunks.{LogFor, gridAfter};
-ghost use Rattle.release.specs.Composed.{endsWith, makeEnding, mendPromise, mendEnding};
+ghost use Rattle.release.specs.Composed.{meshedBy, endsWith, checkedAfter, makeEnding, mendPromise, mendEnding};
 
 pub mod one_by_one; // one_by_one.rt: a call for each entry of a log
 
-// Meshes a grid by Culling and checks what was made for the same outer list: the check refuses nothing.
-pub fn make_and_check(
-    vertices: &mut [u32],
-    triangles: &mut [u32],
-    links: &mut [u32],
-    slots: &mut [u32],
+// An update's answer as that of a mesh: how many quads there are, or the refusal.
+fn mesh_left(mended: Updated) -> Meshed
+    ensures { λ r. ⌜ r ≡ meshedBy mended ⌝ }
+{
+    match mended {
+        Updated::Done(count) => Meshed::Done(count.quads),
+        Updated::Refused(why, place, count) => Meshed::Refused(why, place),
+    }
+}
+
+// Checks a mesh that was made; what refused to make it is the verdict on one that was not.
+fn check_made(
+    made: Meshed,
     scene: Scene,
     outer: &[u8],
     grid: &[u8],
     kinds: &[u8],
     covers: &[u8],
     cubes: &[u32],
+    vertices: &[u32],
+    triangles: &[u32],
+    links: &[u32],
+    slots: &[u32],
 ) -> Verdict
-    ensures { λ r. ⌜ endsWith (verdictOf r) (listsOf (now (vertices .exit)) (now (triangles .exit)) (now (links .exit)) (now (slots .exit)))
-        ≡ makeEnding (sceneOf scene (now (kinds .entry)) (now (covers .entry)) (now (cubes .entry)))
-        (now (outer .entry)) (now (grid .entry))
-        (listsOf (now (vertices .entry)) (now (triangles .entry)) (now (links .entry)) (now (slots .entry))) ⌝ }
+    ensures { λ r. ⌜ verdictOf r ≡ checkedAfter (answerOf made) (sceneLent scene kinds covers cubes) (now (outer .entry)) (now (grid .entry))
+        (before vertices triangles links slots) ⌝ }
 {
-    let made = mesh_grid(
-        scene,
-        outer,
-        grid,
-        kinds,
-        covers,
-        cubes,
-        MeshingAlgorithm::Culling,
-        vertices,
-        triangles,
-        links,
-        slots,
-    );
     match made {
         Meshed::Done(quads) => check_mesh(
             scene,
@@ -69,6 +65,50 @@ pub fn make_and_check(
     }
 }
 
+// Meshes a grid by Culling and checks what was made for the same outer list: the check refuses nothing.
+pub fn make_and_check(
+    vertices: &mut [u32],
+    triangles: &mut [u32],
+    links: &mut [u32],
+    slots: &mut [u32],
+    scene: Scene,
+    outer: &[u8],
+    grid: &[u8],
+    kinds: &[u8],
+    covers: &[u8],
+    cubes: &[u32],
+) -> Verdict
+    ensures { λ r. ⌜ endsWith (verdictOf r) (after vertices triangles links slots)
+        ≡ makeEnding (sceneLent scene kinds covers cubes) (now (outer .entry)) (now (grid .entry)) (before vertices triangles links slots) ⌝ }
+{
+    let made = mesh_grid(
+        scene,
+        outer,
+        grid,
+        kinds,
+        covers,
+        cubes,
+        MeshingAlgorithm::Culling,
+        vertices,
+        triangles,
+        links,
+        slots,
+    );
+    check_made(
+        made,
+        scene,
+        outer,
+        grid,
+        kinds,
+        covers,
+        cubes,
+        vertices,
+        triangles,
+        links,
+        slots,
+    )
+}
+
 // Checks a mesh with no outer face named, mends it by a log, and checks it for the grid `left`: the one that the log left, for the promise.
 pub fn mend_and_check(
     vertices: &mut [u32],
@@ -85,16 +125,13 @@ pub fn mend_and_check(
     log: &[u8],
     left: &[u8],
 ) -> Verdict
-    ensures { λ r. ⌜ (endsWith (verdictOf r) (listsOf (now (vertices .exit)) (now (triangles .exit)) (now (links .exit)) (now (slots .exit)))
-        ≡ mendEnding (testedBy tested) (sceneOf scene (now (kinds .entry)) (now (covers .entry)) (now (cubes .entry)))
-        (now (grid .entry)) (now (log .entry)) (now (left .entry))
-        (listsOf (now (vertices .entry)) (now (triangles .entry)) (now (links .entry)) (now (slots .entry))) quads)
-        × (LogFor tested (sceneOf scene (now (kinds .entry)) (now (covers .entry)) (now (cubes .entry))) (now (grid .entry)) (now (log .entry))
-        → now (left .entry) ≡ gridAfter (sceneOf scene (now (kinds .entry)) (now (covers .entry)) (now (cubes .entry)))
-        (now (log .entry)) (now (grid .entry))
-        → verdictOf r ≡ mendPromise (testedBy tested) (sceneOf scene (now (kinds .entry)) (now (covers .entry)) (now (cubes .entry)))
-        (now (grid .entry)) (now (log .entry))
-        (listsOf (now (vertices .entry)) (now (triangles .entry)) (now (links .entry)) (now (slots .entry))) quads) ⌝ }
+    ensures { λ r. ⌜ (endsWith (verdictOf r) (after vertices triangles links slots)
+        ≡ mendEnding (testedBy tested) (sceneLent scene kinds covers cubes) (now (grid .entry)) (now (log .entry)) (now (left .entry))
+        (before vertices triangles links slots) quads)
+        × (LogFor tested (sceneLent scene kinds covers cubes) (now (grid .entry)) (now (log .entry))
+        → now (left .entry) ≡ gridAfter (sceneLent scene kinds covers cubes) (now (log .entry)) (now (grid .entry))
+        → verdictOf r ≡ mendPromise (testedBy tested) (sceneLent scene kinds covers cubes) (now (grid .entry)) (now (log .entry))
+        (before vertices triangles links slots) quads) ⌝ }
 {
     let no_face = &grid[..0];
     let passed = check_mesh(
@@ -113,7 +150,7 @@ pub fn mend_and_check(
     if is_refusal(passed) {
         return passed;
     }
-    let mended = update_mesh(
+    let mended = mesh_left(update_mesh(
         scene,
         kinds,
         covers,
@@ -125,21 +162,18 @@ pub fn mend_and_check(
         links,
         slots,
         quads,
-    );
-    match mended {
-        Updated::Done(count) => check_mesh(
-            scene,
-            no_face,
-            left,
-            kinds,
-            covers,
-            cubes,
-            vertices,
-            triangles,
-            links,
-            slots,
-            count.quads,
-        ),
-        Updated::Refused(why, place, count) => Verdict::Refuse(why, place),
-    }
+    ));
+    check_made(
+        mended,
+        scene,
+        no_face,
+        left,
+        kinds,
+        covers,
+        cubes,
+        vertices,
+        triangles,
+        links,
+        slots,
+    )
 }

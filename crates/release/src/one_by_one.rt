@@ -1,7 +1,6 @@
 // A mesh made, mended by a call for each entry of a log, and checked.
-use answers::Refusal;
+use crate::check_made;
 use answers::Verdict;
-use checking::check_mesh;
 use meshem::Meshed;
 use meshem::mesh_grid;
 use terms::MeshingAlgorithm;
@@ -13,18 +12,11 @@ ghost use mathlib.Core.Path.{_≡_};
 ghost use Prim.Native.Nat.{_/_};
 ghost use lib.ListN.{length};
 ghost use Rattle.answers.specs.Verdicts.{verdictOf};
-ghost use Rattle.terms.specs.Scenes.{sceneOf};
+ghost use Rattle.terms.specs.Loans.{sceneLent, before, after};
 ghost use Rattle.terms.specs.Modes.{testedBy};
-ghost use Rattle.rules.specs.Mesh.{listsOf};
 ghost use Rattle.demands.specs.Chunks.{LogFor, gridAfter};
 ghost use Rattle.release.specs.Composed.{endsWith};
-ghost use Rattle.release.specs.OneByOne.{wentOf, calls, endsOn, chainPromise, chainEnding};
-
-// How far the calls went: through them all, with so many quads, or to one that was refused.
-pub enum Went {
-    Through(usize),
-    Halted(Refusal, usize),
-}
+ghost use Rattle.release.specs.OneByOne.{wentOf, calls, chainPromise, chainEnding};
 
 // Mends a mesh by a call for each entry of a log.
 fn mend_by_entries(
@@ -39,11 +31,11 @@ fn mend_by_entries(
     tested: Tested,
     log: &[u8],
     quads: usize,
-) -> Went
-    ensures { λ r. ⌜ wentOf r (listsOf (now (vertices .exit)) (now (triangles .exit)) (now (links .exit)) (now (slots .exit)))
-        ≡ calls (testedBy tested) (sceneOf scene (now (kinds .entry)) (now (covers .entry)) (now (cubes .entry)))
+) -> Meshed
+    ensures { λ r. ⌜ wentOf r (after vertices triangles links slots)
+        ≡ calls (testedBy tested) (sceneLent scene kinds covers cubes)
         (now (log .entry)) 0 (length (now (log .entry)) / 12)
-        (listsOf (now (vertices .entry)) (now (triangles .entry)) (now (links .entry)) (now (slots .entry))) quads ⌝ }
+        (before vertices triangles links slots) quads ⌝ }
 {
     let entries = log.len() / 12;
     let mut left = quads;
@@ -69,64 +61,12 @@ fn mend_by_entries(
                 left = count.quads;
             }
             Updated::Refused(why, place, count) => {
-                return Went::Halted(why, place);
+                return Meshed::Refused(why, place);
             }
         }
         k += 1;
     }
-    Went::Through(left)
-}
-
-// Mends a mesh by a call for each entry of a log, and checks it with no outer face named for a grid.
-fn mend_each_and_check(
-    vertices: &mut [u32],
-    triangles: &mut [u32],
-    links: &mut [u32],
-    slots: &mut [u32],
-    scene: Scene,
-    kinds: &[u8],
-    covers: &[u8],
-    cubes: &[u32],
-    tested: Tested,
-    log: &[u8],
-    left: &[u8],
-    quads: usize,
-) -> Verdict
-    ensures { λ r. ⌜ endsWith (verdictOf r) (listsOf (now (vertices .exit)) (now (triangles .exit)) (now (links .exit)) (now (slots .exit)))
-        ≡ endsOn (sceneOf scene (now (kinds .entry)) (now (covers .entry)) (now (cubes .entry))) (now (left .entry))
-        (calls (testedBy tested) (sceneOf scene (now (kinds .entry)) (now (covers .entry)) (now (cubes .entry)))
-        (now (log .entry)) 0 (length (now (log .entry)) / 12)
-        (listsOf (now (vertices .entry)) (now (triangles .entry)) (now (links .entry)) (now (slots .entry))) quads) ⌝ }
-{
-    let went = mend_by_entries(
-        vertices,
-        triangles,
-        links,
-        slots,
-        scene,
-        kinds,
-        covers,
-        cubes,
-        tested,
-        log,
-        quads,
-    );
-    match went {
-        Went::Through(count) => check_mesh(
-            scene,
-            &left[..0],
-            left,
-            kinds,
-            covers,
-            cubes,
-            vertices,
-            triangles,
-            links,
-            slots,
-            count,
-        ),
-        Went::Halted(why, place) => Verdict::Refuse(why, place),
-    }
+    Meshed::Done(left)
 }
 
 // Meshes a grid by Culling with no outer face named, mends the mesh by a call for each entry of a log, and checks it for the grid that the
@@ -145,16 +85,16 @@ pub fn make_mend_and_check(
     log: &[u8],
     left: &[u8],
 ) -> Verdict
-    ensures { λ r. ⌜ (endsWith (verdictOf r) (listsOf (now (vertices .exit)) (now (triangles .exit)) (now (links .exit)) (now (slots .exit)))
-        ≡ chainEnding (testedBy tested) (sceneOf scene (now (kinds .entry)) (now (covers .entry)) (now (cubes .entry)))
+    ensures { λ r. ⌜ (endsWith (verdictOf r) (after vertices triangles links slots)
+        ≡ chainEnding (testedBy tested) (sceneLent scene kinds covers cubes)
         (now (grid .entry)) (now (log .entry)) (now (left .entry))
-        (listsOf (now (vertices .entry)) (now (triangles .entry)) (now (links .entry)) (now (slots .entry))))
-        × (LogFor tested (sceneOf scene (now (kinds .entry)) (now (covers .entry)) (now (cubes .entry))) (now (grid .entry)) (now (log .entry))
-        → now (left .entry) ≡ gridAfter (sceneOf scene (now (kinds .entry)) (now (covers .entry)) (now (cubes .entry)))
+        (before vertices triangles links slots))
+        × (LogFor tested (sceneLent scene kinds covers cubes) (now (grid .entry)) (now (log .entry))
+        → now (left .entry) ≡ gridAfter (sceneLent scene kinds covers cubes)
         (now (log .entry)) (now (grid .entry))
-        → verdictOf r ≡ chainPromise (testedBy tested) (sceneOf scene (now (kinds .entry)) (now (covers .entry)) (now (cubes .entry)))
+        → verdictOf r ≡ chainPromise (testedBy tested) (sceneLent scene kinds covers cubes)
         (now (grid .entry)) (now (log .entry))
-        (listsOf (now (vertices .entry)) (now (triangles .entry)) (now (links .entry)) (now (slots .entry)))) ⌝ }
+        (before vertices triangles links slots)) ⌝ }
 {
     let made = mesh_grid(
         scene,
@@ -170,20 +110,34 @@ pub fn make_mend_and_check(
         slots,
     );
     match made {
-        Meshed::Done(quads) => mend_each_and_check(
-            vertices,
-            triangles,
-            links,
-            slots,
-            scene,
-            kinds,
-            covers,
-            cubes,
-            tested,
-            log,
-            left,
-            quads,
-        ),
+        Meshed::Done(quads) => {
+            let mended = mend_by_entries(
+                vertices,
+                triangles,
+                links,
+                slots,
+                scene,
+                kinds,
+                covers,
+                cubes,
+                tested,
+                log,
+                quads,
+            );
+            check_made(
+                mended,
+                scene,
+                &left[..0],
+                left,
+                kinds,
+                covers,
+                cubes,
+                vertices,
+                triangles,
+                links,
+                slots,
+            )
+        }
         Meshed::Refused(why, place) => Verdict::Refuse(why, place),
     }
 }

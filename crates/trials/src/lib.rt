@@ -13,15 +13,16 @@
 // A patch: a place in the base's record, how many words, and the words. So any word of scene, types, grid and mesh can be another one;
 // the lengths can't.
 // A trial is wrong if it or its base does not keep this form.
-use answers::Verdict;
 use checking::check_mesh;
 use floats::Triple;
-use meshem::Meshed;
 use meshem::mesh_grid;
-use terms::MeshingAlgorithm;
+use telling::Told;
+use telling::algorithm_of;
+use telling::tested_of;
+use telling::told_by_mesh;
+use telling::told_by_update;
+use telling::told_by_verdict;
 use terms::Scene;
-use terms::Tested;
-use update::Updated;
 use update::update_mesh;
 use util::Dimensions;
 use vectors::Count;
@@ -74,14 +75,6 @@ struct Starts {
     log: usize,
     before: usize,
     after: usize,
-}
-
-// What a call answers, with 0 for what it does not say.
-struct Told {
-    number: u32,
-    place: usize,
-    quads: usize,
-    moved: u64,
 }
 
 struct Tally {
@@ -160,59 +153,6 @@ fn scene_at(r: &[u32], at: usize) -> Scene
         coloured: r[at + 3] == 1,
         d: triple_at(r, at + 4),
         centre: triple_at(r, at + 7),
-    }
-}
-
-fn algorithm_of(word: u32) -> MeshingAlgorithm {
-    if word == 1 {
-        MeshingAlgorithm::Culling
-    } else {
-        MeshingAlgorithm::Naive
-    }
-}
-
-fn refused(number: u32, place: usize) -> Told {
-    Told {
-        number,
-        place,
-        quads: 0,
-        moved: 0,
-    }
-}
-
-fn told_by_mesh(answer: Meshed) -> Told {
-    match answer {
-        Meshed::Done(quads) => Told {
-            number: 0,
-            place: 0,
-            quads,
-            moved: 0,
-        },
-        Meshed::Refused(why, place) => refused(why.number(), place),
-    }
-}
-
-fn told_by_update(answer: Updated) -> Told {
-    match answer {
-        Updated::Done(count) => Told {
-            number: 0,
-            place: 0,
-            quads: count.quads,
-            moved: count.moved,
-        },
-        Updated::Refused(why, place, count) => Told {
-            number: why.number(),
-            place,
-            quads: count.quads,
-            moved: count.moved,
-        },
-    }
-}
-
-fn told_by_check(verdict: Verdict) -> Told {
-    match verdict {
-        Verdict::Fine => refused(0, 0),
-        Verdict::Refuse(why, place) => refused(why.number(), place),
     }
 }
 
@@ -400,14 +340,6 @@ fn are_as_expected(
         & starts_with(slots, &image[to_slots..end])
 }
 
-fn tested_by(call: u32) -> Tested {
-    if call == 2 {
-        Tested::Opposite
-    } else {
-        Tested::Itself
-    }
-}
-
 fn answer(
     trial: &[u32],
     scene: Scene,
@@ -432,7 +364,7 @@ fn answer(
             kinds,
             covers,
             registry,
-            tested_by(call),
+            tested_of(call == 4),
             log,
             vertices,
             triangles,
@@ -442,7 +374,7 @@ fn answer(
         ));
     }
     if call == 3 {
-        return told_by_check(check_mesh(
+        return told_by_verdict(check_mesh(
             scene,
             outer,
             grid,
@@ -456,7 +388,7 @@ fn answer(
             quads,
         ));
     }
-    let algorithm = algorithm_of(call);
+    let algorithm = algorithm_of(call == 1);
     told_by_mesh(mesh_grid(
         scene,
         outer,
@@ -641,35 +573,29 @@ fn is_told(told: Told, trial: &[u32]) -> bool
         & (told.moved == size(trial[17]) as u64)
 }
 
-fn is_right_call(
-    trial: &[u32],
-    bytes: &[u8],
-    image: &mut [u32],
-    low: &[u8],
-    vertices: &mut [u32],
-    triangles: &mut [u32],
-    links: &mut [u32],
-    slots: &mut [u32],
-) -> bool
+fn is_right_call(trial: &[u32], bytes: &[u8], image: &mut [u32], low: &[u8]) -> bool
     requires { ⌜ (19 ≤ length (now trial)) × (length (now bytes) ≡ 4 * length (now trial))
         × (19 ≤ length (now image)) × (length (now low) ≡ length (now image)) ⌝ }
 {
-    let told = answer_afresh(trial, bytes, image, low, vertices, triangles, links, slots);
+    let mut vertices = words_of();
+    let mut triangles = words_of();
+    let mut links = words_of();
+    let mut slots = words_of();
+    let told = answer_afresh(
+        trial,
+        bytes,
+        image,
+        low,
+        &mut vertices,
+        &mut triangles,
+        &mut links,
+        &mut slots,
+    );
     conclude(trial, image);
-    is_told(told, trial) & are_as_expected(image, vertices, triangles, links, slots)
+    is_told(told, trial) & are_as_expected(image, &vertices, &triangles, &links, &slots)
 }
 
-fn is_right(
-    trial: &[u32],
-    bytes: &[u8],
-    base: &[u32],
-    image: &mut [u32],
-    low: &mut [u8],
-    vertices: &mut [u32],
-    triangles: &mut [u32],
-    links: &mut [u32],
-    slots: &mut [u32],
-) -> bool
+fn is_right(trial: &[u32], bytes: &[u8], base: &[u32], image: &mut [u32], low: &mut [u8]) -> bool
     requires { ⌜ (length (now bytes) ≡ 4 * length (now trial)) × (length (now image) ≡ length (now base)) × (length (now low) ≡ length (now image)) ⌝ }
 {
     if trial.len() < HEAD {
@@ -682,7 +608,7 @@ fn is_right(
         return false;
     }
     prepare(trial, base, image, low);
-    is_right_call(trial, bytes, image, low, vertices, triangles, links, slots)
+    is_right_call(trial, bytes, image, low)
 }
 
 // Keeps a base, or tries a trial.
@@ -692,10 +618,6 @@ fn take_record(
     base: &mut [u32],
     image: &mut [u32],
     low: &mut [u8],
-    vertices: &mut [u32],
-    triangles: &mut [u32],
-    links: &mut [u32],
-    slots: &mut [u32],
     tally: Tally,
 ) -> Tally
     requires { ⌜ (0 < length (now given)) × (length (now given) ≤ length (now base)) × (length (now bytes) ≡ 4 * length (now given))
@@ -718,10 +640,6 @@ fn take_record(
         &base[..kept],
         &mut image[..kept],
         &mut low[..kept],
-        vertices,
-        triangles,
-        links,
-        slots,
     );
     Tally {
         kept,
@@ -735,10 +653,6 @@ fn run(
     base: &mut [u32],
     image: &mut [u32],
     low: &mut [u8],
-    vertices: &mut [u32],
-    triangles: &mut [u32],
-    links: &mut [u32],
-    slots: &mut [u32],
 ) -> Count
     requires { ⌜ (length (now bytes) ≡ 4 * length (now words)) × (length (now base) ≡ length (now words))
         × (length (now image) ≡ length (now words)) × (length (now low) ≡ length (now words)) ⌝ }
@@ -754,18 +668,7 @@ fn run(
             return tally.count;
         }
         let whole = 4 * n;
-        tally = take_record(
-            &words[..n],
-            &bytes[..whole],
-            base,
-            image,
-            low,
-            vertices,
-            triangles,
-            links,
-            slots,
-            tally,
-        );
+        tally = take_record(&words[..n], &bytes[..whole], base, image, low, tally);
         turn += 1;
     }
     tally.count
@@ -797,20 +700,6 @@ pub fn replay(name: &[u8]) {
     let mut base = words_of();
     let mut image = words_of();
     let mut low = low_of();
-    let mut vertices = words_of();
-    let mut triangles = words_of();
-    let mut links = words_of();
-    let mut slots = words_of();
-    let count = run(
-        &mut bytes,
-        &mut words,
-        &mut base,
-        &mut image,
-        &mut low,
-        &mut vertices,
-        &mut triangles,
-        &mut links,
-        &mut slots,
-    );
+    let count = run(&mut bytes, &mut words, &mut base, &mut image, &mut low);
     say(name, count);
 }

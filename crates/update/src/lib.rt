@@ -26,15 +26,15 @@ use works::work_of;
 ghost use mathlib.Core.Path.{_≡_};
 ghost use Prim.Native.Nat.{_*_, _≤_, max};
 ghost use lib.ListN.{length};
-ghost use Rattle.rules.specs.Mesh.{NONE, Lists, listsOf};
+ghost use Rattle.rules.specs.Mesh.{NONE, Lists};
 ghost use Rattle.rules.specs.Answers.{BAD-ENTRY};
-ghost use Rattle.rules.specs.Calls.{updateMesh};
 ghost use Rattle.answers.specs.Verdicts.{verdictOf};
 ghost use Rattle.terms.specs.Scenes.{sceneOf};
 ghost use Rattle.terms.specs.Modes.{testedBy};
+ghost use Rattle.terms.specs.Loans.{sceneLent, before, after};
 ghost use Rattle.update.specs.Runs.{ranOf, laidOut, courseIn, Logging, patternsMended};
 ghost use Rattle.lent.specs.Scenes.{Long};
-ghost use Rattle.update.specs.Outcome.{outcomeOf, toldVerdict};
+ghost use Rattle.update.specs.Outcome.{Updates, toldVerdict};
 
 // What a log is run under: the scene, the side tested, the room and the quads that there are.
 pub struct Task {
@@ -196,7 +196,8 @@ pub fn update_mesh(
     slots: &mut [u32],
     quads: usize,
 ) -> Updated
-    ensures { λ r. ⌜ outcomeOf r (listsOf (now (vertices .exit)) (now (triangles .exit)) (now (links .exit)) (now (slots .exit))) ≡ updateMesh (testedBy tested) (sceneOf scene (now (kinds .entry)) (now (covers .entry)) (now (cubes .entry))) (now (log .entry)) (listsOf (now (vertices .entry)) (now (triangles .entry)) (now (links .entry)) (now (slots .entry))) quads ⌝ }
+    ensures { λ r. ⌜ Updates (testedBy tested) (sceneLent scene kinds covers cubes) (now (log .entry))
+        (before vertices triangles links slots) quads r (after vertices triangles links slots) ⌝ }
 {
     let none = Count { quads: 0, moved: 0 };
     let lengths = Lengths {

@@ -9,7 +9,7 @@ use Rattle.rules.specs.Floats.{finite, finite3}
 use Rattle.rules.specs.Cube as rules
 use Rattle.rules.specs.Cube.{floatsOf}
 use Rattle.rules.specs.Answers.{Verdict, fine, refuse, _then_, refuseIf, badAtlas, BAD-NUMBER, BAD-ATLAS, BAD-TEXTURE}
-use Rattle.rules.specs.Calls.{CubeOutcome, checkBy}
+use Rattle.rules.specs.Calls.{CubeOutcome, checkBy, generateVoxelMesh}
 use Rattle.floats.specs.Triples.{tripleOf}
 use Rattle.voxel_mesh.specs.declared.Shape.{Shape}
 use Rattle.voxel_mesh.specs.declared.Cubed.{Cubed}
@@ -39,6 +39,10 @@ verdictOf ShortRoom = refuse 9 0
 -- the answer, and the room as the call leaves it
 abbrev pub outcome : Cubed → List ℕ → CubeOutcome
 outcome r out = record { answer = checkBy (verdictOf r); out = out }
+
+-- the call's contract: it answers r for a shape, and leaves the room at exit
+abbrev pub Cubes : rules.Shape → List ℕ → Cubed → List ℕ → Type 0
+Cubes shape room r exit = outcome r exit ≡ generateVoxelMesh shape room
 
 -- the refusals of a call with room for that many words
 abbrev pub verdictIn : rules.Shape → ℕ → Verdict

@@ -14,9 +14,8 @@ ghost use Rattle.rules.specs.Lists.{each, every, lowest, table};
 ghost use Rattle.rules.specs.Floats.{finite, finite3};
 ghost use Rattle.rules.specs.Cube.{floatsOf, isHigh, isEnd, lastNaming, atlasAlong, axes, normalOf, cubeWord, cubeWords, cubeTriangles};
 ghost use Rattle.rules.specs.Answers.{entries, badTile, badAtlas};
-ghost use Rattle.rules.specs.Calls.{generateVoxelMesh};
 ghost use Rattle.floats.specs.Triples.{tripleOf};
-ghost use Rattle.voxel_mesh.specs.Outcome.{shapeOf, verdictOf, verdictIn, outcome, Accepted};
+ghost use Rattle.voxel_mesh.specs.Outcome.{shapeOf, verdictOf, verdictIn, Cubes, Accepted};
 ghost use Rattle.voxel_mesh.specs.Parts.{uvIn, cornerIn, Tiled, Cornered, partWord};
 
 // What a cube is made from; each float is its bits.
@@ -356,7 +355,7 @@ fn write_cube(shape: Shape, texture: &[u32], out: &mut [u32])
 
 // Writes the vertices of one cube at the start of the room, or refuses and writes nothing.
 pub fn generate_voxel_mesh(shape: Shape, texture: &[u32], out: &mut [u32]) -> Cubed
-    ensures { λ r. ⌜ outcome r (now (out .exit)) ≡ generateVoxelMesh (shapeOf shape (now (texture .entry))) (now (out .entry)) ⌝ }
+    ensures { λ r. ⌜ Cubes (shapeOf shape (now (texture .entry))) (now (out .entry)) r (now (out .exit)) ⌝ }
 {
     let room = out.len();
     let answer = verdict(shape, texture, room);

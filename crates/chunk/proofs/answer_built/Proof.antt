@@ -11,7 +11,7 @@ use Rattle.lines.specs.Written.{facesOf}
 use Rattle.workfile.proofs.Files.{types-are}
 use Rattle.lines.proofs.Writing.{wrote-as, end-inside}
 use Rattle.lines.proofs.Lining.{faces-room}
-use Rattle.chunk.specs.Steps.{sceneWith, workedOn}
+use Rattle.working.specs.Steps.{sceneWith, workedOn}
 use Rattle.chunk.proofs.Rooms.{first-filled, first-wrote}
 use borrow.Author.Needs.{needs}
 use Rattle.chunk.proofs.answer_built.Statement.{statement}

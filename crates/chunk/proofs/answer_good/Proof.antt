@@ -9,9 +9,9 @@ use lib.Seq.{take-at}
 use Rattle.rules.specs.Program.{sceneIn, worked, linesOf}
 use Rattle.lines.proofs.Writing.{wrote-as}
 use Rattle.lines.proofs.Lining.{refused-room}
-use Rattle.exports.specs.Answers.{toldOf}
+use Rattle.telling.specs.Numbers.{toldOf}
 use Rattle.chunk.proofs.Rooms.{room-lent, part-inside}
-use Rattle.chunk.proofs.Cubing.{stopped-lines, built-lines}
+use Rattle.working.proofs.Cubing.{stopped-lines, built-lines}
 use borrow.Author.Needs.{needs}
 use Rattle.chunk.proofs.answer_good.Statement.{statement}
 use Rattle.chunk.proofs.answer_good.Tie as tie

@@ -1,16 +1,73 @@
--- `chunk::answer_typed` meets its contract. Assumes nothing.
-use mathlib.Core.Path.{refl, sym}
-use Prim.Native.Nat.{_*_}
+-- `chunk::answer_typed` meets its contract: the work is done in empty room, and its answer written. Assumes nothing.
+use mathlib.Core.Path.{_≡_, refl, sym, ap, _∙_}
+use mathlib.Core.List.{List, _++_}
+use Prim.Native.Nat.{ℕ, _*_, _≤_}
 use native.Mathlib.Omega.{arith}
 use denote.Ref.{now}
-use Rattle.rules.specs.Program.{linesOf}
+use lib.ListN.{length, take, drop}
+use lib.Seq.{take-at}
+use Rattle.rules.specs.Mesh.{Lists, listsOf}
+use Rattle.rules.specs.Calls.{Scene}
+use Rattle.rules.specs.Program.{roomIn}
 use Rattle.lines.proofs.Writing.{wrote-as}
-use Rattle.rules.specs.Mesh.{listsOf}
-use Rattle.chunk.specs.Steps.{sceneWith, workedOn}
-use Rattle.chunk.proofs.Rooms.{room-lent, room-first}
+use Rattle.telling.specs.Numbers.{toldOf, outcome}
+use Rattle.working.specs.Steps.{sceneWith, workedOn}
+use Rattle.chunk.specs.Steps.{linesWith, Shown}
+use Rattle.chunk.proofs.Rooms.{room-lent, room-first, part-inside}
+use Rattle.chunk.proofs.Printing.{worked-shown, worked-lines}
 use borrow.Author.Needs.{needs}
 use Rattle.chunk.proofs.answer_typed.Statement.{statement}
 use Rattle.chunk.proofs.answer_typed.Tie as tie
+
+abbrev counted : tie.After-work-lists → tie.After-slot-count
+counted c = c .before .before .before .before .before
+
+abbrev worked : tie.After-slots2 → tie.After-work-lists
+worked c = c .before .before .before .before
+
+abbrev start : tie.After-slot-count → tie.Start
+start c = c .before .before .before .before .before .before .before .before .before .before .before .before
+
+abbrev scene : tie.Start → Scene
+scene t = let a = t .args in sceneWith (now (a .file)) (now (a .kinds)) (now (a .covers)) (now (a .cubes))
+
+abbrev exit : tie.After-work-lists → Lists
+exit c = let l = c .work-lists .last .1 .1 .1 .1 .1 in listsOf (l .0) (l .1 .0) (l .1 .1 .0) (l .1 .1 .1 .0)
+
+-- what the work told and left
+worked-so : (c : tie.After-work-lists) → let t = start (counted c) in
+    outcome (toldOf (c .work-lists .result)) (exit c) ≡ workedOn (now (t .args .file)) (scene t) (now (t .args .outer)) (roomIn (now (t .args .file)))
+worked-so c =
+    let six = counted c in
+    let words = six .before in
+    let fourth = words .before in
+    let third = fourth .before in
+    let second = third .before in
+    let t = start six in
+    let v = words .vertex-words .ensures in
+    let s = six .slot-count .ensures in
+    let vertices = room-first (second .before .empty-room .ensures) (v .0) (v .1) in
+    let triangles = room-first (second .empty-room2 .ensures) {k = 128 * 6} refl (omega arith) in
+    let links = room-first (third .empty-room3 .ensures) {k = 128} refl (omega arith) in
+    let slots = room-first (fourth .empty-room4 .ensures) (s .0) (omega (arith, s .1)) in
+    c .work-lists .ensures
+    ∙ (λ i. workedOn (now (t .args .file)) (scene t) (now (t .args .outer)) (listsOf (vertices i) (triangles i) (links i) (slots i)))
+
+shown-in : (c : tie.After-work-lists) (out : List ℕ) → 1317 ≤ length out → c .work-lists .result .number ≡ 0
+    → let r = c .work-lists .result in Shown (r .quads) (r .moved) ((exit c) .links) out
+shown-in c out long e =
+    let t = start (counted c) in
+    let a = t .args in
+    worked-shown (now (a .file)) (scene t) (now (a .outer)) (roomIn (now (a .file))) (toldOf (c .work-lists .result)) (exit c) (worked-so c)
+    out (t .pre .0 .cells) refl (omega (arith, c .work-lists .ok .1 .1 .1)) long e
+
+-- as many links come back as were lent
+back : (c : tie.After-work-lists) → length ((exit c) .links) ≡ 128
+back c = c .work-lists .kept .1 .1 .1 .1 .1 .1 .1 .0 ∙ sym (room-lent ((counted c) .before .before .before .empty-room3 .ensures) _ (omega arith))
+
+back-first : (c : tie.After-work-lists)
+    → take 128 ((exit c) .links ++ drop 128 ((counted c) .before .before .before .empty-room3 .result)) ≡ (exit c) .links
+back-first c = take-at _ _ _ (back c)
 
 empty-room-requires : tie.Need-empty-room-requires
 empty-room-requires c κs = search needs
@@ -33,57 +90,57 @@ slot-count-requires c κs = search needs
 array-borrow-prefix-vertices : tie.Need-array-borrow-prefix-vertices
 array-borrow-prefix-vertices c = search needs
 
-slice-aggregate-answer-in-room : tie.Need-slice-aggregate-answer-in-room
-slice-aggregate-answer-in-room c =
+slice-aggregate-work-lists : tie.Need-slice-aggregate-work-lists
+slice-aggregate-work-lists c =
     let words = c .before .before in room-lent (words .before .before .before .before .empty-room .ensures) _ (words .vertex-words .ensures .1)
 
 array-borrow-prefix-triangles : tie.Need-array-borrow-prefix-triangles
 array-borrow-prefix-triangles c = search needs
 
-slice-aggregate-answer-in-room-2 : tie.Need-slice-aggregate-answer-in-room-2
-slice-aggregate-answer-in-room-2 c = room-lent (c .before .before .before .before .before .before .empty-room2 .ensures) _ (omega arith)
+slice-aggregate-work-lists-2 : tie.Need-slice-aggregate-work-lists-2
+slice-aggregate-work-lists-2 c = room-lent (c .before .before .before .before .before .before .empty-room2 .ensures) _ (omega arith)
 
 array-borrow-prefix-links : tie.Need-array-borrow-prefix-links
 array-borrow-prefix-links c = search needs
 
-slice-aggregate-answer-in-room-3 : tie.Need-slice-aggregate-answer-in-room-3
-slice-aggregate-answer-in-room-3 c = room-lent (c .before .before .before .before .before .before .empty-room3 .ensures) _ (omega arith)
+slice-aggregate-work-lists-3 : tie.Need-slice-aggregate-work-lists-3
+slice-aggregate-work-lists-3 c = room-lent (c .before .before .before .before .before .before .empty-room3 .ensures) _ (omega arith)
 
 array-borrow-prefix-slots : tie.Need-array-borrow-prefix-slots
 array-borrow-prefix-slots c = search needs
 
-slice-aggregate-answer-in-room-4 : tie.Need-slice-aggregate-answer-in-room-4
-slice-aggregate-answer-in-room-4 c =
+slice-aggregate-work-lists-4 : tie.Need-slice-aggregate-work-lists-4
+slice-aggregate-work-lists-4 c =
     let six = c .before .before .before .before in room-lent (six .before .before .empty-room4 .ensures) _ (omega (arith, six .slot-count .ensures .1))
 
-answer-in-room-requires : tie.Need-answer-in-room-requires
-answer-in-room-requires c κs =
-    let room = c .before .before .before .before .before .before .before .before in
-    let s = room .before .before .before .before .before .before .before .before .before in
-    (s .pre .0, sym (room-lent (room .empty-room3 .ensures) _ (omega arith)), s .pre .1)
+work-lists-requires : tie.Need-work-lists-requires
+work-lists-requires c κs = search needs
+
+array-share-prefix-links : tie.Need-array-share-prefix-links
+array-share-prefix-links c = part-inside ((exit (worked c)) .links) _ (back (worked c))
+
+slice-aggregate-write-answer : tie.Need-slice-aggregate-write-answer
+slice-aggregate-write-answer c = let w = worked (c .before) in sym (ap length (back-first w) ∙ back w)
+
+write-answer-requires : tie.Need-write-answer-requires
+write-answer-requires c κs =
+    let w = worked (c .before .before) in
+    let s = start (counted w) in (omega arith, λ e. rw (back-first w) (shown-in w (now (s .args .out)) (s .pre .1) e))
 
 same-length : tie.Need-same-length
 same-length c = search needs
 
 returns : tie.Need-returns
 returns c =
-    let called = c .before .before .before .before .before .before in
-    let six = called .before .before .before .before .before .before in
-    let words = six .before in
-    let fourth = words .before in
-    let third = fourth .before in
-    let second = third .before in
-    let first = second .before in
-    let a = first .before .before .before .before .before .before .before .args in
-    let S = sceneWith (now (a .file)) (now (a .kinds)) (now (a .covers)) (now (a .cubes)) in
-    let v = words .vertex-words .ensures in
-    let s = six .slot-count .ensures in
-    let vertices = room-first (first .empty-room .ensures) (v .0) (v .1) in
-    let triangles = room-first (second .empty-room2 .ensures) {k = 128 * 6} refl (omega arith) in
-    let links = room-first (third .empty-room3 .ensures) {k = 128} refl (omega arith) in
-    let slots = room-first (fourth .empty-room4 .ensures) (s .0) (omega (arith, s .1)) in
-    wrote-as (λ i. linesOf S (workedOn (now (a .file)) S (now (a .outer)) (listsOf (vertices i) (triangles i) (links i) (slots i))))
-    (called .answer-in-room .ensures)
+    let wrote = c .before .before in
+    let w = worked (wrote .before .before .before) in
+    let t = start (counted w) in
+    let a = t .args in
+    wrote-as
+    (ap (linesWith (toldOf (w .work-lists .result))) (back-first w)
+    ∙ worked-lines (now (a .file)) (scene t) (now (a .outer)) (roomIn (now (a .file))) (toldOf (w .work-lists .result)) (exit w) (worked-so w)
+    (λ e. shown-in w (now (a .out)) (t .pre .1) e .most))
+    (wrote .write-answer .ensures)
 
 pub answer-typed-spec : {M : Type 1} → statement M
 answer-typed-spec =
@@ -96,13 +153,16 @@ answer-typed-spec =
     vertex-words-requires
     slot-count-requires
     array-borrow-prefix-vertices
-    slice-aggregate-answer-in-room
+    slice-aggregate-work-lists
     array-borrow-prefix-triangles
-    slice-aggregate-answer-in-room-2
+    slice-aggregate-work-lists-2
     array-borrow-prefix-links
-    slice-aggregate-answer-in-room-3
+    slice-aggregate-work-lists-3
     array-borrow-prefix-slots
-    slice-aggregate-answer-in-room-4
-    answer-in-room-requires
+    slice-aggregate-work-lists-4
+    work-lists-requires
+    array-share-prefix-links
+    slice-aggregate-write-answer
+    write-answer-requires
     same-length
     returns)

@@ -4,7 +4,8 @@ use native.Mathlib.Omega.{arith}
 use denote.Ref.{now}
 use Rattle.rules.specs.Cube.{floatsOf}
 use Rattle.workfile.specs.declared.Work.{Work}
-use Rattle.chunk.proofs.Rooms.{few-floats, vertices-are}
+use Rattle.working.proofs.Words.{few-floats}
+use Rattle.chunk.proofs.Rooms.{vertices-are}
 use borrow.Author.Needs.{needs}
 use Rattle.chunk.proofs.vertex_words.Statement.{statement}
 use Rattle.chunk.proofs.vertex_words.Tie as tie

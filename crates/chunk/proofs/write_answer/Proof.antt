@@ -5,7 +5,7 @@ use denote.Ref.{now}
 use lib.Seq.{length-take-le}
 use Rattle.lines.proofs.Writing.{wrote-as}
 use Rattle.lines.proofs.Lining.{refused-room}
-use Rattle.exports.specs.Answers.{mendedOf}
+use Rattle.telling.specs.Numbers.{toldOf}
 use Rattle.chunk.proofs.Printing.{refused-lines, mesh-lines}
 use borrow.Author.Needs.{needs}
 use Rattle.chunk.proofs.write_answer.Statement.{statement}
@@ -22,7 +22,7 @@ returns c =
     let wrote = c .before .before in
     let test = wrote .before .before in
     let a = test .before .before .before .before .args in
-    wrote-as (refused-lines (mendedOf (a .told)) (now (a .links)) (test .if1 .taken)) (wrote .write-refused .ensures)
+    wrote-as (refused-lines (toldOf (a .told)) (now (a .links)) (test .if1 .taken)) (wrote .write-refused .ensures)
 
 slice-aggregate-write-lines : tie.Need-slice-aggregate-write-lines
 slice-aggregate-write-lines c =
@@ -40,7 +40,7 @@ returns-2 c =
     let wrote = c .before .before in
     let test = wrote .before .before .before in
     let a = test .before .before .before .before .args in
-    wrote-as (mesh-lines (mendedOf (a .told)) (now (a .links)) (test .if1 .left)) (wrote .write-lines .ensures)
+    wrote-as (mesh-lines (toldOf (a .told)) (now (a .links)) (test .if1 .left)) (wrote .write-lines .ensures)
 
 pub write-answer-spec : {M : Type 1} → statement M
 write-answer-spec =

@@ -4,7 +4,7 @@ use denote.Ref.{now}
 use Rattle.rules.specs.Calls.{Scene, checkBy, checkMesh}
 use Rattle.answers.specs.Verdicts.{verdictOf}
 use Rattle.rules.specs.Mesh.{listsOf}
-use Rattle.exports.proofs.Telling.{bare}
+use Rattle.telling.proofs.Telling.{bare}
 use borrow.Author.Needs.{needs}
 use Rattle.exports.proofs.meshem_check_mesh.Statement.{statement}
 use Rattle.exports.proofs.meshem_check_mesh.Tie as tie

@@ -1,6 +1,6 @@
 -- `exports::meshem_generate_voxel_mesh` meets its contract: the cube call's, with the answer told. Assumes nothing.
 use Rattle.voxel_mesh.specs.Outcome.{verdictOf}
-use Rattle.exports.proofs.Telling.{bare, cube-told}
+use Rattle.telling.proofs.Telling.{bare, cube-told}
 use borrow.Author.Needs.{needs}
 use Rattle.exports.proofs.meshem_generate_voxel_mesh.Statement.{statement}
 use Rattle.exports.proofs.meshem_generate_voxel_mesh.Tie as tie

@@ -3,13 +3,16 @@ use mathlib.Core.Path.{_∙_}
 use denote.Ref.{now}
 use Rattle.rules.specs.Calls.{meshGrid}
 use Rattle.rules.specs.Mesh.{listsOf}
-use Rattle.exports.proofs.Telling.{mesh-told}
+use Rattle.telling.proofs.Telling.{unmoved, mesh-told}
 use borrow.Author.Needs.{needs}
 use Rattle.exports.proofs.meshem_mesh_grid.Statement.{statement}
 use Rattle.exports.proofs.meshem_mesh_grid.Tie as tie
 
 scene-of-requires : tie.Need-scene-of-requires
 scene-of-requires c κs = search needs
+
+is-yes-requires : tie.Need-is-yes-requires
+is-yes-requires c κs = search needs
 
 algorithm-of-requires : tie.Need-algorithm-of-requires
 algorithm-of-requires c κs = search needs
@@ -36,18 +39,20 @@ returns : tie.Need-returns
 returns c =
     let m = c .before .before .before .before .before .before .before .before .before in
     let y = m .before .before .before .before .before in
-    let s = y .before in
+    let s = y .before .before in
     let a = s .before .before .before .before .before .before .before .before .before .before .args in
     let scene = s .scene-of .ensures (now (a .kinds)) (now (a .covers)) (now (a .cubes)) in
+    let culling = y .algorithm-of .ensures ∙ y .before .is-yes .ensures in
     let lists = listsOf (now (a .vertices)) (now (a .triangles)) (now (a .links)) (now (a .slots)) in
-    mesh-told (c .told-by-mesh .ensures)
-    (m .mesh-grid .ensures ∙ (λ i. meshGrid (scene i) (now (a .outer)) (now (a .grid)) (y .algorithm-of .ensures i) lists))
+    mesh-told (unmoved (c .told-by-mesh .result) (m .mesh-grid .result) (c .told-by-mesh .ensures))
+    (m .mesh-grid .ensures ∙ (λ i. meshGrid (scene i) (now (a .outer)) (now (a .grid)) (culling i) lists))
 
 pub meshem-mesh-grid-spec : {M : Type 1} → statement M
 meshem-mesh-grid-spec =
     tie.close
     (tie.spec
     scene-of-requires
+    is-yes-requires
     algorithm-of-requires
     mesh-grid-requires
     told-by-mesh-requires

@@ -1,23 +1,19 @@
--- `exports::meshem_update_mesh` meets its contract: it tells what the update told. Assumes nothing.
-use mathlib.Core.Path.{_≡_, _∙_}
+-- `exports::meshem_update_mesh` meets its contract: the update call's, with the answer told. Assumes nothing.
+use mathlib.Core.Path.{ap, _∙_}
 use denote.Ref.{now}
 use Rattle.rules.specs.Calls.{updateMesh}
 use Rattle.rules.specs.Mesh.{listsOf}
-use Rattle.terms.specs.Modes.{testedBy}
-use Rattle.exports.specs.Answers.{testedFrom}
-use Rattle.exports.proofs.Telling.{mesh-told}
+use Rattle.telling.specs.Numbers.{testedIf}
+use Rattle.telling.proofs.Telling.{mesh-told}
 use borrow.Author.Needs.{needs}
 use Rattle.exports.proofs.meshem_update_mesh.Statement.{statement}
 use Rattle.exports.proofs.meshem_update_mesh.Tie as tie
 
-abbrev start : tie.After-tested-of → tie.Start
-start c = c .before .before .before .before .before .before .before .before .before .before
-
-by-mode : (c : tie.After-tested-of) → testedBy (c .tested-of .result) ≡ testedFrom (start c .args .tested)
-by-mode c = c .tested-of .ensures
-
 scene-of-requires : tie.Need-scene-of-requires
 scene-of-requires c κs = search needs
+
+is-yes-requires : tie.Need-is-yes-requires
+is-yes-requires c κs = search needs
 
 tested-of-requires : tie.Need-tested-of-requires
 tested-of-requires c κs = search needs
@@ -44,17 +40,19 @@ returns : tie.Need-returns
 returns c =
     let m = c .before .before .before .before .before .before .before .before .before in
     let side = m .before .before .before .before .before in
-    let s = side .before in
-    let a = start side .args in
+    let s = side .before .before in
+    let a = s .before .before .before .before .before .before .before .before .before .args in
     let scene = s .scene-of .ensures (now (a .kinds)) (now (a .covers)) (now (a .cubes)) in
+    let mode = side .tested-of .ensures ∙ ap testedIf (side .before .is-yes .ensures) in
     let lists = listsOf (now (a .vertices)) (now (a .triangles)) (now (a .links)) (now (a .slots)) in
-    mesh-told (c .told-by-update .ensures) (m .update-mesh .ensures ∙ (λ i. updateMesh (by-mode side i) (scene i) (now (a .log)) lists (a .count)))
+    mesh-told (c .told-by-update .ensures) (m .update-mesh .ensures ∙ (λ i. updateMesh (mode i) (scene i) (now (a .log)) lists (a .count)))
 
 pub meshem-update-mesh-spec : {M : Type 1} → statement M
 meshem-update-mesh-spec =
     tie.close
     (tie.spec
     scene-of-requires
+    is-yes-requires
     tested-of-requires
     update-mesh-requires
     told-by-update-requires

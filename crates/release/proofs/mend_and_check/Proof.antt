@@ -1,13 +1,16 @@
 -- `release::mend_and_check` meets its contract: after a log of demand 3 the second check refuses nothing. Assumes nothing.
-use mathlib.Core.Path.{_≡_, sym, _∙_}
+use mathlib.Core.Path.{_≡_, sym, ap, _∙_}
 use mathlib.Core.List.{[]}
 use Rattle.rules.specs.Mesh.{Lists, listsOf}
 use Rattle.rules.specs.Answers.{fine}
 use Rattle.rules.specs.Calls.{Scene, checkVerdict}
+use Rattle.meshem.specs.declared.Meshed.{Meshed}
+use Rattle.meshem.specs.Outcome.{answerOf}
 use Rattle.terms.specs.Scenes.{sceneOf}
 use Rattle.terms.specs.Modes.{testedBy}
 use Rattle.answers.proofs.Chains.{passes}
-use Rattle.release.proofs.Composed.{updates, stopped, mended, refused, promised}
+use Rattle.release.specs.Composed.{checkedAfter}
+use Rattle.release.proofs.Composed.{checked, left-by, stopped, mended, promised}
 use borrow.Author.Needs.{needs}
 use Rattle.release.proofs.mend_and_check.Statement.{statement}
 use Rattle.release.proofs.mend_and_check.Tie as tie
@@ -59,14 +62,11 @@ returns c =
 update-mesh-requires : tie.Need-update-mesh-requires
 update-mesh-requires c κs = search needs
 
-enum-known-mended : tie.Need-enum-known-mended
-enum-known-mended c = search needs
+mesh-left-requires : tie.Need-mesh-left-requires
+mesh-left-requires c κs = search needs
 
-check-mesh-requires-2 : tie.Need-check-mesh-requires-2
-check-mesh-requires-2 c κs = search needs
-
-enum-known-mended-2 : tie.Need-enum-known-mended-2
-enum-known-mended-2 c = search needs
+check-made-requires : tie.Need-check-made-requires
+check-made-requires c κs = search needs
 
 same-length-5 : tie.Need-same-length-5
 same-length-5 c = search needs
@@ -82,36 +82,17 @@ same-length-8 c = search needs
 
 returns-2 : tie.Need-returns-2
 returns-2 c =
-    let told = c .before .before .before .before .before in
-    let u = told .before .before .before .before .before .before .before .before .before .before .before in
+    let l = c .before .before .before .before .before in
+    let u = l .before .before .before .before .before .before .before .before .before in
     let o = u .before .before .before .before .before in
     let t = start (o .before .before) in
-    promised (t .args .tested) (scene t) (t .args .grid .now) (t .args .log .now) (t .args .left .now) (lists t) (t .args .quads)
-    (mended (testedBy (t .args .tested)) (scene t) (t .args .grid .now) (t .args .log .now) (t .args .left .now) (lists t) (t .args .quads) (exit u)
-    (told .before .mended .given .0 .0) (first-fine o)
-    (updates (exit u) (told .before .mended .given .1) (u .update-mesh .ensures)) (c .check-mesh2 .ensures))
-
-same-length-9 : tie.Need-same-length-9
-same-length-9 c = search needs
-
-same-length-10 : tie.Need-same-length-10
-same-length-10 c = search needs
-
-same-length-11 : tie.Need-same-length-11
-same-length-11 c = search needs
-
-same-length-12 : tie.Need-same-length-12
-same-length-12 c = search needs
-
-returns-3 : tie.Need-returns-3
-returns-3 c =
-    let u = c .before .before .before .before .before .before .before .before .before .before .before in
-    let o = u .before .before .before .before .before in
-    let t = start (o .before .before) in
-    promised (t .args .tested) (scene t) (t .args .grid .now) (t .args .log .now) (t .args .left .now) (lists t) (t .args .quads)
-    (refused (testedBy (t .args .tested)) (scene t) (t .args .grid .now) (t .args .log .now) (t .args .left .now) (lists t) (t .args .quads) (exit u)
-    (c .before .mended2 .given .0 .0) (c .before .mended2 .given .0 .1 .0) (c .before .mended2 .given .0 .1 .1 .0) (first-fine o)
-    (updates (exit u) (c .before .mended2 .given .1) (u .update-mesh .ensures)))
+    let a = t .args in
+    promised (a .tested) (scene t) (a .grid .now) (a .log .now) (a .left .now) (lists t) (a .quads)
+    (mended (testedBy (a .tested)) (scene t) (a .grid .now) (a .log .now) (a .left .now) (lists t) (a .quads) (first-fine o)
+    (checked (scene t) [] (a .left .now)
+    (c .check-made .ensures ∙ ap (λ (m : Meshed). checkedAfter (answerOf m) (scene t) [] (a .left .now) (exit u)) (l .mesh-left .ensures)
+    ∙ left-by (u .update-mesh .result) (scene t) [] (a .left .now) (exit u))
+    (u .update-mesh .ensures)))
 
 pub mend-and-check-spec : {M : Type 1} → statement M
 mend-and-check-spec =
@@ -126,16 +107,10 @@ mend-and-check-spec =
     same-length-4
     returns
     update-mesh-requires
-    enum-known-mended
-    check-mesh-requires-2
-    enum-known-mended-2
+    mesh-left-requires
+    check-made-requires
     same-length-5
     same-length-6
     same-length-7
     same-length-8
-    returns-2
-    same-length-9
-    same-length-10
-    same-length-11
-    same-length-12
-    returns-3)
+    returns-2)

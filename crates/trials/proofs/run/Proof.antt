@@ -8,20 +8,16 @@ use Rattle.trials.proofs.run.Statement.{statement}
 use Rattle.trials.proofs.run.Tie as tie
 
 abbrev Inv-loop : tie.InvT-loop
-Inv-loop bytes₀ words₀ base₀ image₀ low₀ vertices₀ triangles₀ links₀ slots₀ tally₀ turn₀ bytes words base image low vertices triangles links slots tally turn =
+Inv-loop bytes₀ words₀ base₀ image₀ low₀ tally₀ turn₀ bytes words base image low tally turn =
     (length bytes ≡ length bytes₀)
     × (length words ≡ length words₀)
     × (length base ≡ length base₀)
     × (length image ≡ length image₀)
     × (length low ≡ length low₀)
-    × (length vertices ≡ length vertices₀)
-    × (length triangles ≡ length triangles₀)
-    × (length links ≡ length links₀)
-    × (length slots ≡ length slots₀)
     × (tally .kept ≤ length base) × (turn ≤ 65536)
 
 abbrev μ-loop : tie.MeasureT-loop
-μ-loop bytes₀ words₀ base₀ image₀ low₀ vertices₀ triangles₀ links₀ slots₀ tally₀ turn₀ bytes words base image low vertices triangles links slots tally turn =
+μ-loop bytes₀ words₀ base₀ image₀ low₀ tally₀ turn₀ bytes words base image low tally turn =
     65536 - turn
 
 none-requires : tie.Need-none-requires Inv-loop μ-loop
@@ -47,18 +43,6 @@ same-length-4 c = search needs
 
 same-length-5 : tie.Need-same-length-5 Inv-loop μ-loop
 same-length-5 c = search needs
-
-same-length-6 : tie.Need-same-length-6 Inv-loop μ-loop
-same-length-6 c = search needs
-
-same-length-7 : tie.Need-same-length-7 Inv-loop μ-loop
-same-length-7 c = search needs
-
-same-length-8 : tie.Need-same-length-8 Inv-loop μ-loop
-same-length-8 c = search needs
-
-same-length-9 : tie.Need-same-length-9 Inv-loop μ-loop
-same-length-9 c = search needs
 
 returns : tie.Need-returns Inv-loop μ-loop
 returns c = search needs
@@ -90,32 +74,20 @@ loop-less c = search needs
 loop-again : tie.Need-loop-again Inv-loop μ-loop
 loop-again c = search needs
 
+same-length-6 : tie.Need-same-length-6 Inv-loop μ-loop
+same-length-6 c = search needs
+
+same-length-7 : tie.Need-same-length-7 Inv-loop μ-loop
+same-length-7 c = search needs
+
+same-length-8 : tie.Need-same-length-8 Inv-loop μ-loop
+same-length-8 c = search needs
+
+same-length-9 : tie.Need-same-length-9 Inv-loop μ-loop
+same-length-9 c = search needs
+
 same-length-10 : tie.Need-same-length-10 Inv-loop μ-loop
 same-length-10 c = search needs
-
-same-length-11 : tie.Need-same-length-11 Inv-loop μ-loop
-same-length-11 c = search needs
-
-same-length-12 : tie.Need-same-length-12 Inv-loop μ-loop
-same-length-12 c = search needs
-
-same-length-13 : tie.Need-same-length-13 Inv-loop μ-loop
-same-length-13 c = search needs
-
-same-length-14 : tie.Need-same-length-14 Inv-loop μ-loop
-same-length-14 c = search needs
-
-same-length-15 : tie.Need-same-length-15 Inv-loop μ-loop
-same-length-15 c = search needs
-
-same-length-16 : tie.Need-same-length-16 Inv-loop μ-loop
-same-length-16 c = search needs
-
-same-length-17 : tie.Need-same-length-17 Inv-loop μ-loop
-same-length-17 c = search needs
-
-same-length-18 : tie.Need-same-length-18 Inv-loop μ-loop
-same-length-18 c = search needs
 
 returns-2 : tie.Need-returns-2 Inv-loop μ-loop
 returns-2 c = search needs
@@ -134,10 +106,6 @@ run-spec =
     same-length-3
     same-length-4
     same-length-5
-    same-length-6
-    same-length-7
-    same-length-8
-    same-length-9
     returns
     mul-whole
     slice-reshare-prefix-take-record
@@ -148,13 +116,9 @@ run-spec =
     add-turn
     loop-less
     loop-again
+    same-length-6
+    same-length-7
+    same-length-8
+    same-length-9
     same-length-10
-    same-length-11
-    same-length-12
-    same-length-13
-    same-length-14
-    same-length-15
-    same-length-16
-    same-length-17
-    same-length-18
     returns-2)

@@ -1,9 +1,9 @@
 -- `release::one_by_one::make_mend_and_check` meets its contract: after a log of demand 3 the check refuses nothing. Assumes nothing.
+use mathlib.Core.Path.{_∙_}
 use Rattle.rules.specs.Mesh.{Lists, listsOf}
 use Rattle.rules.specs.Calls.{Scene}
 use Rattle.terms.specs.Scenes.{sceneOf}
-use Rattle.release.proofs.Composed.{meshes}
-use Rattle.release.proofs.OneByOne.{chained, unmade}
+use Rattle.release.proofs.OneByOne.{meshes, passed, chained, unmade}
 use borrow.Author.Needs.{needs}
 use Rattle.release.proofs.one_by_one.make_mend_and_check.Statement.{statement}
 use Rattle.release.proofs.one_by_one.make_mend_and_check.Tie as tie
@@ -17,6 +17,9 @@ scene t = let a = t .args in sceneOf (a .scene) (a .kinds .now) (a .covers .now)
 abbrev lists : tie.Start → Lists
 lists t = let a = t .args in listsOf (a .vertices .now) (a .triangles .now) (a .links .now) (a .slots .now)
 
+abbrev exit : tie.After-mend-by-entries → Lists
+exit m = let l = m .mend-by-entries .last in listsOf (l .0) (l .1 .0) (l .1 .1 .0) (l .1 .1 .1 .0)
+
 slice-aggregate-mesh-grid : tie.Need-slice-aggregate-mesh-grid
 slice-aggregate-mesh-grid c = search needs
 
@@ -26,14 +29,22 @@ mesh-grid-requires c κs = search needs
 enum-known-made : tie.Need-enum-known-made
 enum-known-made c = search needs
 
-mend-each-and-check-requires : tie.Need-mend-each-and-check-requires
-mend-each-and-check-requires c κs = search needs
+mend-by-entries-requires : tie.Need-mend-by-entries-requires
+mend-by-entries-requires c κs = search needs
+
+slice-aggregate-check-made : tie.Need-slice-aggregate-check-made
+slice-aggregate-check-made c = search needs
+
+check-made-requires : tie.Need-check-made-requires
+check-made-requires c κs = search needs
 
 enum-known-made-2 : tie.Need-enum-known-made-2
 enum-known-made-2 c = search needs
 
 same-length : tie.Need-same-length
-same-length c = search needs
+same-length c =
+    let call = c .before .before .before .before .before .before .before .before .before .before .before .before .before .before in
+    let m = call .before .before .before .before .before .before .before .before .before .before .before .before .before .before .before .before in call .mend-by-entries .kept .0 ∙ m .mesh-grid .kept .1 .1 .1 .1 .1 .1 .1 .0
 
 same-length-2 : tie.Need-same-length-2
 same-length-2 c = search needs
@@ -46,13 +57,14 @@ same-length-4 c = search needs
 
 returns : tie.Need-returns
 returns c =
-    let call = c .before .before .before .before .before .before .before .before in
+    let call = c .before .before .before .before .before .before .before .before .before .before .before .before .before .before in
     let told = call .before .before .before .before .before in
     let m = told .before .before .before .before .before .before .before .before .before .before .before in
     let t = start m in
-    chained (t .args .tested) (scene t) (t .args .grid .now) (t .args .log .now) (t .args .left .now) (lists t) _
+    let a = t .args in
+    chained (a .tested) (scene t) (a .grid .now) (a .log .now) (a .left .now) (lists t) _
     (told .before .made .given .0 .0) (meshes (told .before .made .given .1) (m .mesh-grid .ensures))
-    (call .mend-each-and-check .ensures)
+    (passed (scene t) (a .left .now) (call .mend-by-entries .result) (exit call) (c .check-made .ensures) (call .mend-by-entries .ensures))
 
 same-length-5 : tie.Need-same-length-5
 same-length-5 c = search needs
@@ -81,7 +93,9 @@ make-mend-and-check-spec =
     slice-aggregate-mesh-grid
     mesh-grid-requires
     enum-known-made
-    mend-each-and-check-requires
+    mend-by-entries-requires
+    slice-aggregate-check-made
+    check-made-requires
     enum-known-made-2
     same-length
     same-length-2

@@ -12,8 +12,7 @@ use Rattle.terms.specs.Scenes.{sceneOf}
 use Rattle.terms.specs.Modes.{testedBy}
 use Rattle.update.specs.Outcome.{outcomeOf}
 use Rattle.release.specs.OneByOne.{entryLog}
-use Rattle.release.proofs.Composed.{updates}
-use Rattle.release.proofs.OneByOne.{Calling, starts, goes-on, refuses, ends}
+use Rattle.release.proofs.OneByOne.{updates, Calling, starts, goes-on, refuses, ends}
 use borrow.Author.Needs.{needs}
 use Rattle.release.proofs.one_by_one.mend_by_entries.Statement.{statement}
 use Rattle.release.proofs.one_by_one.mend_by_entries.Tie as tie

@@ -1,0 +1,37 @@
+-- `telling::told_by_verdict` meets its contract: in each arm its number and place. Assumes nothing.
+use borrow.Author.Needs.{needs}
+use Rattle.telling.proofs.told_by_verdict.Statement.{statement}
+use Rattle.telling.proofs.told_by_verdict.Tie as tie
+
+enum-told : tie.Need-enum-told
+enum-told c = search needs
+
+done-requires : tie.Need-done-requires
+done-requires c κs = search needs
+
+enum-known-verdict : tie.Need-enum-known-verdict
+enum-known-verdict c = search needs
+
+number-requires : tie.Need-number-requires
+number-requires c κs = search needs
+
+refused-requires : tie.Need-refused-requires
+refused-requires c κs = search needs
+
+returns : tie.Need-returns
+returns c = rw (c .before .enum-told .given .1) (c .done .ensures)
+
+returns-2 : tie.Need-returns-2
+returns-2 c = rw (c .before .before .before .verdict .given .1, ← c .before .number .ensures) (c .refused .ensures)
+
+pub told-by-verdict-spec : {M : Type 1} → statement M
+told-by-verdict-spec =
+    tie.close
+    (tie.spec
+    enum-told
+    done-requires
+    enum-known-verdict
+    number-requires
+    refused-requires
+    returns
+    returns-2)

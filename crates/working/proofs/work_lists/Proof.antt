@@ -1,0 +1,147 @@
+-- `working::work_lists` meets its contract: the mesh call's, then the update call's. Assumes nothing.
+use mathlib.Core.Path.{_≡_, ap, _∙_}
+use denote.Ref.{now}
+use lib.Dec.{eqb}
+use Rattle.rules.specs.Mesh.{Lists, listsOf}
+use Rattle.rules.specs.Update.{source}
+use Rattle.rules.specs.Calls.{Scene, meshGrid, updateMesh}
+use Rattle.rules.specs.Program.{word, gridIn, logIn}
+use Rattle.terms.specs.Scenes.{sceneOf}
+use Rattle.workfile.specs.declared.Work.{Work}
+use Rattle.telling.specs.Numbers.{toldOf, outcome}
+use Rattle.telling.proofs.Telling.{mesh-told}
+use Rattle.working.specs.Steps.{sceneWith}
+use Rattle.working.proofs.Following.{mesh-stops, update-follows}
+use borrow.Author.Needs.{needs}
+use Rattle.working.proofs.work_lists.Statement.{statement}
+use Rattle.working.proofs.work_lists.Tie as tie
+
+abbrev meshed : tie.After-told-by-mesh → tie.After-mesh-grid
+meshed c = c .before .before .before .before .before .before .before .before .before
+
+abbrev scened : tie.After-mesh-grid → tie.After-scene-in
+scened c = c .before .before .before .before .before .before .before .before
+
+abbrev start : tie.After-mesh-grid → tie.Start
+start c = (scened c) .before .before .before .before .before .before .before .before .before .before
+
+abbrev scene : tie.Start → Scene
+scene t = let a = t .args in sceneWith (now (a .file)) (now (a .kinds)) (now (a .covers)) (now (a .cubes))
+
+abbrev lists : tie.Start → Lists
+lists t = let a = t .args in listsOf (now (a .vertices)) (now (a .triangles)) (now (a .links)) (now (a .slots))
+
+abbrev exit : tie.After-mesh-grid → Lists
+exit c = let l = c .mesh-grid .last .1 .1 .1 .1 .1 .1 .1 in listsOf (l .0) (l .1 .0) (l .1 .1 .0) (l .1 .1 .1 .0)
+
+-- what the mesh call told and left
+meshed-so : (c : tie.After-told-by-mesh) → let t = start (meshed c) in
+    outcome (toldOf (c .told-by-mesh .result)) (exit (meshed c))
+    ≡ meshGrid (scene t) (now (t .args .outer)) (gridIn (now (t .args .file))) (eqb (word (now (t .args .file)) 9) 1) (lists t)
+meshed-so c =
+    let m = meshed c in
+    let grid = m .before .before .before .before .before in
+    let by = grid .before in
+    let t = start m in
+    let a = t .args in
+    let culling = by .algorithm-of .ensures ∙ ap (λ (w : Work). w .culling) (by .before .read-work .ensures) in
+    mesh-told (c .told-by-mesh .ensures)
+    (m .mesh-grid .ensures
+    ∙ (λ i. meshGrid (sceneOf (scened m .scene-in .ensures i) (now (a .kinds)) (now (a .covers)) (now (a .cubes))) (now (a .outer)) (grid .grid-of .ensures i) (culling i) (lists t)))
+
+scene-in-requires : tie.Need-scene-in-requires
+scene-in-requires c κs = search needs
+
+read-work-requires : tie.Need-read-work-requires
+read-work-requires c κs = search needs
+
+algorithm-of-requires : tie.Need-algorithm-of-requires
+algorithm-of-requires c κs = search needs
+
+grid-of-requires : tie.Need-grid-of-requires
+grid-of-requires c κs = search needs
+
+mesh-grid-requires : tie.Need-mesh-grid-requires
+mesh-grid-requires c κs = search needs
+
+told-by-mesh-requires : tie.Need-told-by-mesh-requires
+told-by-mesh-requires c κs = search needs
+
+same-length : tie.Need-same-length
+same-length c = search needs
+
+same-length-2 : tie.Need-same-length-2
+same-length-2 c = search needs
+
+same-length-3 : tie.Need-same-length-3
+same-length-3 c = search needs
+
+same-length-4 : tie.Need-same-length-4
+same-length-4 c = search needs
+
+returns : tie.Need-returns
+returns c =
+    let told = c .before .before in
+    let t = start (meshed told) in
+    mesh-stops (scene t) (logIn (now (t .args .file))) (meshed-so told) (c .if1 .taken)
+
+log-of-requires : tie.Need-log-of-requires
+log-of-requires c κs = start (meshed (c .before .before)) .pre
+
+update-mesh-requires : tie.Need-update-mesh-requires
+update-mesh-requires c κs = search needs
+
+told-by-update-requires : tie.Need-told-by-update-requires
+told-by-update-requires c κs = search needs
+
+same-length-5 : tie.Need-same-length-5
+same-length-5 c =
+    let updated = c .before .before .before .before .before .before .before .before .before in
+    let told = updated .before .before .before .before .before .before .before .before in
+    updated .update-mesh .kept .1 .1 .1 .1 .1 .1 .0 ∙ meshed told .mesh-grid .kept .1 .1 .1 .1 .1 .1 .1 .0
+
+same-length-6 : tie.Need-same-length-6
+same-length-6 c = search needs
+
+same-length-7 : tie.Need-same-length-7
+same-length-7 c = search needs
+
+same-length-8 : tie.Need-same-length-8
+same-length-8 c = search needs
+
+returns-2 : tie.Need-returns-2
+returns-2 c =
+    let updated = c .before .before .before .before .before .before .before .before .before in
+    let log = updated .before .before .before .before .before in
+    let unless = log .before in
+    let told = unless .before .before in
+    let t = start (meshed told) in
+    let a = t .args in
+    update-follows (scene t) (logIn (now (a .file))) (meshed-so told) (unless .if1 .left)
+    (mesh-told (c .told-by-update .ensures)
+    (updated .update-mesh .ensures
+    ∙ (λ i. updateMesh source (sceneOf (scened (meshed told) .scene-in .ensures i) (now (a .kinds)) (now (a .covers)) (now (a .cubes))) (log .log-of .ensures i) (exit (meshed told)) (told .told-by-mesh .result .quads))))
+
+pub work-lists-spec : {M : Type 1} → statement M
+work-lists-spec =
+    tie.close
+    (tie.spec
+    scene-in-requires
+    read-work-requires
+    algorithm-of-requires
+    grid-of-requires
+    mesh-grid-requires
+    told-by-mesh-requires
+    same-length
+    same-length-2
+    same-length-3
+    same-length-4
+    returns
+    log-of-requires
+    update-mesh-requires
+    told-by-update-requires
+    same-length-5
+    same-length-6
+    same-length-7
+    same-length-8
+    returns-2)
