@@ -3,7 +3,8 @@
 // The input is records of words, read by vectors::read_record. One that starts with 0 is a base, any other a trial on the base before it.
 //
 // A base: 0; width, height, length; whether coloured; d; centre (0 to 10); the lengths of eight lists, which are grid, kinds, sets, registry,
-// vertices, triangles, links, slots (11 to 18); then these lists, a word for each byte of the first three. The last four hold a mesh and spare room.
+// vertices, triangles, links, slots (11 to 18); then these lists, a word for each byte of the first three. The last four hold a mesh and spare room,
+// at most 8,192 words each.
 //
 // A trial: 1; the call, which is 0 meshing by Naive, 1 by Culling, 2 an update by the opposite side, 3 a check, 4 an update by the side itself; 1 if
 // it goes on from what the trial before left, else it starts from the base; the quads given (0 to 3); how much is lent of each of the eight lists
@@ -577,10 +578,10 @@ fn is_right_call(trial: &[u32], bytes: &[u8], image: &mut [u32], low: &[u8]) -> 
     requires { ⌜ (19 ≤ length (now trial)) × (length (now bytes) ≡ 4 * length (now trial))
         × (19 ≤ length (now image)) × (length (now low) ≡ length (now image)) ⌝ }
 {
-    let mut vertices = words_of();
-    let mut triangles = words_of();
-    let mut links = words_of();
-    let mut slots = words_of();
+    let mut vertices = room_of();
+    let mut triangles = room_of();
+    let mut links = room_of();
+    let mut slots = room_of();
     let told = answer_afresh(
         trial,
         bytes,
@@ -691,6 +692,13 @@ fn words_of() -> [u32; 65536]
     ensures { λ r. ⌜ 65536 ≡ length r ⌝ }
 {
     [0; 65536]
+}
+
+// Room for a list of a mesh.
+fn room_of() -> [u32; 8192]
+    ensures { λ r. ⌜ 8192 ≡ length r ⌝ }
+{
+    [0; 8192]
 }
 
 // Replays the trials on standard input, and prints under a name how many were right.

@@ -5,17 +5,17 @@ use borrow.Author.Needs.{needs}
 use Rattle.trials.proofs.is_right_call.Statement.{statement}
 use Rattle.trials.proofs.is_right_call.Tie as tie
 
-words-of-requires : tie.Need-words-of-requires
-words-of-requires c κs = search needs
+room-of-requires : tie.Need-room-of-requires
+room-of-requires c κs = search needs
 
-words-of-requires-2 : tie.Need-words-of-requires-2
-words-of-requires-2 c κs = search needs
+room-of-requires-2 : tie.Need-room-of-requires-2
+room-of-requires-2 c κs = search needs
 
-words-of-requires-3 : tie.Need-words-of-requires-3
-words-of-requires-3 c κs = search needs
+room-of-requires-3 : tie.Need-room-of-requires-3
+room-of-requires-3 c κs = search needs
 
-words-of-requires-4 : tie.Need-words-of-requires-4
-words-of-requires-4 c κs = search needs
+room-of-requires-4 : tie.Need-room-of-requires-4
+room-of-requires-4 c κs = search needs
 
 slice-aggregate-answer-afresh : tie.Need-slice-aggregate-answer-afresh
 slice-aggregate-answer-afresh c = search needs
@@ -65,10 +65,10 @@ pub is-right-call-spec : {M : Type 1} → statement M
 is-right-call-spec =
     tie.close
     (tie.spec
-    words-of-requires
-    words-of-requires-2
-    words-of-requires-3
-    words-of-requires-4
+    room-of-requires
+    room-of-requires-2
+    room-of-requires-3
+    room-of-requires-4
     slice-aggregate-answer-afresh
     slice-aggregate-answer-afresh-2
     slice-aggregate-answer-afresh-3
