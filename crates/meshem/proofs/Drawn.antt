@@ -17,10 +17,11 @@ use Rattle.drawing.specs.Written.{rowsOf, linkRow, wordRow, named}
 use Rattle.drawing.proofs.Patterns.{length-patterns}
 use Rattle.drawing.proofs.Turns.{rows-then, kept-rows, named-then, kept-named}
 use Rattle.drawing.proofs.Laid.{rows-laid, places-laid, slots-named}
-use Rattle.meshem.specs.Fresh.{setAt, facesOf, asked, keysOf}
-use Rattle.meshem.proofs.Sets.{named-set, asked-cong}
-use Rattle.meshem.proofs.Rows.{asked-on}
-use Rattle.meshem.proofs.Keys.{length-keys, keys-none, keys-on, keys-like, rising-first, quadOn, quads-of-keys, asked-fresh}
+use Rattle.listing.specs.Fresh.{setAt, facesOf, asked, keysOf}
+use Rattle.listing.proofs.Sets.{named-set, asked-cong}
+use Rattle.listing.proofs.Rows.{asked-on}
+use Rattle.listing.proofs.Keys.{length-keys, keys-none, keys-on, keys-like}
+use Rattle.meshem.proofs.Faces.{rising-first, quadOn, quads-of-keys, asked-fresh}
 use Rattle.meshem.proofs.Turns.{set-world}
 
 module _ (S : Scene) (g : List ℕ) (sets : ℕ → ℕ) where

@@ -25,9 +25,9 @@ use Rattle.culling.specs.Culling.{worldOf}
 use Rattle.drawing.specs.Written.{Slotted, Side}
 use Rattle.lent.specs.Scenes.{inputVerdict, Admitted}
 use Rattle.lent.proofs.Admitted.{admitted}
-use Rattle.meshem.specs.Fresh.{Rows, setAt, facesOf, asked, keysOf}
-use Rattle.meshem.proofs.Rows.{asked-le, asked-few, asked-on}
-use Rattle.meshem.proofs.Keys.{row-keys, row-asked}
+use Rattle.listing.specs.Fresh.{Rows, setAt, facesOf, asked, keysOf}
+use Rattle.listing.proofs.Rows.{asked-le, asked-few, asked-on}
+use Rattle.listing.proofs.Keys.{row-keys, row-asked}
 use Rattle.meshem.proofs.Turns.{found-sides, from-cubes, row-slots}
 use Rattle.meshem.proofs.Drawn.{Drawn, begun, row-more, kept-vertices, kept-links, kept-slots, found-asked, drawn-all}
 use Rattle.meshem.proofs.Whole.{refusing, no-room, done}

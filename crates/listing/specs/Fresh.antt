@@ -3,11 +3,10 @@ use Prim.Native.Nat.{ℕ, zero, suc, _+_, _-_, _<_}
 use mathlib.Core.Path.{_≡_}
 use mathlib.Core.Bool.{Bool, cond}
 use mathlib.Core.List.{List}
-use lib.ListN.{length, getD}
+use lib.ListN.{getD}
 use Rattle.rules.specs.Lists.{each, only}
 use Rattle.rules.specs.Cells.{Size, keyOf, has, setOf, quadsOf}
 use Rattle.rules.specs.Mesh.{World, typeAt, isNormalCube, drawn}
-use Rattle.culling.specs.Rows.{Whole, Plainly}
 
 -- Culling draws what is shown, Naive all six of a NormalCube
 abbrev pub sideDrawn : Bool → World → List ℕ → List ℕ → ℕ → ℕ → Bool
@@ -19,12 +18,6 @@ setAt culling W outer g c = setOf (sideDrawn culling W outer g c)
 -- the faces of a side set
 abbrev pub facesOf : ℕ → List ℕ
 facesOf set = each 6 0 (λ f. only (has set f) f)
-
--- a whole grid, and what is known of its types
-pub record Rows (size : Size) (g kinds covers : List ℕ) (clear full : ℕ) : Type 0 where
-  pub grid : Whole size g (length covers)
-  pub both : length covers ≡ length kinds
-  pub plain : Plainly kinds covers clear full
 
 -- a list holds what is asked of n cells from c on
 abbrev pub RowOf : (ℕ → ℕ) → ℕ → ℕ → List ℕ → Type 0

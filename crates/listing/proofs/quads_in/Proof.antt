@@ -1,4 +1,4 @@
--- `meshem::quads_in` meets its contract: the sets before x are counted. Assumes nothing.
+-- `listing::quads_in` meets its contract: the sets before x are counted. Assumes nothing.
 use mathlib.Core.Path.{_≡_, refl, ap, _∙_}
 use mathlib.Core.List.{List}
 use Prim.Native.Nat.{ℕ, _+_, _-_, _≤_, _<_}
@@ -7,10 +7,10 @@ use native.Mathlib.Omega.{arith}
 use denote.Ref.{now}
 use lib.ListN.{length, getD, drop, length-drop}
 use lib.Seq.{getD-take, getD-drop, length-take-le}
-use Rattle.meshem.specs.Fresh.{setsFrom, asked}
-use Rattle.meshem.proofs.Rows.{asked-few, asked-row, asked-on}
-use Rattle.meshem.proofs.quads_in.Statement.{statement}
-use Rattle.meshem.proofs.quads_in.Tie as tie
+use Rattle.listing.specs.Fresh.{setsFrom, asked}
+use Rattle.listing.proofs.Rows.{asked-few, asked-row, asked-on}
+use Rattle.listing.proofs.quads_in.Statement.{statement}
+use Rattle.listing.proofs.quads_in.Tie as tie
 
 abbrev Inv-loop : tie.InvT-loop
 Inv-loop sets n₀ x₀ n x = (x ≤ length sets) × (n ≡ asked (setsFrom 0 sets) 0 x)

@@ -6,8 +6,8 @@ use native.Mathlib.Omega.{arith}
 use lib.ListN.{length, getD, take}
 use lib.Seq.{getD-take, length-take-le}
 use Rattle.rules.specs.Cells.{quadsOf}
-use Rattle.meshem.specs.Fresh.{RowOf, setsFrom, asked}
-use Rattle.meshem.proofs.Sets.{quads-le}
+use Rattle.listing.specs.Fresh.{RowOf, setsFrom, asked}
+use Rattle.listing.proofs.Sets.{quads-le}
 
 pub asked-split : (sets : ℕ → ℕ) (m n c : ℕ) → asked sets c (m + n) ≡ asked sets c m + asked sets (c + m) n
 unfolding asked

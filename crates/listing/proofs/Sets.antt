@@ -16,7 +16,7 @@ use Rattle.rules.proofs.ListLaws.{members, read-one, split}
 use Rattle.rules.proofs.Sets.{has-setOf, set-is, setOf-lt}
 use Rattle.culling.specs.Culling.{outerSet}
 use Rattle.culling.proofs.Sides.{setOf-cong}
-use Rattle.meshem.specs.Fresh.{sideDrawn, setAt, facesOf, asked}
+use Rattle.listing.specs.Fresh.{sideDrawn, setAt, facesOf, asked}
 
 -- ---- the outer list by its set
 member-faces : (set f : ℕ) → f < 6 → member f (facesOf set) ≡ has set f
@@ -89,8 +89,3 @@ pub asked-cong : (n c : ℕ) (s t : ℕ → ℕ) → ((k : ℕ) → s k ≡ t k)
 unfolding asked
 asked-cong zero c s t e = refl
 asked-cong (suc n) c s t e = rw (e c, asked-cong n (suc c) s t e)
-
--- both algorithms are one test
-pub fresh-by : (S : Scene) (outer g : List ℕ) (culling : Bool) → freshMesh S outer g culling ≡ meshBy (world S) (sideDrawn culling (world S) outer g) g
-fresh-by S outer g true = refl
-fresh-by S outer g false = refl

@@ -9,69 +9,63 @@ use native.Mathlib.Omega.{arith}
 use lib.ListN.{length, getD, take, length-set}
 use lib.ListN as list
 use lib.Seq.{take-suc-set, take-set-le}
-use mir.Val.{boolByte}
 use Rattle.rules.specs.Lists.{each, only, count}
 use Rattle.rules.specs.Cells.{keyOf, has, rank, quadsOf}
 use Rattle.rules.proofs.Rows.{each-more}
-use Rattle.meshem.specs.Fresh.{setsFrom, asked, cellKeys, keysOf}
-use Rattle.meshem.proofs.Sets.{few-below}
-use Rattle.meshem.proofs.Rows.{asked-step, asked-few}
-use Rattle.meshem.proofs.Keys.{keys-none, keys-more}
-
--- a test counts one or none
-pub counts : (b : Bool) → boolByte b ≡ cond b 1 0
-counts true = refl
-counts false = refl
-
-pub counts-le : (b : Bool) → boolByte b ≤ 1
-counts-le true = omega arith
-counts-le false = omega arith
+use Rattle.listing.specs.Fresh.{setsFrom, asked, cellKeys, keysOf}
+use Rattle.listing.proofs.Sets.{few-below}
+use Rattle.listing.proofs.Rows.{asked-step, asked-few}
+use Rattle.listing.proofs.Keys.{keys-none, keys-more}
 
 -- ---- the faces of a cell
 
--- those below f are listed past the first n keys, and `at` is the next place
-pub record Listed (cell set n f at : ℕ) (old keys : List ℕ) : Type 0 where
-  pub place : at ≡ n + rank set f
-  pub is : take at keys ≡ take n old ++ each f 0 (λ i. only (has set i) (keyOf cell i))
+-- those below f are listed past the first n keys
+pub record Listed (cell set n f : ℕ) (old keys : List ℕ) : Type 0 where
+  pub is : take (n + rank set f) keys ≡ take n old ++ each f 0 (λ i. only (has set i) (keyOf cell i))
   pub kept : length keys ≡ length old
 
 pub none-of-none : (cell n : ℕ) (old : List ℕ) → (n ≡ n + quadsOf 0) × (take n old ≡ take n old ++ cellKeys 0 cell)
 unfolding each count
 none-of-none cell n old = (sym (add-zero n), sym (append-nil (take n old)))
 
-pub begin : (cell set n : ℕ) (old : List ℕ) → Listed cell set n 0 n old old
+pub begin : (cell set n : ℕ) (old : List ℕ) → Listed cell set n 0 old old
 unfolding each count
-begin cell set n old = record { place = sym (add-zero n); is = sym (append-nil (take n old)); kept = refl }
+begin cell set n old = record { is = rw (add-zero n) (sym (append-nil (take n old))); kept = refl }
 
-pub low : {cell set n f at : ℕ} {old keys : List ℕ} → Listed cell set n f at old keys → at ≤ n + f
-low {cell} {set} {n} {f} l = omega (arith, l .place, few-below (has set) f)
+pub rank-few : (set f : ℕ) → f < 6 → rank set f ≤ 5
+rank-few set f h = omega (arith, few-below (has set) f)
 
 one-more : (at v : ℕ) (keys : List ℕ) → at < length keys → (b : Bool) → take (at + cond b 1 0) (list.set keys at v) ≡ take at keys ++ only b v
 one-more at v keys h true = rw (add-one at) (take-suc-set keys at v h)
 one-more at v keys h false = rw (add-zero at) (take-set-le at keys at v (omega arith) ∙ sym (append-nil (take at keys)))
 
-pub next : {cell set n f at at₁ : ℕ} {old keys keys₁ : List ℕ} → n + 6 ≤ length old → f < 6 → Listed cell set n f at old keys
-    → at₁ ≡ at + cond (has set f) 1 0 → keys₁ ≡ list.set keys at (keyOf cell f) → Listed cell set n (f + 1) at₁ old keys₁
+pub next : {cell set n f at : ℕ} {old keys : List ℕ} (v : ℕ) → n + 6 ≤ length old → f < 6 → Listed cell set n f old keys
+    → at ≡ n + rank set f → v ≡ keyOf cell f → Listed cell set n (f + 1) old (list.set keys at v)
 unfolding count
-next {cell} {set} {n} {f} {at} {at₁} {old} {keys} {keys₁} room h l p e =
-    let few = low l in
+next {cell} {set} {n} {f} {at} {old} {keys} v room h l p e =
+    let few = rank-few set f h in
     let same = l .kept in
     let row : ℕ → List ℕ = λ i. only (has set i) (keyOf cell i) in
     let z : 0 + f ≡ f = omega arith in
     let more : each f 0 row ++ row f ≡ each (f + 1) 0 row =
     ap (λ (i : ℕ). each f 0 row ++ row i) (sym z) ∙ sym (each-more f 0 row) ∙ ap (λ (i : ℕ). each i 0 row) (sym (add-one f)) in
     let k : rank set (f + 1) ≡ rank set f + cond (has set f) 1 0 = ap (rank set) (add-one f) in
+    let on : n + rank set (f + 1) ≡ at + cond (has set f) 1 0 = omega arith in
     record {
-      place = omega (arith, p, l .place, k);
-      is = (λ i. take (p i) (e i)) ∙ one-more at (keyOf cell f) keys (omega arith) (has set f) ∙ ap (λ (r : List ℕ). r ++ row f) (l .is)
+      is = ap (λ (i : ℕ). take i (list.set keys at v)) on ∙ one-more at v keys (omega arith) (has set f)
+          ∙ (λ i. take (p i) keys ++ only (has set f) (e i)) ∙ ap (λ (r : List ℕ). r ++ row f) (l .is)
           ∙ append-assoc (take n old) (each f 0 row) (row f) ∙ ap (λ (r : List ℕ). take n old ++ r) more;
-      kept = ap length e ∙ length-set keys at (keyOf cell f) ∙ same;
+      kept = length-set keys at v ∙ same;
     }
 
-pub end : {cell set n f at : ℕ} {old keys : List ℕ} → f ≡ 6 → Listed cell set n f at old keys
+pub all-ranks : (set : ℕ) → rank set 5 + cond (has set 5) 1 0 ≡ quadsOf set
+unfolding count
+all-ranks set = refl
+
+pub end : {cell set n f at : ℕ} {old keys : List ℕ} → f ≡ 6 → at ≡ n + quadsOf set → Listed cell set n f old keys
     → (at ≡ n + quadsOf set) × (take at keys ≡ take n old ++ cellKeys set cell)
-end {cell} {set} {n} {f} {at} {old} e l =
-    (l .place ∙ ap (λ (k : ℕ). n + rank set k) e, l .is ∙ ap (λ (k : ℕ). take n old ++ each k 0 (λ i. only (has set i) (keyOf cell i))) e)
+end {cell} {set} {n} {f} {at} {old} {keys} e p l =
+    (p, ap (λ (i : ℕ). take i keys) (p ∙ ap (λ (k : ℕ). n + rank set k) (sym e)) ∙ l .is ∙ ap (λ (k : ℕ). take n old ++ each k 0 (λ i. only (has set i) (keyOf cell i))) e)
 
 -- ---- the cells of a row
 

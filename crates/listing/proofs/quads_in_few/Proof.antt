@@ -1,4 +1,4 @@
--- `meshem::quads_in_few` meets its contract: what is counted and what is left to count are all that is asked. Assumes nothing.
+-- `listing::quads_in_few` meets its contract: what is counted and what is left to count are all that is asked. Assumes nothing.
 use mathlib.Core.Path.{_≡_, ap, _∙_}
 use Prim.Native.Nat.{ℕ, _+_, _-_, _*_, _≤_}
 use borrow.Author.Needs.{needs}
@@ -6,10 +6,10 @@ use native.Mathlib.Omega.{arith}
 use denote.Ref.{now}
 use lib.ListN.{length, getD}
 use Rattle.rules.specs.Cells.{quadsOf}
-use Rattle.meshem.specs.Fresh.{setsFrom, asked}
-use Rattle.meshem.proofs.Sets.{quads-le, asked-more, asked-none}
-use Rattle.meshem.proofs.quads_in_few.Statement.{statement}
-use Rattle.meshem.proofs.quads_in_few.Tie as tie
+use Rattle.listing.specs.Fresh.{setsFrom, asked}
+use Rattle.listing.proofs.Sets.{quads-le, asked-more, asked-none}
+use Rattle.listing.proofs.quads_in_few.Statement.{statement}
+use Rattle.listing.proofs.quads_in_few.Tie as tie
 
 abbrev Inv-loop : tie.InvT-loop
 Inv-loop sets n₀ x₀ n x =

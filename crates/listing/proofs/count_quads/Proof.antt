@@ -1,4 +1,4 @@
--- `meshem::count_quads` meets its contract: before a row, the quads of the rows before it are counted. Assumes nothing.
+-- `listing::count_quads` meets its contract: before a row, the quads of the rows before it are counted. Assumes nothing.
 use mathlib.Core.Path.{_≡_, refl, sym, ap, _∙_}
 use Prim.Native.Nat.{ℕ, _+_, _-_, _≤_, _<_}
 use borrow.Author.Needs.{needs}
@@ -9,12 +9,12 @@ use lib.Seq.{getD-take, length-take-le}
 use Rattle.rules.specs.Cells.{Size, cells, coordinates}
 use Rattle.util.specs.Grid.{Starts, sizeOf, cordsOf}
 use Rattle.culling.specs.Culling.{worldOf}
-use Rattle.meshem.specs.Fresh.{setAt, facesOf, asked}
-use Rattle.meshem.proofs.Sets.{set-below}
+use Rattle.listing.specs.Fresh.{setAt, facesOf, asked}
+use Rattle.listing.proofs.Sets.{set-below}
 use Rattle.util.proofs.Rows.{first, row-end}
-use Rattle.meshem.proofs.Rows.{asked-few, asked-row, asked-on}
-use Rattle.meshem.proofs.count_quads.Statement.{statement}
-use Rattle.meshem.proofs.count_quads.Tie as tie
+use Rattle.listing.proofs.Rows.{asked-few, asked-row, asked-on}
+use Rattle.listing.proofs.count_quads.Statement.{statement}
+use Rattle.listing.proofs.count_quads.Tie as tie
 
 abbrev Inv-loop : tie.InvT-loop
 Inv-loop dims culling look along grid kinds covers sets₀ width end n₀ row₀ sets n row =
@@ -55,13 +55,13 @@ side-row-requires : tie.Need-side-row-requires Inv-loop μ-loop
 side-row-requires c κs =
     let i = c .before in
     let s = given i in
-    (s .pre .0, s .pre .1, row i, omega (arith, i .before .before .loop .inv .2, s .pre .2), s .pre .3)
+    (s .pre .0, row i, omega (arith, i .before .before .loop .inv .2, s .pre .1), s .pre .2)
 
 -- the list of sets has room for a row
 long-enough : (c : tie.After-side-row Inv-loop μ-loop) → given (c .before .before) .args .dims .width ≤ length (c .side-row .last .0)
 long-enough c =
     let i = c .before .before in
-    omega (arith, c .side-row .kept .0, i .before .before .loop .inv .2, given i .pre .2)
+    omega (arith, c .side-row .kept .0, i .before .before .loop .inv .2, given i .pre .1)
 
 slice-reshare-prefix-quads-in : tie.Need-slice-reshare-prefix-quads-in Inv-loop μ-loop
 slice-reshare-prefix-quads-in c = long-enough (c .before .before)
