@@ -1,22 +1,20 @@
--- The side sets of a fresh mesh, by the outer list and by its set, and how many quads they ask for. Assumes nothing.
-use mathlib.Core.Path.{_≡_, refl, sym, ap, _∙_}
+-- The side sets of a fresh mesh, by the outer list and by its set, and how many quads a set asks for. Assumes nothing.
+use mathlib.Core.Path.{_≡_, refl, sym, _∙_}
 use mathlib.Core.Logic.{_≢_}
 use mathlib.Core.Bool.{Bool, true, false, cond}
 use mathlib.Core.List.{List}
 use mathlib.Core.Option.{Option, none, some}
 use Prim.Native.Nat.{ℕ, zero, suc, _+_, _-_, _≤_, _<_}
 use native.Mathlib.Omega.{arith}
-use lib.ListN.{length}
 use borrow.Author.Tests.{eq-eqb, ne-eqb}
-use Rattle.rules.specs.Lists.{each, only, member, count}
+use Rattle.rules.specs.Lists.{only, member, count}
 use Rattle.rules.specs.Cells.{has, quadsOf, neighbour}
-use Rattle.rules.specs.Mesh.{World, meshBy, isNormalCube, typeAt, shown}
-use Rattle.rules.specs.Calls.{Scene, world, freshMesh}
+use Rattle.rules.specs.Mesh.{World, isNormalCube, typeAt, shown}
 use Rattle.rules.proofs.ListLaws.{members, read-one, split}
 use Rattle.rules.proofs.Sets.{has-setOf, set-is, setOf-lt}
 use Rattle.culling.specs.Culling.{outerSet}
 use Rattle.culling.proofs.Sides.{setOf-cong}
-use Rattle.listing.specs.Fresh.{sideDrawn, setAt, facesOf, asked}
+use Rattle.listing.specs.Fresh.{sideDrawn, setAt, facesOf}
 
 -- ---- the outer list by its set
 member-faces : (set f : ℕ) → f < 6 → member f (facesOf set) ≡ has set f
@@ -72,20 +70,3 @@ few-below p (suc n) =
 
 pub quads-le : (set : ℕ) → quadsOf set ≤ 6
 quads-le set = few-below (has set) 6
-
-pub asked-more : (sets : ℕ → ℕ) (n c : ℕ) → c < n → asked sets c (n - c) ≡ quadsOf (sets c) + asked sets (c + 1) (n - (c + 1))
-unfolding asked
-asked-more sets n c h =
-    let a : n - c ≡ suc (n - (c + 1)) = omega arith in
-    let b : suc c ≡ c + 1 = omega arith in
-    rw a (ap (λ (k : ℕ). quadsOf (sets c) + asked sets k (n - (c + 1))) b)
-
-pub asked-none : (sets : ℕ → ℕ) (n c : ℕ) → n ≤ c → asked sets c (n - c) ≡ 0
-unfolding asked
-asked-none sets n c h = let a : n - c ≡ 0 = omega arith in rw a
-
--- sets that are the same ask for the same
-pub asked-cong : (n c : ℕ) (s t : ℕ → ℕ) → ((k : ℕ) → s k ≡ t k) → asked s c n ≡ asked t c n
-unfolding asked
-asked-cong zero c s t e = refl
-asked-cong (suc n) c s t e = rw (e c, asked-cong n (suc c) s t e)

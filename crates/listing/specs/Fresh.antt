@@ -5,7 +5,7 @@ use mathlib.Core.Bool.{Bool, cond}
 use mathlib.Core.List.{List}
 use lib.ListN.{getD}
 use Rattle.rules.specs.Lists.{each, only}
-use Rattle.rules.specs.Cells.{Size, keyOf, has, setOf, quadsOf}
+use Rattle.rules.specs.Cells.{keyOf, has, setOf, quadsOf}
 use Rattle.rules.specs.Mesh.{World, typeAt, isNormalCube, drawn}
 
 -- Culling draws what is shown, Naive all six of a NormalCube

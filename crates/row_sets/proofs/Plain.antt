@@ -14,7 +14,7 @@ use lib.Seq.{getD-set-same, getD-set-other}
 use borrow.Author.Count.{below-more}
 use borrow.Author.Tests.{ltb-true, ltb-false, lt-ltb, leb-true, leb-false, eq-eqb, ne-eqb, eqb-true, eqb-false}
 use Rattle.rules.specs.Lists.{every, member}
-use Rattle.rules.specs.Cells.{Size, Triple, cells, xOf, yOf, zOf, coordinates, opposite, onlyIf, neighbour, has, setOf}
+use Rattle.rules.specs.Cells.{Size, Triple, cells, coordinates, opposite, onlyIf, neighbour, has, setOf}
 use Rattle.rules.specs.Mesh.{typeAt, shown, drawn}
 use Rattle.rules.proofs.ListLaws.{within}
 use Rattle.rules.proofs.Searches.{every-at}
@@ -23,13 +23,13 @@ use Rattle.rules.proofs.Neighbours.{beside}
 use Rattle.util.specs.Grid.{sizeOf, cordsOf, Within, Starts}
 use Rattle.util.proofs.Rows.{row-end, row-cords}
 use Rattle.util.proofs.Neighbors.{steps}
-use Rattle.culling.specs.Culling.{worldOf, outerSet, Whole}
+use Rattle.culling.specs.Culling.{worldOf, outerSet}
 use Rattle.culling.proofs.Sides.{setOf-cong}
 use Rattle.culling.proofs.Passing.{Passed}
 use Rattle.row_sets.specs.declared.Look.{Look}
 use Rattle.row_sets.specs.declared.Codes.{Codes}
 use Rattle.row_sets.specs.declared.Around.{Around}
-use Rattle.row_sets.specs.Rows.{ClearBelow, FullFrom, Plainly, Plain, Seen, codeOf, plainSet, plainShown, plainAt, isRowFace, RowBeside, isThere, RowsOf, sidesAt, Along, Beside, Read, PlainAround, plainIn}
+use Rattle.row_sets.specs.Rows.{ClearBelow, FullFrom, Plainly, Plain, Seen, codeOf, plainSet, plainShown, plainAt, isRowFace, RowBeside, isThere, RowsOf, Along, Beside, PlainAround, plainIn}
 
 -- ---- faces of a set that is made bit by bit
 
@@ -280,28 +280,19 @@ module _ (kinds covers : List ℕ) (clear full : ℕ) (p : Plainly kinds covers 
   pub open-is-shown : (f : ℕ) → f < 6 → ltb t full ≡ not (has (getD covers t 0) (opposite f))
   open-is-shown f h = go (ltb t full) refl plain
     where
-      whole : (f : ℕ) → f < 6 → not (has 63 (opposite f)) ≡ false
-      whole zero h = refl
-      whole (suc zero) h = refl
-      whole (suc (suc zero)) h = refl
-      whole (suc (suc (suc zero))) h = refl
-      whole (suc (suc (suc (suc zero)))) h = refl
-      whole (suc (suc (suc (suc (suc zero))))) h = refl
-      whole (suc (suc (suc (suc (suc (suc f)))))) h = absurd (omega arith)
-
-      bare : (f : ℕ) → f < 6 → not (has 0 (opposite f)) ≡ true
-      bare zero h = refl
-      bare (suc zero) h = refl
-      bare (suc (suc zero)) h = refl
-      bare (suc (suc (suc zero))) h = refl
-      bare (suc (suc (suc (suc zero)))) h = refl
-      bare (suc (suc (suc (suc (suc zero))))) h = refl
-      bare (suc (suc (suc (suc (suc (suc f)))))) h = absurd (omega arith)
+      ends : (f : ℕ) → f < 6 → (not (has 63 (opposite f)) ≡ false) × (not (has 0 (opposite f)) ≡ true)
+      ends zero h = (refl, refl)
+      ends (suc zero) h = (refl, refl)
+      ends (suc (suc zero)) h = (refl, refl)
+      ends (suc (suc (suc zero))) h = (refl, refl)
+      ends (suc (suc (suc (suc zero)))) h = (refl, refl)
+      ends (suc (suc (suc (suc (suc zero))))) h = (refl, refl)
+      ends (suc (suc (suc (suc (suc (suc f)))))) h = absurd (omega arith)
 
       go : (b : Bool) → ltb t full ≡ b → Plain clear full t → ltb t full ≡ not (has (getD covers t 0) (opposite f))
-      go true e (inl q) = e ∙ sym (ap (λ (n : ℕ). not (has n (opposite f))) (p .below .cover t q) ∙ bare f h)
+      go true e (inl q) = e ∙ sym (ap (λ (n : ℕ). not (has n (opposite f))) (p .below .cover t q) ∙ ends f h .1)
       go true e (inr q) = absurd (let l : t < full = ltb-true t full e in omega arith)
-      go false e q = e ∙ sym (ap (λ (n : ℕ). not (has n (opposite f))) (p .from .cover t (ltb-false _ _ e) typed) ∙ whole f h)
+      go false e q = e ∙ sym (ap (λ (n : ℕ). not (has n (opposite f))) (p .from .cover t (ltb-false _ _ e) typed) ∙ ends f h .0)
 
 -- LAW: the rule by bytes is the rule of culling, for a cell whose code is plain and whose neighbours' are
 module _ (s : Size) (kinds covers : List ℕ) (clear full : ℕ) (p : Plainly kinds covers clear full) (g : List ℕ)

@@ -1,29 +1,26 @@
--- `listing::quads_in_few` meets its contract: what is counted and what is left to count are all that is asked. Assumes nothing.
-use mathlib.Core.Path.{_≡_, ap, _∙_}
-use Prim.Native.Nat.{ℕ, _+_, _-_, _*_, _≤_}
-use borrow.Author.Needs.{needs}
-use native.Mathlib.Omega.{arith}
-use denote.Ref.{now}
+-- `listing::quads_in_few` meets its contract: the sets before x are counted. Assumes nothing.
+use mathlib.Core.Path.{_≡_, refl, ap, _∙_}
+use Prim.Native.Nat.{ℕ, _+_, _-_, _≤_}
 use lib.ListN.{length, getD}
 use Rattle.rules.specs.Cells.{quadsOf}
 use Rattle.listing.specs.Fresh.{setsFrom, asked}
-use Rattle.listing.proofs.Sets.{quads-le, asked-more, asked-none}
+use Rattle.listing.proofs.Sets.{quads-le}
+use Rattle.listing.proofs.Rows.{asked-few, asked-step}
+use borrow.Author.Needs.{needs}
+use native.Mathlib.Omega.{arith}
+use denote.Ref.{now}
 use Rattle.listing.proofs.quads_in_few.Statement.{statement}
 use Rattle.listing.proofs.quads_in_few.Tie as tie
 
 abbrev Inv-loop : tie.InvT-loop
-Inv-loop sets n₀ x₀ n x =
-    (x ≤ length sets) × (n ≤ 6 * x) × (n + asked (setsFrom 0 sets) x (length sets - x) ≡ asked (setsFrom 0 sets) 0 (length sets))
+Inv-loop sets n₀ x₀ n x = (x ≤ length sets) × (n ≡ asked (setsFrom 0 sets) 0 x)
 
 abbrev μ-loop : tie.MeasureT-loop
 μ-loop sets n₀ x₀ n x = length sets - x
 
 loop-holds : tie.Need-loop-holds Inv-loop μ-loop
-loop-holds c =
-    let sets = now (c .before .args .sets) in
-    let z : length sets - 0 ≡ length sets = omega arith in
-    let s : asked (setsFrom 0 sets) 0 (length sets - 0) ≡ asked (setsFrom 0 sets) 0 (length sets) = ap (asked (setsFrom 0 sets) 0) z in
-    (omega arith, omega arith, omega arith)
+unfolding asked
+loop-holds c = (omega arith, refl)
 
 shared-slice-read-quads-of : tie.Need-shared-slice-read-quads-of Inv-loop μ-loop
 shared-slice-read-quads-of c = search needs
@@ -40,30 +37,40 @@ cast-n c = omega (arith, few c)
 
 add-n : tie.Need-add-n Inv-loop μ-loop
 add-n c =
+    let s = c .before .before .before .before .before in
     let l = c .before .before .before .loop in
-    omega (arith, few c, l .inv .0, l .inv .1, c .before .before .before .before .before .pre .0)
+    omega (arith, few c, l .inv .1, asked-few (setsFrom 0 (now (s .args .sets))) (l .x) 0, c .before .before .loop-test .taken, s .pre .0)
 
 add-x : tie.Need-add-x Inv-loop μ-loop
-add-x c = omega (arith, c .before .before .before .loop .inv .0, c .before .before .before .before .before .pre .0)
+add-x c = omega (arith, c .before .before .loop-test .taken, c .before .before .before .before .before .pre .0)
 
 loop-less : tie.Need-loop-less Inv-loop μ-loop
 loop-less c = omega (arith, c .before .before .loop-test .taken)
 
 loop-again : tie.Need-loop-again Inv-loop μ-loop
 loop-again c =
-    let l = c .before .before .before .loop in
-    let t = c .before .before .loop-test .taken in
     let sets = now (c .before .before .before .before .before .args .sets) in
-    let m = asked-more (setsFrom 0 sets) (length sets) (l .x) t in
-    let q : c .quads-of .result ≡ quadsOf (getD sets (l .x - 0) 0) = c .quads-of .ensures ∙ ap (λ (k : ℕ). quadsOf (getD sets k 0)) (omega arith) in
-    (omega arith, omega (arith, few c, l .inv .1), omega (arith, l .inv .2))
+    let l = c .before .before .before .loop in
+    let q : c .quads-of .result ≡ quadsOf (getD sets (0 + l .x - 0) 0) = c .quads-of .ensures ∙ ap (λ (k : ℕ). quadsOf (getD sets k 0)) (omega arith) in
+    (omega (arith, c .before .before .loop-test .taken), omega (arith, l .inv .1, q, asked-step (setsFrom 0 sets) (l .x) 0))
 
 returns : tie.Need-returns Inv-loop μ-loop
 returns c =
     let l = c .before .loop in
-    let sets = now (c .before .before .before .args .sets) in
-    let m = asked-none (setsFrom 0 sets) (length sets) (l .x) (omega (arith, c .loop-test .left)) in
-    omega (arith, l .inv .2)
+    l .inv .1 ∙ ap (asked (setsFrom 0 (now (c .before .before .before .args .sets))) 0) (omega (arith, l .inv .0, c .loop-test .left))
 
 pub quads-in-few-spec : {M : Type 1} → statement M
-quads-in-few-spec = tie.close (tie.spec Inv-loop μ-loop loop-holds shared-slice-read-quads-of quads-of-requires cast-n add-n add-x loop-less loop-again returns)
+quads-in-few-spec =
+    tie.close
+    (tie.spec
+    Inv-loop
+    μ-loop
+    loop-holds
+    shared-slice-read-quads-of
+    quads-of-requires
+    cast-n
+    add-n
+    add-x
+    loop-less
+    loop-again
+    returns)
