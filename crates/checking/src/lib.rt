@@ -3,17 +3,15 @@ use answers::Refusal;
 use answers::Verdict;
 use answers::is_refusal;
 use answers::refuse_if;
-use culling::Look;
-use culling::clear_types;
-use culling::drawn_row;
-use culling::full_from;
 use culling::outer_set;
-use culling::sides_along;
 use face::NONE;
 use face::side_set;
 use lent::links::links_verdict;
 use lent::open_verdict;
 use lent::triangles::triangles_verdict;
+use row_sets::drawn_row;
+use row_sets::look_of;
+use row_sets::sides_along;
 use terms::Lengths;
 use terms::Scene;
 use util::Dimensions;
@@ -29,7 +27,7 @@ ghost use Rattle.rules.specs.Cells.{cells, has, setOf};
 ghost use Rattle.util.specs.Grid.{sizeOf};
 ghost use Rattle.terms.specs.Loans.{sceneLent, before};
 ghost use Rattle.culling.specs.Culling.{worldOf, outerSet};
-ghost use Rattle.culling.specs.Rows.{Along};
+ghost use Rattle.row_sets.specs.Rows.{Along};
 ghost use Rattle.checking.specs.Faces.{filledSet, unlike, wrongSlot, wrongInRow, Gridded};
 ghost use Rattle.checking.specs.Outcome.{Checks};
 
@@ -98,11 +96,7 @@ fn lowest_by_rows(
         × (outer < 64) × (dims .width ≤ length (now sets)) × Along (dims .width) (now along) ⌝ }
     ensures { λ r. ⌜ ((faces : List ℕ) → outer ≡ outerSet faces → r ≡ lowest (6 * cells (sizeOf dims)) (wrongSlot (worldOf (sizeOf dims) (now (kinds .entry)) (now (covers .entry))) faces (now (grid .entry)) (now (slots .entry)))) ⌝ }
 {
-    let look = Look {
-        outer: outer,
-        clear: clear_types(kinds, covers),
-        full: full_from(kinds, covers),
-    };
+    let look = look_of(outer, kinds, covers);
     let width = dims.width as usize;
     let end = dims.cell_count();
     let mut row = Row {
@@ -111,7 +105,7 @@ fn lowest_by_rows(
         z: 0,
     };
     while row.first < end {
-        drawn_row(sets, dims, look, along, grid, kinds, covers, row.y, row.z);
+        drawn_row(sets, dims, look, along, grid, kinds, covers, row);
         let start = row.first as usize;
         let face = lowest_in_row(&sets[..width], slots, start);
         if face < 6 * width {

@@ -21,10 +21,10 @@ use Rattle.culling.specs.Culling.{worldOf, outerSet}
 pub setOf-cong : (p q : ℕ → Bool) → ((f : ℕ) → f < 6 → p f ≡ q f) → setOf p ≡ setOf q
 setOf-cong p q e = rw (e 0 (omega arith), e 1 (omega arith), e 2 (omega arith), e 3 (omega arith), e 4 (omega arith), e 5 (omega arith))
 
--- a set summed up face by face
-pub six-sides : (p : ℕ → Bool) {a b c d e f : ℕ} → a ≡ cond (p 0) 1 0 → b ≡ cond (p 1) 2 0 → c ≡ cond (p 2) 4 0 → d ≡ cond (p 3) 8 0
-    → e ≡ cond (p 4) 16 0 → f ≡ cond (p 5) 32 0 → a + b + c + d + e + f ≡ setOf p
-six-sides p g h i j k l = cc
+-- a set told face by face
+pub six-sides : (p : ℕ → Bool) {a b c d e f : Bool} → a ≡ p 0 → b ≡ p 1 → c ≡ p 2 → d ≡ p 3 → e ≡ p 4 → f ≡ p 5
+    → cond a 1 0 + cond b 2 0 + cond c 4 0 + cond d 8 0 + cond e 16 0 + cond f 32 0 ≡ setOf p
+six-sides p a b c d e f = λ i. cond (a i) 1 0 + cond (b i) 2 0 + cond (c i) 4 0 + cond (d i) 8 0 + cond (e i) 16 0 + cond (f i) 32 0
 
 -- ---- a face added to a set
 

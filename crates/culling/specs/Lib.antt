@@ -1,2 +1,1 @@
 pub mod Culling
-pub mod Rows

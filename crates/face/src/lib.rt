@@ -3,7 +3,7 @@ ghost use mathlib.Core.Path.{_≡_};
 ghost use mathlib.Core.Bool.{cond};
 ghost use Prim.Native.Nat.{_+_, _*_, _/_, _^_, _≤_, _<_};
 ghost use Rattle.rules.specs.Cells.{UNIT, opposite, code, linkWord, cellIn, codeIn, keyOf, keyIn, firstVertex, has, quadsOf, rank};
-ghost use Rattle.face.specs.Face.{number, faceAt, faceOfCode, faceOfWord};
+ghost use Rattle.face.specs.Face.{number, faceAt, faceOfCode, faceOfWord, Ranked};
 
 // The slot of a face with no quad; zero is vertex 0.
 pub const NONE: u32 = 4_294_967_295;
@@ -216,7 +216,7 @@ pub fn quads_of(set: u8) -> u32
 }
 
 // The count of smaller faces in the set, at 6 · set + face.
-pub const RANKS: [u8; 384] = [
+const RANKS: [u8; 384] = [
     0,
     0,
     0,
@@ -603,11 +603,18 @@ pub const RANKS: [u8; 384] = [
     5, // Forward, in the set of all six
 ];
 
-// The place of a kept face among the kept ones.
-pub fn rank(set: u8, face: Face) -> u8
-    requires { ⌜ set < 64 ⌝ }
+// The table, to be lent: a constant that is read at an index is written out anew at each read.
+pub fn ranks() -> [u8; 384]
+    ensures { λ r. ⌜ Ranked r ⌝ }
+{
+    RANKS
+}
+
+// The place of a kept face among the kept ones, by the table.
+pub fn rank(ranks: &[u8; 384], set: u8, face: Face) -> u8
+    requires { ⌜ (set < 64) × Ranked (now ranks) ⌝ }
     ensures { λ r. ⌜ r ≡ rank set (number face) ⌝ }
 {
     let at = 6 * (set as usize) + (face.number() as usize);
-    RANKS[at]
+    ranks[at]
 }

@@ -56,7 +56,8 @@ fn smaller_in(set: u8, face: u32) -> u8
 fn is_rank(set: u8, face: Face, n: u8) -> bool
     requires { ⌜ set < 64 ⌝ }
 {
-    face::rank(set, face) == n
+    let ranks = face::ranks();
+    face::rank(&ranks, set, face) == n
 }
 
 fn is_size(set: u8, n: u8) -> bool

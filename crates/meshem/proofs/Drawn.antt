@@ -2,7 +2,7 @@
 use mathlib.Core.Path.{_≡_, refl, sym, ap, _∙_}
 use mathlib.Core.Bool.{Bool}
 use mathlib.Core.List.{List, _∷_, [], _++_, map}
-use Prim.Native.Nat.{ℕ, _+_, _-_, _*_, _/_, _%_, _≤_, _<_}
+use Prim.Native.Nat.{ℕ, _+_, _-_, _*_, _/_, _%_, _≤_}
 use native.Mathlib.Omega.{arith}
 use lib.ListN.{length, drop, replicate, length-map}
 use Rattle.rules.specs.Lists.{each}
@@ -17,10 +17,11 @@ use Rattle.drawing.specs.Written.{rowsOf, linkRow, wordRow, named}
 use Rattle.drawing.proofs.Patterns.{length-patterns}
 use Rattle.drawing.proofs.Turns.{rows-then, kept-rows, named-then, kept-named}
 use Rattle.drawing.proofs.Laid.{rows-laid, places-laid, slots-named}
-use Rattle.meshem.specs.Fresh.{setAt, facesOf, asked, keysOf}
-use Rattle.meshem.proofs.Sets.{named-set, asked-cong}
-use Rattle.meshem.proofs.Rows.{asked-on}
-use Rattle.meshem.proofs.Keys.{length-keys, keys-none, keys-on, keys-like, rising-first, quadOn, quads-of-keys, asked-fresh}
+use Rattle.listing.specs.Fresh.{setAt, facesOf, asked, keysOf}
+use Rattle.listing.proofs.Sets.{named-set}
+use Rattle.listing.proofs.Rows.{asked-moved, asked-on}
+use Rattle.listing.proofs.Keys.{length-keys, keys-none, keys-on, keys-like}
+use Rattle.meshem.proofs.Faces.{rising-first, quadOn, quads-of-keys, asked-fresh}
 use Rattle.meshem.proofs.Turns.{set-world}
 
 module _ (S : Scene) (g : List ℕ) (sets : ℕ → ℕ) where
@@ -92,7 +93,7 @@ module _ (S : Scene) (outer g : List ℕ) (culling by : Bool) (set : ℕ) (mode 
   found-is c = set-world S by (facesOf set) g c ∙ rw (mode, named-by) (named-set culling (world S) outer g c)
 
   pub found-asked : asked found 0 (cells (S .size)) ≡ length (freshMesh S outer g culling)
-  found-asked = asked-cong (cells (S .size)) 0 found (setAt culling (world S) outer g) found-is ∙ asked-fresh S outer g culling
+  found-asked = asked-moved found (setAt culling (world S) outer g) (cells (S .size)) 0 0 (λ x h. found-is (0 + x)) ∙ asked-fresh S outer g culling
 
   found-quads : map (quadOn (world S) g) (keysOf found 0 (cells (S .size))) ≡ freshMesh S outer g culling
   found-quads =

@@ -1,5 +1,5 @@
 -- A face that is drawn has its cube. Assumes nothing.
-use mathlib.Core.Path.{_≡_, refl, sym, ap, _∙_, subst}
+use mathlib.Core.Path.{_≡_, refl, sym, ap, subst}
 use mathlib.Core.Bool.{Bool, true, false, cond}
 use mathlib.Core.List.{List, []}
 use Prim.Native.Nat.{ℕ, zero, suc, _+_, _-_, _*_, _/_, _≤_, _<_}
@@ -21,14 +21,14 @@ use Rattle.terms.specs.declared.Scene as declared
 use Rattle.terms.specs.Scenes.{sceneOf}
 use Rattle.lent.specs.Scenes.{Typed}
 use Rattle.culling.specs.Culling.{worldOf}
-use Rattle.culling.specs.Rows.{Whole}
+use Rattle.culling.specs.Culling.{Whole}
 use Rattle.rules.proofs.ListLaws.{within}
 use Rattle.culling.proofs.Sides.{setOf-cong, drawn-by}
 use Rattle.vav.proofs.Laws.{length-part}
 use Rattle.drawing.specs.Written.{Slotted, Side}
 use Rattle.quads.specs.Quads.{Drawable}
-use Rattle.meshem.specs.Fresh.{setAt, facesOf, keysOf}
-use Rattle.meshem.proofs.Keys.{all-keys, keys-like}
+use Rattle.listing.specs.Fresh.{setAt, facesOf, keysOf}
+use Rattle.listing.proofs.Keys.{all-keys, keys-like}
 
 -- the sets ask nothing of the words of quads
 pub set-world : (S : Scene) (culling : Bool) (outer g : List ℕ) (c : ℕ)

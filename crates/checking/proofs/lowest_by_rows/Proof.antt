@@ -9,13 +9,13 @@ use denote.Ref.{now}
 use lib.ListN.{length}
 use lib.Seq.{getD-take, length-take-le}
 use Rattle.rules.specs.Lists.{lowest}
-use Rattle.rules.specs.Cells.{Size, cells, coordinates, setOf}
+use Rattle.rules.specs.Cells.{Size, cells, coordinates}
 use Rattle.rules.specs.Mesh.{World, drawn}
 use Rattle.rules.proofs.Searches.{Searched, searched, ended}
 use Rattle.util.specs.Grid.{Starts, sizeOf, cordsOf}
 use Rattle.culling.specs.Culling.{worldOf, outerSet}
 use Rattle.checking.specs.Faces.{wrongSlot, wrongInRow}
-use Rattle.util.proofs.Rows.{first, high, long, cell-is, row-end}
+use Rattle.util.proofs.Rows.{first, row-end}
 use Rattle.checking.proofs.Rows.{row-right, row-wrong}
 use Rattle.checking.proofs.lowest_by_rows.Statement.{statement}
 use Rattle.checking.proofs.lowest_by_rows.Tie as tie
@@ -38,24 +38,21 @@ size s = sizeOf (s .args .dims)
 abbrev world : tie.Start Inv-loop μ-loop → World
 world s = worldOf (size s) (now (s .args .kinds)) (now (s .args .covers))
 
-clear-types-requires : tie.Need-clear-types-requires Inv-loop μ-loop
-clear-types-requires c κs = (start c .pre .1, start c .pre .2)
-
-full-from-requires : tie.Need-full-from-requires Inv-loop μ-loop
-full-from-requires c κs = (start (c .before) .pre .1, start (c .before) .pre .2)
+look-of-requires : tie.Need-look-of-requires Inv-loop μ-loop
+look-of-requires c κs = (start c .pre .1, start c .pre .2)
 
 cast-width : tie.Need-cast-width Inv-loop μ-loop
 cast-width c = search needs
 
 cell-count-requires : tie.Need-cell-count-requires Inv-loop μ-loop
-cell-count-requires c κs = start (c .before .before .before) .pre .0 .within .sides
+cell-count-requires c κs = start (c .before .before) .pre .0 .within .sides
 
 loop-holds : tie.Need-loop-holds Inv-loop μ-loop
-loop-holds c = (c .cell-count .ensures, omega arith, refl, λ faces e. searched _ _, first (size (start (c .before .before .before .before))))
+loop-holds c = (c .cell-count .ensures, omega arith, refl, λ faces e. searched _ _, first (size (start (c .before .before .before))))
 
 -- from the loop on: what was given, and the row that starts
 abbrev given : tie.Then1 Inv-loop μ-loop → tie.Start Inv-loop μ-loop
-given i = start (i .before .before .before .before .before .before .before)
+given i = start (i .before .before .before .before .before .before)
 
 row : (i : tie.Then1 Inv-loop μ-loop) → let l = i .before .before .loop in Starts (size (given i)) (l .row .first) (l .row .y) (l .row .z)
 row i = let l = i .before .before .loop in record { inside = omega (arith, l .inv .0, i .if1 .taken); cords = l .inv .4 }
@@ -64,14 +61,16 @@ drawn-row-requires : tie.Need-drawn-row-requires Inv-loop μ-loop
 drawn-row-requires c κs =
     let i = c .before in
     let s = given i in
-    let ok = s .pre .0 in (
-      record { within = ok .within; whole = ok .whole; typed = ok .typed },
-      s .pre .1,
-      record { below = i .before .before .before .before .before .before .clear-types .ensures; from = i .before .before .before .before .before .full-from .ensures },
-      high (size s) (ok .within) (row i),
-      long (size s) (ok .within) (row i),
+    let ok = s .pre .0 in
+    let look = i .before .before .before .before .before .look-of .ensures in (
+      record {
+        grid = record { within = ok .within; whole = ok .whole; typed = ok .typed };
+        both = s .pre .1;
+        plain = look .1;
+        outer = omega (arith, look .0, s .pre .3);
+      },
+      row i,
       omega (arith, i .before .before .loop .inv .2, s .pre .4),
-      s .pre .3,
       s .pre .5,
     )
 
@@ -123,8 +122,7 @@ face-is c faces e =
     let sides : ℕ → ℕ → Bool = λ x. drawn (world s) faces (now (s .args .grid)) (k + x) in
     c .lowest-in-row .ensures sides
     (λ x h. let b : x < w = omega arith in
-    getD-take w list x 0 b ∙ r .drawn-row .ensures faces e x b
-    ∙ ap (λ (n : ℕ). setOf (drawn (world s) faces (now (s .args .grid)) n)) (cell-is (size s) (s .pre .0 .within) (row i) x))
+    getD-take w list x 0 b ∙ r .drawn-row .ensures faces (i .before .before .before .before .before .look-of .ensures .0 ∙ e) x b)
     ∙ ap (λ (n : ℕ). lowest (6 * n) (wrongInRow sides (now (s .args .slots)) k)) l
 
 wide : (i : tie.Then1 Inv-loop μ-loop) → given i .args .dims .width ≤ 1024
@@ -182,7 +180,7 @@ cast-result : tie.Need-cast-result Inv-loop μ-loop
 cast-result c = search needs
 
 mul-result-2 : tie.Need-mul-result-2 Inv-loop μ-loop
-mul-result-2 c = omega (arith, c .before .before .loop .inv .0, start (c .before .before .before .before .before .before .before) .pre .0 .within .most)
+mul-result-2 c = omega (arith, c .before .before .loop .inv .0, start (c .before .before .before .before .before .before) .pre .0 .within .most)
 
 same-length-2 : tie.Need-same-length-2 Inv-loop μ-loop
 same-length-2 c = c .before .before .loop .inv .2
@@ -199,8 +197,7 @@ lowest-by-rows-spec =
     (tie.spec
     Inv-loop
     μ-loop
-    clear-types-requires
-    full-from-requires
+    look-of-requires
     cast-width
     cell-count-requires
     loop-holds

@@ -44,48 +44,38 @@ shared-slice-read-if1 c = let start = c .before .before .before .before .before 
 returns : tie.Need-returns
 returns c = λ faces e. rw (cube (c .before .before) ∙ ne-eqb _ _ (c .if1 .taken))
 
-shown-side-requires : tie.Need-shown-side-requires
-shown-side-requires c κs = search needs
+is-shown-requires : tie.Need-is-shown-requires
+is-shown-requires c κs = search needs
 
-shown-side-requires-2 : tie.Need-shown-side-requires-2
-shown-side-requires-2 c κs = search needs
+is-shown-requires-2 : tie.Need-is-shown-requires-2
+is-shown-requires-2 c κs = search needs
 
-add-result : tie.Need-add-result
-add-result c = search needs
+is-shown-requires-3 : tie.Need-is-shown-requires-3
+is-shown-requires-3 c κs = search needs
 
-shown-side-requires-3 : tie.Need-shown-side-requires-3
-shown-side-requires-3 c κs = search needs
+is-shown-requires-4 : tie.Need-is-shown-requires-4
+is-shown-requires-4 c κs = search needs
 
-add-result-2 : tie.Need-add-result-2
-add-result-2 c = search needs
+is-shown-requires-5 : tie.Need-is-shown-requires-5
+is-shown-requires-5 c κs = search needs
 
-shown-side-requires-4 : tie.Need-shown-side-requires-4
-shown-side-requires-4 c κs = search needs
+is-shown-requires-6 : tie.Need-is-shown-requires-6
+is-shown-requires-6 c κs = search needs
 
-add-result-3 : tie.Need-add-result-3
-add-result-3 c = search needs
-
-shown-side-requires-5 : tie.Need-shown-side-requires-5
-shown-side-requires-5 c κs = search needs
-
-add-result-4 : tie.Need-add-result-4
-add-result-4 c = search needs
-
-shown-side-requires-6 : tie.Need-shown-side-requires-6
-shown-side-requires-6 c κs = let s = start (c .before .before .before .before .before .before .before) in (s .pre .0, s .pre .1)
-
-add-result-5 : tie.Need-add-result-5
-add-result-5 c = search needs
+side-set-requires : tie.Need-side-set-requires
+side-set-requires c κs = search needs
 
 returns-2 : tie.Need-returns-2
 returns-2 c =
-    λ faces e. let args = start (c .before .before .before .before .before .before .before .before) .args in
+    λ faces e. let w = c .before .before .before .before .before .before .before .before .before in
+    let args = start w .args in
     let size = sizeOf (args .dims) in
     let g = now (args .grid) in
     let side : ℕ → Bool = shownAt size (now (args .covers)) faces g (args .cell .0) in
-    let normal = cube (c .before .before .before .before .before .before .before .before) ∙ eq-eqb _ _ (c .before .before .before .before .before .before .if1 .left) in
-    six-sides side (c .before .before .before .before .before .shown-side .ensures .0 faces e) (c .before .before .before .before .shown-side2 .ensures .0 faces e) (c .before .before .before .shown-side3 .ensures .0 faces e)
-    (c .before .before .shown-side4 .ensures .0 faces e) (c .before .shown-side5 .ensures .0 faces e) (c .shown-side6 .ensures .0 faces e)
+    let normal = cube w ∙ eq-eqb _ _ (c .before .before .before .before .before .before .before .if1 .left) in
+    c .side-set .ensures
+    ∙ six-sides side (c .before .before .before .before .before .before .is-shown .ensures faces e) (c .before .before .before .before .before .is-shown2 .ensures faces e) (c .before .before .before .before .is-shown3 .ensures faces e)
+    (c .before .before .before .is-shown4 .ensures faces e) (c .before .before .is-shown5 .ensures faces e) (c .before .is-shown6 .ensures faces e)
     ∙ setOf-cong side (drawn (worldOf size (now (args .kinds)) (now (args .covers))) faces g (args .cell .0))
     (λ f l. rw normal (shown-by _ _ faces _ f (neighbour size (args .cell .0) f) refl))
 
@@ -98,15 +88,11 @@ drawn-set-spec =
     wide-requires
     shared-slice-read-if1
     returns
-    shown-side-requires
-    shown-side-requires-2
-    add-result
-    shown-side-requires-3
-    add-result-2
-    shown-side-requires-4
-    add-result-3
-    shown-side-requires-5
-    add-result-4
-    shown-side-requires-6
-    add-result-5
+    is-shown-requires
+    is-shown-requires-2
+    is-shown-requires-3
+    is-shown-requires-4
+    is-shown-requires-5
+    is-shown-requires-6
+    side-set-requires
     returns-2)

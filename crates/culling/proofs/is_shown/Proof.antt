@@ -30,9 +30,9 @@ next c = sym (c .before .before .neighbor-at .ensures) ∙ ap cellIn (c .beside 
 inside : (c : tie.After-beside) → cell c < length (now (start c .args .grid))
 inside c =
     let face = start c .args .face in
-    let laid = start c .pre .0 in
-    let sides = laid .within .sides in
-    rw (laid .whole) (beside _ (sides .wide) (sides .long) _ (laid .inside) (number face) _ (next c) .inside)
+    let whole = start c .pre .0 in
+    let sides = whole .within .sides in
+    rw (whole .whole) (beside _ (sides .wide) (sides .long) _ (start c .pre .1) (number face) _ (next c) .inside)
 
 neighbor-at-requires : tie.Need-neighbor-at-requires
 neighbor-at-requires c κs = search needs

@@ -3,11 +3,10 @@ use mathlib.Core.Path.{_≡_, refl, sym, ap, _∙_, subst}
 use mathlib.Core.List.{List, _++_}
 use Prim.Native.Nat.{ℕ, _+_, _-_, _*_, _≤_, _<_}
 use borrow.Author.Needs.{needs}
-use native.Mathlib.Nat.{mul-le-mul-left}
 use native.Mathlib.Omega.{arith}
 use denote.Ref.{now}
 use lib.ListN.{length, take, drop, replicate, length-append, length-drop, length-replicate}
-use lib.Seq.{length-take-le}
+use lib.Seq.{getD-take, length-take-le}
 use Rattle.rules.specs.Lists.{member}
 use Rattle.rules.specs.Cells.{cells, coordinates}
 use Rattle.rules.specs.Mesh.{Quad, Lists, NONE, listsOf}
@@ -21,13 +20,15 @@ use Rattle.util.specs.Grid.{Starts, sizeOf, cordsOf}
 use Rattle.util.proofs.Rows.{first, row-end}
 use Rattle.terms.specs.Scenes.{sceneOf}
 use Rattle.terms.specs.Modes.{isCulling}
-use Rattle.culling.specs.Culling.{worldOf}
+use Rattle.culling.specs.Culling.{worldOf, outerSet}
 use Rattle.drawing.specs.Written.{Slotted, Side}
 use Rattle.lent.specs.Scenes.{inputVerdict, Admitted}
 use Rattle.lent.proofs.Admitted.{admitted}
-use Rattle.meshem.specs.Fresh.{Rows, setAt, facesOf, asked, keysOf}
-use Rattle.meshem.proofs.Rows.{asked-le, asked-few, asked-on}
-use Rattle.meshem.proofs.Keys.{row-keys, row-asked}
+use Rattle.row_sets.specs.Rows.{Seen}
+use Rattle.listing.specs.Fresh.{setAt, facesOf, asked, keysOf}
+use Rattle.listing.proofs.Sets.{set-below}
+use Rattle.listing.proofs.Rows.{asked-le, asked-few, asked-on}
+use Rattle.listing.proofs.Keys.{row-keys, row-asked}
 use Rattle.meshem.proofs.Turns.{found-sides, from-cubes, row-slots}
 use Rattle.meshem.proofs.Drawn.{Drawn, begun, row-more, kept-vertices, kept-links, kept-slots, found-asked, drawn-all}
 use Rattle.meshem.proofs.Whole.{refusing, no-room, done}
@@ -35,14 +36,14 @@ use Rattle.meshem.proofs.mesh_grid.Statement.{statement}
 use Rattle.meshem.proofs.mesh_grid.Tie as tie
 
 abbrev Inv-loop : tie.InvT-loop
-Inv-loop scene outer grid kinds covers cubes vertices₀ triangles links₀ slots₀ dims culling look along sets₀ quads room width end six keys₀ base₀ row₀ vertices links slots sets keys base row =
+Inv-loop scene outer grid kinds covers cubes vertices₀ triangles links₀ slots₀ dims culling look along sets₀ quads room width end six ranks keys₀ base₀ row₀ vertices links slots sets keys base row =
     let S = sceneOf scene kinds covers cubes in
     (row .first ≤ cells (S .size)) × (cordsOf 0 (row .y) (row .z) ≡ coordinates (S .size) (row .first))
     × Drawn S grid (setAt culling (worldOf (S .size) kinds covers) (facesOf (look .outer)) grid) vertices₀ links₀ slots₀ (row .first) base vertices links slots
     × (length sets ≡ 1024) × (length keys ≡ 6144)
 
 abbrev μ-loop : tie.MeasureT-loop
-μ-loop scene outer grid kinds covers cubes vertices₀ triangles links₀ slots₀ dims culling look along sets₀ quads room width end six keys₀ base₀ row₀ vertices links slots sets keys base row =
+μ-loop scene outer grid kinds covers cubes vertices₀ triangles links₀ slots₀ dims culling look along sets₀ quads room width end six ranks keys₀ base₀ row₀ vertices links slots sets keys base row =
     cells (sizeOf (scene .dims)) - row .first
 
 abbrev start : tie.After-input-verdict Inv-loop μ-loop → tie.Start Inv-loop μ-loop
@@ -67,36 +68,40 @@ known c = let s = start (c .before .before) in admitted (scene s) (now (s .args 
 few : (c : tie.After-outer-set Inv-loop μ-loop) → c .outer-set .result < 64
 few c = rw (c .outer-set .ensures) (setOf-lt (λ f. member f (now (start (c .before .before .before .before .before) .args .outer))))
 
--- the types as the rows are told of them
-abbrev typed : tie.After-full-from Inv-loop μ-loop → tie.After-enum-told Inv-loop μ-loop
-typed c = c .before .before .before .before .before
+-- the grid and its types as the rows are told of them
+abbrev typed : tie.After-look-of Inv-loop μ-loop → tie.After-enum-told Inv-loop μ-loop
+typed c = c .before .before .before .before
 
-rows-known : (c : tie.After-full-from Inv-loop μ-loop) →
-    let s = start (typed c .before .before) in
-    Rows (scene s .size) (now (s .args .grid)) (now (s .args .kinds)) (now (s .args .covers)) (c .before .clear-types .result) (c .full-from .result)
+rows-known : (c : tie.After-look-of Inv-loop μ-loop) →
+    let s = start (typed c .before .before) in Seen (scene s .size) (now (s .args .grid)) (now (s .args .kinds)) (now (s .args .covers)) (c .look-of .result)
 rows-known c =
     let k = known (typed c) in
     record {
       grid = record { within = k .within; whole = k .whole; typed = λ i l. rw (k .typed .covered) (k .type i l) };
       both = k .typed .covered;
-      plain = record { below = c .before .clear-types .ensures; from = c .full-from .ensures };
+      plain = c .look-of .ensures .1;
+      outer = omega (arith, c .look-of .ensures .0, few (c .before));
     }
 
 -- ---- what is counted
 
-abbrev counting : tie.After-count-quads Inv-loop μ-loop → tie.After-full-from Inv-loop μ-loop
+abbrev counting : tie.After-count-quads Inv-loop μ-loop → tie.After-look-of Inv-loop μ-loop
 counting c = c .before .before .before .before .before .before
 
 abbrev begin : tie.After-count-quads Inv-loop μ-loop → tie.Start Inv-loop μ-loop
 begin c = start (typed (counting c) .before .before)
 
 abbrev by : tie.After-count-quads Inv-loop μ-loop → tie.After-outer-set Inv-loop μ-loop
-by c = counting c .before .before
+by c = counting c .before
 
 abbrev sets : tie.After-count-quads Inv-loop μ-loop → ℕ → ℕ
 sets c =
     let s = begin c in
-    setAt (by c .before .is-culling .result) (worldOf (scene s .size) (now (s .args .kinds)) (now (s .args .covers))) (facesOf (by c .outer-set .result)) (now (s .args .grid))
+    setAt (by c .before .is-culling .result) (worldOf (scene s .size) (now (s .args .kinds)) (now (s .args .covers))) (facesOf (counting c .look-of .result .outer)) (now (s .args .grid))
+
+-- the outer faces are those of the list
+outer-is : (c : tie.After-count-quads Inv-loop μ-loop) → counting c .look-of .result .outer ≡ outerSet (now (begin c .args .outer))
+outer-is c = counting c .look-of .ensures .0 ∙ by c .outer-set .ensures
 
 abbrev fresh : tie.After-count-quads Inv-loop μ-loop → List Quad
 fresh c = let s = begin c in freshMesh (scene s) (now (s .args .outer)) (now (s .args .grid)) (isCulling (s .args .algorithm))
@@ -106,7 +111,7 @@ quads-are : (c : tie.After-count-quads Inv-loop μ-loop) → c .count-quads .res
 quads-are c =
     let s = begin c in
     c .count-quads .ensures
-    ∙ found-asked (scene s) (now (s .args .outer)) (now (s .args .grid)) (isCulling (s .args .algorithm)) _ _ (by c .before .is-culling .ensures) (by c .outer-set .ensures)
+    ∙ found-asked (scene s) (now (s .args .outer)) (now (s .args .grid)) (isCulling (s .args .algorithm)) _ _ (by c .before .is-culling .ensures) (outer-is c)
 
 room-is : (c : tie.After-room-of Inv-loop μ-loop) → let s = begin (c .before .before) in c .room-of .result ≡ room (scene s) (lists s)
 room-is c = let s = begin (c .before .before) in c .room-of .ensures (lists s) (record { vertices = refl; triangles = refl; links = refl; slots = refl })
@@ -159,11 +164,8 @@ is-culling-requires c κs = search needs
 outer-set-requires : tie.Need-outer-set-requires Inv-loop μ-loop
 outer-set-requires c κs = known (c .before .before) .face
 
-clear-types-requires : tie.Need-clear-types-requires Inv-loop μ-loop
-clear-types-requires c κs = let k = known (c .before .before .before) in (k .typed .covered, k .typed .counted .few)
-
-full-from-requires : tie.Need-full-from-requires Inv-loop μ-loop
-full-from-requires c κs = let k = known (c .before .before .before .before) in (k .typed .covered, k .typed .counted .few)
+look-of-requires : tie.Need-look-of-requires Inv-loop μ-loop
+look-of-requires c κs = let k = known (c .before .before .before) in (k .typed .covered, k .typed .counted .few)
 
 slice-aggregate-sides-along : tie.Need-slice-aggregate-sides-along Inv-loop μ-loop
 slice-aggregate-sides-along c = search needs
@@ -181,7 +183,7 @@ count-quads-requires : tie.Need-count-quads-requires Inv-loop μ-loop
 count-quads-requires c κs =
     let f = c .before .before .before .before .before in
     let k = known (typed f) in
-    (rows-known f, few (f .before .before), k .within .sides .widest, c .before .before .before .sides-along .ensures)
+    (rows-known f, k .within .sides .widest, c .before .before .before .sides-along .ensures)
 
 room-of-requires : tie.Need-room-of-requires Inv-loop μ-loop
 room-of-requires c κs = search needs
@@ -226,16 +228,19 @@ write-patterns-requires c κs =
     let s = begin q in
     (room-for (scene s) (lists s) (q .count-quads .result) (fits l) .triangles, omega (arith, few-quads q))
 
+ranks-requires : tie.Need-ranks-requires Inv-loop μ-loop
+ranks-requires c κs = search needs
+
 loop-holds : tie.Need-loop-holds Inv-loop μ-loop
 loop-holds c =
-    let l = c .before .before .before .before .before .before .before .before .before .before in
+    let l = c .before .before .before .before .before .before .before .before .before .before .before in
     let q = counted l in
     (omega arith, first (scene (begin q) .size), begun _ _ _ _ _ _, omega (arith, q .count-quads .kept), refl)
 
 -- ---- a row
 
 abbrev roomy : tie.Then2 Inv-loop μ-loop → tie.Else1 Inv-loop μ-loop
-roomy i = i .before .before .before .before .before .before .before .before .before .before .before .before .before
+roomy i = i .before .before .before .before .before .before .before .before .before .before .before .before .before .before
 
 abbrev done-with : tie.Then2 Inv-loop μ-loop → tie.After-count-quads Inv-loop μ-loop
 done-with i = counted (roomy i)
@@ -243,7 +248,7 @@ done-with i = counted (roomy i)
 row : (i : tie.Then2 Inv-loop μ-loop) → let l = i .before .before .loop in Starts (scene (begin (done-with i)) .size) (l .row .first) (l .row .y) (l .row .z)
 row i =
     let l = i .before .before .loop in
-    record { inside = omega (arith, i .before .before .before .before .before .before .before .before .before .before .before .cell-count .ensures, i .if2 .taken); cords = l .inv .1 }
+    record { inside = omega (arith, i .before .before .before .before .before .before .before .before .before .before .before .before .cell-count .ensures, i .if2 .taken); cords = l .inv .1 }
 
 ends : (i : tie.Then2 Inv-loop μ-loop) →
     let s = begin (done-with i) in i .before .before .loop .row .first + s .args .scene .dims .width ≤ cells (scene s .size)
@@ -260,7 +265,7 @@ side-row-requires c κs =
     let i = c .before .before in
     let q = done-with i in
     let f = counting q in
-    (rows-known f, few (f .before .before), row i, omega (arith, i .before .before .loop .inv .3, known (typed f) .within .sides .widest), q .before .before .before .before .sides-along .ensures)
+    (rows-known f, row i, omega (arith, i .before .before .loop .inv .3, known (typed f) .within .sides .widest), q .before .before .before .before .sides-along .ensures)
 
 -- the list of sets has room for a row
 long-enough : (r : tie.After-side-row Inv-loop μ-loop) →
@@ -273,25 +278,31 @@ slice-aggregate-key-row : tie.Need-slice-aggregate-key-row Inv-loop μ-loop
 slice-aggregate-key-row c = sym (c .before .before .before .before .before .before .before .loop .inv .4)
 
 array-share-prefix-sets : tie.Need-array-share-prefix-sets Inv-loop μ-loop
-array-share-prefix-sets c = long-enough (c .before .before)
+array-share-prefix-sets c = long-enough (c .before .before .before)
 
 slice-aggregate-key-row-2 : tie.Need-slice-aggregate-key-row-2 Inv-loop μ-loop
 slice-aggregate-key-row-2 c =
-    let r = c .before .before .before in
+    let r = c .before .before .before .before in
     sym (length-take-le _ (r .side-row .last .0) (long-enough r))
 
 key-row-requires : tie.Need-key-row-requires Inv-loop μ-loop
 key-row-requires c κs =
-    let r = c .before .before .before in
+    let r = c .before .before .before .before in
     let i = r .before .before .before in
     let k = known (typed (counting (done-with i))) in
-    let l = length-take-le (begin (done-with i) .args .scene .dims .width) (r .side-row .last .0) (long-enough r) in
-    (omega (arith, i .before .before .loop .inv .4, k .within .sides .widest), omega (arith, ends i, k .within .most))
+    let w = begin (done-with i) .args .scene .dims .width in
+    let list = r .side-row .last .0 in
+    let l = length-take-le w list (long-enough r) in (
+      omega (arith, i .before .before .loop .inv .4, k .within .sides .widest),
+      omega (arith, ends i, k .within .most),
+      λ x h. let b : x < w = omega arith in rw (getD-take w list x 0 b, r .side-row .ensures x b) (set-below _ _ _ _ _),
+      c .before .before .before .before .before .before .before .before .before .before .ranks .ensures,
+    )
 
 -- ---- the faces of a row
 
 abbrev turn : tie.After-key-row Inv-loop μ-loop → tie.Then2 Inv-loop μ-loop
-turn k = k .before .before .before .before .before .before .before
+turn k = k .before .before .before .before .before .before .before .before
 
 abbrev width : tie.After-key-row Inv-loop μ-loop → ℕ
 width k = begin (done-with (turn k)) .args .scene .dims .width
@@ -304,12 +315,12 @@ listed k = take (k .key-row .result) (k .key-row .last .0)
 
 keys-are : (k : tie.After-key-row Inv-loop μ-loop) → listed k ≡ keysOf (sets (done-with (turn k))) (from k) (width k)
 keys-are k =
-    let r = k .before .before .before .before in
+    let r = k .before .before .before .before .before in
     k .key-row .ensures .1 ∙ row-keys (sets (done-with (turn k))) (from k) (width k) (r .side-row .last .0) (long-enough r) (r .side-row .ensures)
 
 count-is : (k : tie.After-key-row Inv-loop μ-loop) → k .key-row .result ≡ asked (sets (done-with (turn k))) (from k) (width k)
 count-is k =
-    let r = k .before .before .before .before in
+    let r = k .before .before .before .before .before in
     k .key-row .ensures .0 ∙ row-asked (sets (done-with (turn k))) (from k) (width k) (r .side-row .last .0) (long-enough r) (r .side-row .ensures)
 
 within-keys : (k : tie.After-key-row Inv-loop μ-loop) → k .key-row .result ≤ length (k .key-row .last .0)
@@ -370,7 +381,7 @@ index-row-requires c κs =
     let i = turn k in
     let q = done-with i in
     let l = i .before .before .loop in
-    let kept = kept-slots _ _ _ _ _ _ (l .inv .2) ∙ slots-kept (i .before .before .before .before .before .before .before .before .before) in
+    let kept = kept-slots _ _ _ _ _ _ (l .inv .2) ∙ slots-kept (i .before .before .before .before .before .before .before .before .before .before) in
     let wide = known (typed (counting q)) in
     let n = length (l .slots) in
     let e = ends i in
@@ -398,7 +409,7 @@ vertex-row-requires c κs =
     let l = i .before .before .loop in
     let wide = known (typed (counting q)) in
     let e = ends i in
-    let sides = found-sides (scene s) (by q .before .is-culling .result) (by q .outer-set .result) (now (a .grid))
+    let sides = found-sides (scene s) (by q .before .is-culling .result) (counting q .look-of .result .outer) (now (a .grid))
     (record { within = wide .within; whole = wide .whole; typed = wide .type }) (wide .typed) (from k) (width k) refl e in
     let all = subst (All (Side (scene s) (now (a .grid)) (from k))) (sym (keys-are k)) sides in
     let kept = kept-vertices _ _ _ _ _ _ (l .inv .2) (vertices-room (roomy i) (from k) (omega (arith, e))) in
@@ -431,14 +442,14 @@ loop-again c =
       omega (arith, e, ends i),
       c .next .ensures .1,
       rw e (row-more _ _ _ _ _ _ (width k) (l .inv .2) (count-is k) (keys-are k) (c .before .before .before .vertex-row .ensures) (c .before .before .before .before .before .before .before .before .before .before .index-row .ensures .0) (c .before .before .before .before .before .before .before .before .before .before .index-row .ensures .1)),
-      k .before .before .before .before .side-row .kept .0 ∙ l .inv .3,
+      k .before .before .before .before .before .side-row .kept .0 ∙ l .inv .3,
       k .key-row .kept .0 ∙ l .inv .4,
     )
 
 same-length : tie.Need-same-length Inv-loop μ-loop
 same-length c =
     let l = c .before .before .loop in
-    kept-vertices _ _ _ _ _ _ (l .inv .2) (vertices-room (c .before .before .before .before .before .before .before .before .before .before .before .before .before) (l .row .first) (l .inv .0))
+    kept-vertices _ _ _ _ _ _ (l .inv .2) (vertices-room (c .before .before .before .before .before .before .before .before .before .before .before .before .before .before) (l .row .first) (l .inv .0))
 
 same-length-2 : tie.Need-same-length-2 Inv-loop μ-loop
 same-length-2 c = search needs
@@ -446,26 +457,26 @@ same-length-2 c = search needs
 same-length-3 : tie.Need-same-length-3 Inv-loop μ-loop
 same-length-3 c =
     let l = c .before .before .loop in
-    kept-links _ _ _ _ _ _ (l .inv .2) (links-room (c .before .before .before .before .before .before .before .before .before .before .before .before .before) (l .row .first) (l .inv .0))
+    kept-links _ _ _ _ _ _ (l .inv .2) (links-room (c .before .before .before .before .before .before .before .before .before .before .before .before .before .before) (l .row .first) (l .inv .0))
 
 same-length-4 : tie.Need-same-length-4 Inv-loop μ-loop
-same-length-4 c = let l = c .before .before .loop in kept-slots _ _ _ _ _ _ (l .inv .2) ∙ slots-kept (c .before .before .before .before .before .before .before .before .before)
+same-length-4 c = let l = c .before .before .loop in kept-slots _ _ _ _ _ _ (l .inv .2) ∙ slots-kept (c .before .before .before .before .before .before .before .before .before .before)
 
 returns-3 : tie.Need-returns-3 Inv-loop μ-loop
 returns-3 c =
     let l = c .before .before .loop in
-    let w = c .before .before .before .before .before .before .before .before .before in
-    let q = counted (c .before .before .before .before .before .before .before .before .before .before .before .before .before) in
+    let w = c .before .before .before .before .before .before .before .before .before .before in
+    let q = counted (c .before .before .before .before .before .before .before .before .before .before .before .before .before .before) in
     let s = begin q in
     let S = scene s in
     let g = now (s .args .grid) in
     let u = now (s .args .outer) in
     let m = isCulling (s .args .algorithm) in
-    let fit : length (freshMesh S u g m) ≤ room S (lists s) = omega (arith, fits (c .before .before .before .before .before .before .before .before .before .before .before .before .before), quads-are q) in
+    let fit : length (freshMesh S u g m) ≤ room S (lists s) = omega (arith, fits (c .before .before .before .before .before .before .before .before .before .before .before .before .before .before), quads-are q) in
     let all : l .row .first ≡ cells (S .size) = omega (arith, l .inv .0, c .if2 .left, w .before .before .cell-count .ensures) in
     let x = quads-are q in
-    let y = drawn-all S u g m _ _ (by q .before .is-culling .ensures) (by q .outer-set .ensures) (lists s) all x (l .inv .2) (bare-slots w)
-    (c .before .before .before .before .before .write-patterns .ensures) in
+    let y = drawn-all S u g m _ _ (by q .before .is-culling .ensures) (outer-is q) (lists s) all x (l .inv .2) (bare-slots w)
+    (c .before .before .before .before .before .before .write-patterns .ensures) in
     (λ i. record { answer = answered (x i) 0; lists = y i }) ∙ sym (done S u g m (lists s) (passed (typed (counting q))) fit)
 
 pub mesh-grid-spec : {M : Type 1} → statement M
@@ -480,8 +491,7 @@ mesh-grid-spec =
     enum-told
     is-culling-requires
     outer-set-requires
-    clear-types-requires
-    full-from-requires
+    look-of-requires
     slice-aggregate-sides-along
     sides-along-requires
     slice-aggregate-count-quads
@@ -497,6 +507,7 @@ mesh-grid-spec =
     slice-aggregate-new
     new-requires
     write-patterns-requires
+    ranks-requires
     loop-holds
     slice-aggregate-side-row
     slice-aggregate-side-row-2

@@ -1,0 +1,90 @@
+-- The faces that side sets draw, by their keys: how many, some cells and then others, and what holds of each. Assumes nothing.
+use mathlib.Core.Path.{_≡_, refl, sym, ap, _∙_}
+use mathlib.Core.Bool.{Bool, true, false, cond}
+use mathlib.Core.List.{List, [], _++_, append-nil}
+use Prim.Native.Nat.{ℕ, zero, suc, _+_, _-_, _≤_, _<_}
+use native.Mathlib.Omega.{arith}
+use lib.ListN.{length, take, length-append}
+use lib.Seq.{getD-take, length-take-le}
+use Rattle.rules.specs.Lists.{each, only, count}
+use Rattle.rules.specs.Cells.{keyOf, has, rank, quadsOf}
+use Rattle.rules.proofs.ListLaws.{All, all-append, each-same, each-split}
+use Rattle.listing.specs.Fresh.{RowOf, setsFrom, asked, cellKeys, keysOf}
+use Rattle.listing.proofs.Rows.{asked-moved}
+
+-- ---- how many
+count-keys : (set c k f : ℕ) → length (each k f (λ i. only (has set i) (keyOf c i))) + rank set f ≡ rank set (f + k)
+unfolding each count
+count-keys set c zero f = let e : f + 0 ≡ f = omega arith in rw e (omega arith)
+count-keys set c (suc k) f =
+    let e : f + suc k ≡ suc f + k = omega arith in
+    let r = count-keys set c k (suc f) in
+    let l = length-append (only (has set f) (keyOf c f)) (each k (suc f) (λ i. only (has set i) (keyOf c i))) in
+    rw (e, ← r, l) (one (has set f))
+  where
+    one : (b : Bool) → length (only b (keyOf c f)) + length (each k (suc f) (λ i. only (has set i) (keyOf c i))) + rank set f
+        ≡ length (each k (suc f) (λ i. only (has set i) (keyOf c i))) + (rank set f + cond b 1 0)
+    one true = omega arith
+    one false = omega arith
+
+pub length-cell : (set c : ℕ) → length (cellKeys set c) ≡ quadsOf set
+unfolding count
+length-cell set c =
+    let r = count-keys set c 6 0 in let z : length (cellKeys set c) + 0 ≡ length (cellKeys set c) = omega arith in sym z ∙ r
+
+pub length-keys : (sets : ℕ → ℕ) (n c : ℕ) → length (keysOf sets c n) ≡ asked sets c n
+unfolding keysOf asked each
+length-keys sets zero c = refl
+length-keys sets (suc n) c =
+    length-append (cellKeys (sets c) c) (keysOf sets (suc c) n) ∙ omega (arith, length-cell (sets c) c, length-keys sets n (suc c))
+
+-- ---- some cells and then others
+pub keys-none : (sets : ℕ → ℕ) (c : ℕ) → keysOf sets c 0 ≡ []
+unfolding keysOf each
+keys-none sets c = refl
+
+pub keys-on : (sets : ℕ → ℕ) (m n c : ℕ) → keysOf sets c (m + n) ≡ keysOf sets c m ++ keysOf sets (c + m) n
+unfolding keysOf
+keys-on sets m n c = each-split m n c (λ k. cellKeys (sets k) k)
+
+-- one cell more
+pub keys-more : (sets : ℕ → ℕ) (n c : ℕ) → keysOf sets c (n + 1) ≡ keysOf sets c n ++ cellKeys (sets (c + n)) (c + n)
+unfolding keysOf each
+keys-more sets n c = keys-on sets n 1 c ∙ ap (λ (r : List ℕ). keysOf sets c n ++ r) (append-nil (cellKeys (sets (c + n)) (c + n)))
+
+pub keys-like : (s t : ℕ → ℕ) (n c : ℕ) → ((k : ℕ) → c ≤ k → k < c + n → s k ≡ t k) → keysOf s c n ≡ keysOf t c n
+unfolding keysOf
+keys-like s t n c e = each-same n c (λ k. cellKeys (s k) k) (λ k. cellKeys (t k) k) (λ k a b. ap (λ (set : ℕ). cellKeys set k) (e k a b))
+
+-- a row that holds the sets of its cells
+module _ (sets : ℕ → ℕ) (c n : ℕ) (list : List ℕ) (h : n ≤ length list) (r : RowOf sets c n list) where
+  listed : (k : ℕ) → c ≤ k → k < c + n → setsFrom c (take n list) k ≡ sets k
+  listed k a b =
+      let x : k - c < n = omega arith in
+      getD-take n list (k - c) 0 x ∙ r (k - c) x ∙ ap sets (omega arith)
+
+  pub row-keys : keysOf (setsFrom c (take n list)) c (length (take n list)) ≡ keysOf sets c n
+  row-keys = ap (keysOf (setsFrom c (take n list)) c) (length-take-le n list h) ∙ keys-like (setsFrom c (take n list)) sets n c listed
+
+  pub row-asked : asked (setsFrom c (take n list)) c (length (take n list)) ≡ asked sets c n
+  row-asked =
+      ap (asked (setsFrom c (take n list)) c) (length-take-le n list h)
+      ∙ asked-moved (setsFrom c (take n list)) sets n c c (λ x l. listed (c + x) (omega arith) (omega arith))
+
+-- ---- what holds of each face that is drawn
+module _ (P : ℕ → Type 0) where
+  all-if : (b : Bool) (k : ℕ) → (b ≡ true → P k) → All P (only b k)
+  all-if true k h = (h refl, tt)
+  all-if false k h = tt
+
+  all-each : (n i : ℕ) (p : ℕ → List ℕ) → ((k : ℕ) → i ≤ k → k < i + n → All P (p k)) → All P (each n i p)
+  unfolding each
+  all-each zero i p h = tt
+  all-each (suc n) i p h =
+      all-append P (p i) (each n (suc i) p) (h i (omega arith) (omega arith)) (all-each n (suc i) p (λ k a b. h k (omega arith) (omega arith)))
+
+  pub all-keys : (sets : ℕ → ℕ) (n c : ℕ) → ((k f : ℕ) → c ≤ k → k < c + n → f < 6 → has (sets k) f ≡ true → P (keyOf k f)) → All P (keysOf sets c n)
+  unfolding keysOf
+  all-keys sets n c h =
+      all-each n c (λ k. cellKeys (sets k) k)
+      (λ k a b. all-each 6 0 (λ f. only (has (sets k) f) (keyOf k f)) (λ f u v. all-if (has (sets k) f) (keyOf k f) (h k f a b (omega arith))))
