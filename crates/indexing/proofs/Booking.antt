@@ -61,7 +61,7 @@ module _ (words : ℕ → ℕ → List ℕ) (s R n : ℕ) (old : List ℕ) (long
         let a = remove-laid 1 (λ x. linkOf (x .key) ∷ []) h old m q (link-sized m) l r
         ∙ ap (λ (j : ℕ). laid 1 (λ q x. linkOf (x .key) ∷ []) j (removeAt q m) old) t in
         let b = meshes.slots-removed m (k .once) q l small n in
-        λ i. record { links = a i; slots = b i; quads = sym c i; moved = v + movedBy (length m) q; steps = xs ++ (gone q ∷ []) }
+        λ i. record { links = a i; slots = b i; quads = sym c i; moved = v + movedBy (length m) q; top = t i; steps = xs ++ (gone q ∷ []) }
 
     came-booked : (j t v : ℕ) (xs : List Step) → j < n → length (words j t) ≡ s → there j m ≡ false → length m < R
         → cameAt j t (bookOf n h m old v xs) ≡ bookOf n (max h (length (m ++ (quad j t ∷ [])))) (m ++ (quad j t ∷ [])) old v (xs ++ (came j t ∷ []))
@@ -73,7 +73,7 @@ module _ (words : ℕ → ℕ → List ℕ) (s R n : ℕ) (old : List ℕ) (long
         let a = layouts.links-drawn n s h m (listsOf [] [] old []) (k .fits) (quad j t) (l, w) (k .reached) (omega arith) (omega arith) (omega arith)
         ∙ ap (λ (y : ℕ). laid 1 (λ q x. linkOf (x .key) ∷ []) (max h y) (m ++ (quad j t ∷ [])) old) (sym c) in
         let b = meshes.slots-drawn m (k .once) (quad j t) new n l in
-        λ i. record { links = a i; slots = b i; quads = d i; moved = v; steps = xs ++ (came j t ∷ []) }
+        λ i. record { links = a i; slots = b i; quads = d i; moved = v; top = max h (d i); steps = xs ++ (came j t ∷ []) }
 
   -- what a deed leaves is sane
   pub sane-one : (d : Deed) → Good words n s d → (m : List Quad) (h : ℕ) → Sane n s R m h → length (step (opOf quad d) m) ≤ R

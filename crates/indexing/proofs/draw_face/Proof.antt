@@ -22,9 +22,9 @@ there t = indexOf (t .args .links .now) (t .args .slots .now) (t .args .steps .n
 
 inside : (t : tie.Start) → (t .args .cell .0 < UNIT) × (face t < length (t .args .slots .now))
 inside t =
-    let z = standing (t .pre .1 .booked) .slots in
-    let g = t .pre .1 .good .0 .0 in
-    let s = t .pre .1 .booked .small in
+    let z = standing (t .pre .2 .booked) .slots in
+    let g = t .pre .2 .good .0 .0 in
+    let s = t .pre .2 .booked .small in
     let f = number-below (t .args .face) in
     (omega arith, omega arith)
 
@@ -43,7 +43,7 @@ append-quad-requires : tie.Need-append-quad-requires
 append-quad-requires c κs =
     let test = c .before .before .before in
     let t = test .before .before .before .before .before .before in
-    (drawable (t .args .cell .0) (number (t .args .face)) (t .pre .1) (filled-no (slotIn (there t) (face t)) (sym (test .before .is-filled .ensures) ∙ test .if1 .left)), t .pre .0)
+    (drawable (t .args .cell .0) (number (t .args .face)) (t .pre .2) (filled-no (slotIn (there t) (face t)) (sym (test .before .is-filled .ensures) ∙ test .if1 .left)), t .pre .0, t .pre .1)
 
 same-length-2 : tie.Need-same-length-2
 same-length-2 c = search needs

@@ -55,7 +55,7 @@ returns c =
     let counted = renamed .before .before .before .before in
     let t = counted .before .before .before .before .before in
     let a = t .args in
-    same-index (linked .free-row .ensures) (renamed .renumber .ensures) refl (ap (λ (v : ℕ). a .tally .moved + v) (counted .moved-by .ensures))
+    same-index (linked .free-row .ensures) (renamed .renumber .ensures) refl (ap (λ (v : ℕ). a .tally .moved + v) (counted .moved-by .ensures)) refl
     (ap (stepsIn (a .tally .steps + 1)) (wrote .write-step .ensures) ∙ steps-more (a .tally .steps) (a .quad .0) CUT (a .steps .now) (t .pre .1))
 
 pub remove-quad-spec : {M : Type 1} → statement M
