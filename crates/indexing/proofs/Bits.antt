@@ -1,11 +1,11 @@
 -- Side sets by operations on bytes: both, either, the others, and the lowest side. Assumes nothing.
 use mathlib.Core.Path.{_≡_, refl, sym, ap, _∙_, subst}
 use mathlib.Core.Bool.{Bool, true, false, cond, not, _&&_, _||_, false≢true}
-use Prim.Native.Nat.{ℕ, zero, suc, _+_, _-_, _*_, _/_, _%_, _^_, _≤_, _<_}
+use Prim.Native.Nat.{ℕ, zero, suc, _+_, _-_, _/_, _%_, _^_, _≤_, _<_}
 use native.Mathlib.Nat.{zero-div, div-eq-of-lt, div-le-self}
 use native.Mathlib.Omega.{arith}
 use lib.Bits.{bitAnd, bitOr, and-shr, or-shr, and-mod, or-mod, and-lt, or-lt}
-use lib.Count.{trailingZeros, under}
+use lib.Count.{trailingZeros}
 use lib.Dec.{eqb, ltb, leb}
 use lib.Pow.{shr-shr, pow-mono}
 use borrow.Author.Tests.{eqb-true, ne-eqb, ltb-true, lt-leb}

@@ -1,26 +1,25 @@
 -- The index of a mesh through deeds: it stays the index of the quads, and the steps are those of the run. Assumes nothing.
-use mathlib.Core.Path.{_≡_, refl, sym, ap, _∙_, subst}
+use mathlib.Core.Path.{_≡_, refl, sym, ap, _∙_}
 use mathlib.Core.Bool.{Bool, true, false, cond, not}
-use mathlib.Core.List.{List, [], _∷_, _++_, map, append-nil, append-assoc}
-use Prim.Native.Nat.{ℕ, zero, suc, _+_, _-_, _*_, _/_, _≤_, _<_, max}
+use mathlib.Core.List.{List, [], _∷_, _++_, append-nil, append-assoc}
+use Prim.Native.Nat.{ℕ, suc, _+_, _*_, _/_, _≤_, _<_, max}
 use native.Mathlib.Omega.{arith}
 use lib.Dec.{eqb}
-use lib.ListN.{length, getD, set, length-append}
+use lib.ListN.{length, getD, length-append}
 use borrow.Author.Tests.{ne-eqb}
 use Rattle.rules.specs.Lists.{table, only}
 use Rattle.rules.specs.Cells.{linkOf, firstVertex}
 use Rattle.rules.specs.Mesh.{Quad, NONE, there, placeOf, laid, slotOf, listsOf}
-use Rattle.rules.specs.Update.{removeAt, remove, draw, movedBy, moved, Op, put, cut, step, run, movedIn, moves, highest, ops}
-use Rattle.rules.proofs.ListLaws.{All, all-append, split, getD-table, length-table}
-use Rattle.rules.proofs.Quads.{placed, length-removeAt, run-once, moved-le}
+use Rattle.rules.specs.Update.{removeAt, remove, movedBy, moved, Op, put, cut, step, run, movedIn, moves, highest, ops}
+use Rattle.rules.proofs.ListLaws.{All, all-append, split, getD-table}
+use Rattle.rules.proofs.Quads.{placed, length-removeAt, run-once}
 use Rattle.rules.proofs.Laying.{Fits, Sized}
 use Rattle.rules.proofs.Courses.{Sane, fits-ops}
 use Rattle.vav.proofs.Laid.{remove-laid}
-use Rattle.mesh_metadata.specs.Index.{renum}
 use Rattle.mesh_metadata.proofs.Meshes as meshes
 use Rattle.mesh_metadata.proofs.Layouts as layouts
 use Rattle.steps.specs.Steps.{Step, gone, came, Deed, show, hide, quadBy, opOf, opsOf, stepsOf}
-use Rattle.indexing.specs.Index.{Index, goneAt, cameAt, indexOne, indexRun, bookOf, Good}
+use Rattle.indexing.specs.Index.{goneAt, cameAt, indexOne, indexRun, bookOf, Good}
 
 pub highest-ge : (os : List Op) (h : ℕ) (m : List Quad) → h ≤ highest h os m
 highest-ge [] h m = omega arith

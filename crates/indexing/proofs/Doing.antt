@@ -2,20 +2,19 @@
 use mathlib.Core.Path.{_≡_, refl, sym, ap, _∙_, subst}
 use mathlib.Core.Logic.{⊎-elim}
 use mathlib.Core.Bool.{Bool, true, false, cond, not}
-use mathlib.Core.List.{List, [], _∷_, _++_, append-nil, append-assoc, map}
-use mathlib.Core.Option.{Option, none, some}
+use mathlib.Core.List.{List, [], _∷_, _++_, map}
+use mathlib.Core.Option.{none, some}
 use Prim.Native.Nat.{ℕ, zero, suc, _+_, _-_, _*_, _/_, _%_, _≤_, _<_, max}
 use native.Mathlib.Nat.{mul-le-mul-left}
-use native.Mathlib.Numerals.{add-one}
 use native.Mathlib.Omega.{arith}
 use lib.Dec.{eqb}
 use lib.ListN.{length, getD, set, length-append, length-set}
 use lib.Seq.{getD-set-same, getD-set-other}
 use borrow.Author.Tests.{eqb-true, eqb-false, eq-eqb, ne-eqb, lt-ltb, le-ltb}
-use Rattle.rules.specs.Lists.{each, only, table}
-use Rattle.rules.specs.Cells.{Size, UNIT, keyOf, firstVertex, opposite, has, onlyIf}
+use Rattle.rules.specs.Lists.{each}
+use Rattle.rules.specs.Cells.{keyOf, opposite, has, onlyIf}
 use Rattle.rules.specs.Mesh.{Quad, NONE, slotOf, listsOf}
-use Rattle.rules.specs.Update.{Entry, Op, step, movedIn, highest}
+use Rattle.rules.specs.Update.{Entry, step, movedIn, highest}
 use Rattle.rules.proofs.ListLaws.{All, within, split, not-true, not-false, length-table, each-same, each-split}
 use Rattle.rules.proofs.Quads.{moved-le}
 use Rattle.rules.proofs.Laying.{length-links}

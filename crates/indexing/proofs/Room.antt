@@ -1,15 +1,14 @@
 -- The three counts on the slots of a mesh are what the rule's work needs. Assumes nothing.
-use mathlib.Core.Path.{_≡_, refl, sym, ap, _∙_, subst}
+use mathlib.Core.Path.{_≡_, refl, sym, _∙_, subst}
 use mathlib.Core.Bool.{Bool, true, false, cond, not, _&&_, _||_}
 use mathlib.Core.List.{List, [], _∷_, _++_, map}
 use mathlib.Core.Option.{Option, none, some}
-use Prim.Native.Nat.{ℕ, zero, suc, _+_, _-_, _*_, _/_, _≤_, _<_}
+use Prim.Native.Nat.{ℕ, zero, suc, _+_, _*_, _≤_, _<_}
 use native.Mathlib.Omega.{arith}
-use lib.Dec.{eqb}
-use lib.ListN.{length, getD}
-use Rattle.rules.specs.Lists.{each, only, member, count}
-use Rattle.rules.specs.Cells.{Size, cells, has, setOf, quadsOf, opposite, keyOf, neighbour}
-use Rattle.rules.specs.Mesh.{Quad, World, NONE, there}
+use lib.ListN.{length}
+use Rattle.rules.specs.Lists.{each, only, count}
+use Rattle.rules.specs.Cells.{cells, has, setOf, quadsOf, opposite, keyOf, neighbour}
+use Rattle.rules.specs.Mesh.{Quad, World, there}
 use Rattle.rules.specs.Update.{Entry, givenAt, needed}
 use Rattle.rules.proofs.ListLaws.{split}
 use Rattle.rules.proofs.Neighbours.{beside, opposite-lt}

@@ -3,13 +3,13 @@ use mathlib.Core.Path.{_≡_, refl, sym, ap, _∙_, subst}
 use mathlib.Core.Bool.{Bool, true, false, cond, false≢true, true≢false}
 use mathlib.Core.List.{List, [], _∷_, _++_, map}
 use mathlib.Core.Option.{Option, none, some}
-use Prim.Native.Nat.{ℕ, zero, suc, _+_, _*_, _/_, _%_, _<_}
+use Prim.Native.Nat.{ℕ, zero, suc, _*_, _/_, _%_, _<_}
 use native.Mathlib.Omega.{arith}
 use native.Mathlib.Decide.{ℕ-discrete}
 use lib.ListN.{getD}
 use borrow.Author.Tests.{eq-eqb, ne-eqb}
 use Rattle.rules.specs.Lists.{each, only, member}
-use Rattle.rules.specs.Cells.{Size, cells, has, opposite, neighbour, keyOf}
+use Rattle.rules.specs.Cells.{cells, has, opposite, neighbour, keyOf}
 use Rattle.rules.specs.Mesh.{Quad, World}
 use Rattle.rules.specs.Update.{Entry, givenAt, sides}
 use Rattle.rules.proofs.ListLaws.{All, all-each, each-same, members, read-one, read-none}

@@ -1,18 +1,15 @@
 -- The three strokes together: the index done first, then its steps replayed on another list, leave the layout of the rule's run. Assumes nothing.
 use mathlib.Core.Path.{_≡_, sym, ap, _∙_, subst}
-use mathlib.Core.List.{List, [], _∷_, _++_}
+use mathlib.Core.List.{List, [], _∷_}
 use Prim.Native.Nat.{ℕ, _+_, _*_, _/_, _%_, _≤_}
-use native.Mathlib.Omega.{arith}
 use lib.ListN.{length}
-use Rattle.rules.specs.Lists.{table}
-use Rattle.rules.specs.Cells.{linkOf}
-use Rattle.rules.specs.Mesh.{Quad, World, laid, slotOf}
+use Rattle.rules.specs.Mesh.{Quad, World, laid}
 use Rattle.rules.specs.Update as rule
 use Rattle.rules.specs.Update.{Entry, Op, run, moves, highest, ops}
 use Rattle.rules.proofs.ListLaws.{All}
 use Rattle.rules.proofs.Laying.{Fits, Sized}
 use Rattle.rules.proofs.Courses.{Sane}
-use Rattle.steps.specs.Steps.{Step, Deed, show, hide, quadBy, opsOf, stepsOf, Shelf, shelf, replayed, Can, Able}
+use Rattle.steps.specs.Steps.{Step, Deed, show, hide, quadBy, opsOf, stepsOf, shelf, replayed, Can, Able}
 use Rattle.steps.proofs.Replaying.{replay-run, can-run}
 use Rattle.works.specs.declared.Work.{Work}
 use Rattle.works.specs.Sets.{workIn, deeds}

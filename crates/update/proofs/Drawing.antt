@@ -1,9 +1,9 @@
 -- What an entry draws are cubes of the registry, on faces of the grid. Assumes nothing.
-use mathlib.Core.Path.{_≡_, refl, sym, ap, _∙_, subst}
+use mathlib.Core.Path.{_≡_, sym, subst}
 use mathlib.Core.Logic.{⊎-elim}
-use mathlib.Core.Bool.{Bool, true}
+use mathlib.Core.Bool.{true}
 use mathlib.Core.List.{List, []}
-use Prim.Native.Nat.{ℕ, zero, suc, _+_, _*_, _/_, _%_, _≤_, _<_}
+use Prim.Native.Nat.{ℕ, zero, suc, _*_, _/_, _%_, _<_}
 use native.Mathlib.Omega.{arith}
 use lib.Dec.{T, eqb}
 use lib.Ieee.Fits.{and-l}
@@ -22,7 +22,7 @@ use Rattle.util.specs.Grid.{Within}
 use Rattle.types.proofs.Known.{placed}
 use Rattle.voxel_mesh.proofs.Shapes.{row-within}
 use Rattle.lent.specs.Scenes.{Typed}
-use Rattle.steps.specs.Steps.{Deed, Able}
+use Rattle.steps.specs.Steps.{Able}
 use Rattle.steps.specs.Rows.{wordsBy, Shaped, Drawn}
 use Rattle.works.specs.declared.Work.{Work}
 use Rattle.works.specs.Sets.{setIn, besideOf, act, deeds, Cubes}

@@ -3,15 +3,15 @@ use mathlib.Core.Path.{_≡_, refl, sym, ap, _∙_, subst}
 use mathlib.Core.Bool.{Bool, true, false, cond, not}
 use mathlib.Core.List.{List, [], _∷_, _++_, append-nil}
 use mathlib.Core.Option.{Option, none, some}
-use Prim.Native.Nat.{ℕ, zero, suc, _+_, _-_, _*_, _/_, _%_, _^_, _≤_, _<_, max}
+use Prim.Native.Nat.{ℕ, zero, suc, _+_, _-_, _*_, _/_, _^_, _≤_, _<_, max}
 use native.Mathlib.Nat.{mul-le-mul-left}
 use native.Mathlib.Omega.{arith}
-use lib.Dec.{eqb, leb}
-use lib.ListN.{length, getD}
+use lib.Dec.{leb}
+use lib.ListN.{length}
 use borrow.Author.Tests.{le-leb, lt-leb, leb-true}
 use Rattle.rules.specs.Lists.{each, table}
-use Rattle.rules.specs.Cells.{Size, UNIT, cells, linkOf, setOf, quadsOf, firstVertex}
-use Rattle.rules.specs.Mesh.{Quad, NONE, there, laid, slotOf, pattern}
+use Rattle.rules.specs.Cells.{UNIT, cells, linkOf, setOf, quadsOf, firstVertex}
+use Rattle.rules.specs.Mesh.{Quad, NONE, there, laid, slotOf}
 use Rattle.rules.specs.Update as rule
 use Rattle.rules.specs.Update.{Tested, Entry, Op, cuts, puts, run, moves, highest, ops, needed, work, entryAt, courseFrom}
 use Rattle.rules.specs.Calls.{Scene, world, span, faces}
@@ -22,13 +22,12 @@ use Rattle.rules.proofs.Mending.{Sound}
 use Rattle.rules.proofs.Courses.{Sane, sane-step, highest-needed, run-le, fits-ops, fits-new, entry-moves}
 use Rattle.rules.proofs.Demands.{words-sized}
 use Rattle.mesh_metadata.proofs.Meshes as meshes
-use Rattle.util.specs.Grid.{Within}
-use Rattle.steps.specs.Steps.{Step, Deed, stepsIn, Shelf, shelf, replayed, quadBy, opsOf, stepsOf, Can, Able}
+use Rattle.steps.specs.Steps.{Step, Deed, stepsIn, Shelf, shelf, replayed, quadBy, opsOf, Can, Able}
 use Rattle.steps.specs.Rows.{wordsBy, Drawn, Replaying}
 use Rattle.works.specs.declared.Work.{Work}
 use Rattle.works.specs.Sets.{meant, setIn, besideOf, spotsAt, workIn, deeds, Cubes}
 use Rattle.works.proofs.Meant.{meant-work, meant-cubes, meant-few, deeds-ops}
-use Rattle.indexing.specs.Index.{Index, indexRun, bookOf, Good, Ready, hidesIn}
+use Rattle.indexing.specs.Index.{Index, indexRun, bookOf, Good, Ready}
 use Rattle.indexing.specs.Room.{isFilled, goneSide, quadsNeeded, Gridded}
 use Rattle.indexing.proofs.Sets.{spots-inside}
 use Rattle.indexing.proofs.Booking.{slot-none}

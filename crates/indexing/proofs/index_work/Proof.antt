@@ -1,6 +1,6 @@
 -- `indexing::index_work` meets its contract: what is left to do on what is there is the whole work on what was there. Assumes nothing.
 use mathlib.Core.Path.{_≡_, refl, sym, ap, _∙_, subst}
-use Prim.Native.Nat.{ℕ, _+_, _-_, _*_, _≤_, _<_}
+use Prim.Native.Nat.{ℕ, _-_, _<_}
 use native.Mathlib.Omega.{arith}
 use lib.ListN.{length}
 use Rattle.rules.specs.Lists.{each}
@@ -8,7 +8,7 @@ use Rattle.rules.proofs.ListLaws.{length-table}
 use Rattle.entries.specs.Log.{entryIn}
 use Rattle.steps.specs.Steps.{stepAt}
 use Rattle.works.specs.Sets.{setIn, deedAt}
-use Rattle.indexing.specs.Index.{Index, indexOf, indexRun, Ready}
+use Rattle.indexing.specs.Index.{indexOf, indexRun, Ready}
 use Rattle.indexing.proofs.Doing.{Turning, start, this, turn, done, few-part}
 use borrow.Author.Needs.{needs}
 use Rattle.indexing.proofs.index_work.Statement.{statement}

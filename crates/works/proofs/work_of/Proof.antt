@@ -1,13 +1,12 @@
 -- `works::work_of` meets its contract: change by change. Assumes nothing.
 use mathlib.Core.Path.{_≡_, sym, ap, _∙_}
-use mathlib.Core.Bool.{Bool, cond}
+use mathlib.Core.Bool.{cond}
 use Prim.Native.Nat.{ℕ}
 use Rattle.rules.specs.Cells.{setOf, has}
 use Rattle.rules.specs.Mesh.{World}
-use Rattle.rules.specs.Update.{Entry, Change}
+use Rattle.rules.specs.Update.{Change}
 use Rattle.entries.specs.Log.{changeIn, entryIn}
 use Rattle.terms.specs.Modes.{testedBy}
-use Rattle.works.specs.declared.Work.{Work}
 use Rattle.works.specs.Sets.{typesBy, sets, noWork, isShown, meantBy, meant}
 use borrow.Author.Needs.{needs}
 use Rattle.works.proofs.work_of.Statement.{statement}
