@@ -1,26 +1,25 @@
 -- The index of a mesh through deeds: it stays the index of the quads, and the steps are those of the run. Assumes nothing.
-use mathlib.Core.Path.{_≡_, refl, sym, ap, _∙_, subst}
+use mathlib.Core.Path.{_≡_, refl, sym, ap, _∙_}
 use mathlib.Core.Bool.{Bool, true, false, cond, not}
-use mathlib.Core.List.{List, [], _∷_, _++_, map, append-nil, append-assoc}
-use Prim.Native.Nat.{ℕ, zero, suc, _+_, _-_, _*_, _/_, _≤_, _<_, max}
+use mathlib.Core.List.{List, [], _∷_, _++_, append-nil, append-assoc}
+use Prim.Native.Nat.{ℕ, suc, _+_, _*_, _/_, _≤_, _<_, max}
 use native.Mathlib.Omega.{arith}
 use lib.Dec.{eqb}
-use lib.ListN.{length, getD, set, length-append}
+use lib.ListN.{length, getD, length-append}
 use borrow.Author.Tests.{ne-eqb}
 use Rattle.rules.specs.Lists.{table, only}
 use Rattle.rules.specs.Cells.{linkOf, firstVertex}
 use Rattle.rules.specs.Mesh.{Quad, NONE, there, placeOf, laid, slotOf, listsOf}
-use Rattle.rules.specs.Update.{removeAt, remove, draw, movedBy, moved, Op, put, cut, step, run, movedIn, moves, highest, ops}
-use Rattle.rules.proofs.ListLaws.{All, all-append, split, getD-table, length-table}
-use Rattle.rules.proofs.Quads.{placed, length-removeAt, run-once, moved-le}
+use Rattle.rules.specs.Update.{removeAt, remove, movedBy, moved, Op, put, cut, step, run, movedIn, moves, highest, ops}
+use Rattle.rules.proofs.ListLaws.{All, all-append, split, getD-table}
+use Rattle.rules.proofs.Quads.{placed, length-removeAt, run-once}
 use Rattle.rules.proofs.Laying.{Fits, Sized}
 use Rattle.rules.proofs.Courses.{Sane, fits-ops}
 use Rattle.vav.proofs.Laid.{remove-laid}
-use Rattle.mesh_metadata.specs.Index.{renum}
 use Rattle.mesh_metadata.proofs.Meshes as meshes
 use Rattle.mesh_metadata.proofs.Layouts as layouts
 use Rattle.steps.specs.Steps.{Step, gone, came, Deed, show, hide, quadBy, opOf, opsOf, stepsOf}
-use Rattle.indexing.specs.Index.{Index, goneAt, cameAt, indexOne, indexRun, bookOf, Good}
+use Rattle.indexing.specs.Index.{goneAt, cameAt, indexOne, indexRun, bookOf, Good}
 
 pub highest-ge : (os : List Op) (h : ℕ) (m : List Quad) → h ≤ highest h os m
 highest-ge [] h m = omega arith
@@ -61,7 +60,7 @@ module _ (words : ℕ → ℕ → List ℕ) (s R n : ℕ) (old : List ℕ) (long
         let a = remove-laid 1 (λ x. linkOf (x .key) ∷ []) h old m q (link-sized m) l r
         ∙ ap (λ (j : ℕ). laid 1 (λ q x. linkOf (x .key) ∷ []) j (removeAt q m) old) t in
         let b = meshes.slots-removed m (k .once) q l small n in
-        λ i. record { links = a i; slots = b i; quads = sym c i; moved = v + movedBy (length m) q; steps = xs ++ (gone q ∷ []) }
+        λ i. record { links = a i; slots = b i; quads = sym c i; moved = v + movedBy (length m) q; top = t i; steps = xs ++ (gone q ∷ []) }
 
     came-booked : (j t v : ℕ) (xs : List Step) → j < n → length (words j t) ≡ s → there j m ≡ false → length m < R
         → cameAt j t (bookOf n h m old v xs) ≡ bookOf n (max h (length (m ++ (quad j t ∷ [])))) (m ++ (quad j t ∷ [])) old v (xs ++ (came j t ∷ []))
@@ -73,7 +72,7 @@ module _ (words : ℕ → ℕ → List ℕ) (s R n : ℕ) (old : List ℕ) (long
         let a = layouts.links-drawn n s h m (listsOf [] [] old []) (k .fits) (quad j t) (l, w) (k .reached) (omega arith) (omega arith) (omega arith)
         ∙ ap (λ (y : ℕ). laid 1 (λ q x. linkOf (x .key) ∷ []) (max h y) (m ++ (quad j t ∷ [])) old) (sym c) in
         let b = meshes.slots-drawn m (k .once) (quad j t) new n l in
-        λ i. record { links = a i; slots = b i; quads = d i; moved = v; steps = xs ++ (came j t ∷ []) }
+        λ i. record { links = a i; slots = b i; quads = d i; moved = v; top = max h (d i); steps = xs ++ (came j t ∷ []) }
 
   -- what a deed leaves is sane
   pub sane-one : (d : Deed) → Good words n s d → (m : List Quad) (h : ℕ) → Sane n s R m h → length (step (opOf quad d) m) ≤ R

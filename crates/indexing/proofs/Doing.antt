@@ -2,19 +2,19 @@
 use mathlib.Core.Path.{_≡_, refl, sym, ap, _∙_, subst}
 use mathlib.Core.Logic.{⊎-elim}
 use mathlib.Core.Bool.{Bool, true, false, cond, not}
-use mathlib.Core.List.{List, [], _∷_, _++_, append-nil, append-assoc}
-use mathlib.Core.Option.{Option, none, some}
+use mathlib.Core.List.{List, [], _∷_, _++_, map}
+use mathlib.Core.Option.{none, some}
 use Prim.Native.Nat.{ℕ, zero, suc, _+_, _-_, _*_, _/_, _%_, _≤_, _<_, max}
-use native.Mathlib.Numerals.{add-one}
+use native.Mathlib.Nat.{mul-le-mul-left}
 use native.Mathlib.Omega.{arith}
 use lib.Dec.{eqb}
 use lib.ListN.{length, getD, set, length-append, length-set}
 use lib.Seq.{getD-set-same, getD-set-other}
-use borrow.Author.Tests.{eqb-true, eqb-false, eq-eqb, ne-eqb, lt-ltb}
-use Rattle.rules.specs.Lists.{each, only, table}
-use Rattle.rules.specs.Cells.{Size, UNIT, keyOf, firstVertex, neighbour, has, onlyIf}
+use borrow.Author.Tests.{eqb-true, eqb-false, eq-eqb, ne-eqb, lt-ltb, le-ltb}
+use Rattle.rules.specs.Lists.{each}
+use Rattle.rules.specs.Cells.{keyOf, opposite, has, onlyIf}
 use Rattle.rules.specs.Mesh.{Quad, NONE, slotOf, listsOf}
-use Rattle.rules.specs.Update.{Entry, Op, step, movedIn, highest}
+use Rattle.rules.specs.Update.{Entry, step, movedIn, highest}
 use Rattle.rules.proofs.ListLaws.{All, within, split, not-true, not-false, length-table, each-same, each-split}
 use Rattle.rules.proofs.Quads.{moved-le}
 use Rattle.rules.proofs.Laying.{length-links}
@@ -22,13 +22,15 @@ use Rattle.mesh_metadata.specs.Index.{Linked, vertexOf}
 use Rattle.mesh_metadata.proofs.Layouts as layouts
 use Rattle.steps.specs.Steps.{Step, came, CUT, stepIn, stepAt, stepsIn, Deed, show, hide, quadBy, opOf, opsOf}
 use Rattle.works.specs.declared.Work.{Work}
-use Rattle.works.specs.Sets.{showAt, hideAt, deedAt, deeds}
+use Rattle.works.specs.Sets.{setIn, spotIn, spotsAt, spotsBy, act, asked, deedBy, deedAt, deeds}
+use Rattle.works.specs.declared.Spot.{Spot}
+use Rattle.works.proofs.Meant.{idle}
 use Rattle.indexing.specs.Index.{Index, slotIn, goneAt, cameAt, indexOne, indexRun, bookOf, Booked, Good, hidesIn, Ready, Removable, Drawable}
 use Rattle.indexing.proofs.Booking.{highest-ge, sane-one, one-booked}
 
-pub same-index : {l l′ s s′ : List ℕ} {q q′ v v′ : ℕ} {x x′ : List Step} → l ≡ l′ → s ≡ s′ → q ≡ q′ → v ≡ v′ → x ≡ x′
-    → _≡_ {A = Index} (record { links = l; slots = s; quads = q; moved = v; steps = x }) (record { links = l′; slots = s′; quads = q′; moved = v′; steps = x′ })
-same-index l s q v x = λ i. record { links = l i; slots = s i; quads = q i; moved = v i; steps = x i }
+pub same-index : {l l′ s s′ : List ℕ} {q q′ v v′ h h′ : ℕ} {x x′ : List Step} → l ≡ l′ → s ≡ s′ → q ≡ q′ → v ≡ v′ → h ≡ h′ → x ≡ x′
+    → _≡_ {A = Index} (record { links = l; slots = s; quads = q; moved = v; top = h; steps = x }) (record { links = l′; slots = s′; quads = q′; moved = v′; top = h′; steps = x′ })
+same-index l s q v h x = λ i. record { links = l i; slots = s i; quads = q i; moved = v i; top = h i; steps = x i }
 
 -- ---- a step more in the list of steps
 pub steps-more : (n a b : ℕ) (xs : List ℕ) → 2 * n + 2 ≤ length xs
@@ -266,6 +268,11 @@ run-append : (a b : List Deed) (B : Index) → indexRun (a ++ b) B ≡ indexRun 
 run-append [] b B = refl
 run-append (d ∷ a) b B = run-append a b (indexOne d B)
 
+none-each : (n i : ℕ) (p : ℕ → List Deed) → ((k : ℕ) → i ≤ k → k < i + n → p k ≡ []) → each n i p ≡ []
+unfolding each
+none-each zero i p h = refl
+none-each (suc n) i p h = rw (h i (omega arith) (omega arith)) (none-each n (suc i) p (λ k a b. h k (omega arith) (omega arith)))
+
 -- ---- list by list of at most m deeds, n of them: what is left to do on what is there is the whole on what was there
 pub record Turning (m n : ℕ) (p : ℕ → List Deed) (i : ℕ) (A B : Index) : Type 0 where
   pub below : i ≤ n
@@ -318,6 +325,24 @@ module _ {m n : ℕ} {p : ℕ → List Deed} where
           few = omega arith;
         }
 
+    -- what asks for nothing is passed over
+    pub skip : {j : ℕ} → i ≤ j → j ≤ n → ((k : ℕ) → i ≤ k → k < j → p k ≡ []) → Turning m n p j A B
+    skip {j} a b nothing =
+        let s : n - i ≡ (j - i) + (n - j) = omega arith in
+        let e : i + (j - i) ≡ j = omega arith in
+        let f = t .few in
+        let l = mul-le-mul-left m a in
+        let same : each (n - i) i p ≡ each (n - j) j p =
+        ap (λ (k : ℕ). each k i p) s ∙ each-split (j - i) (n - j) i p
+        ∙ (λ y. none-each (j - i) i p (λ k c d. nothing k c (omega arith)) y ++ each (n - j) (e y) p) in
+        record {
+          below = b;
+          left = sym (ap (λ (ds : List Deed). indexRun ds B) same) ∙ t .left;
+          ready = subst (λ (ds : List Deed). Ready ds B) same (t .ready);
+          kept = t .kept;
+          few = omega arith;
+        }
+
     pub done : n ≤ i → B ≡ indexRun (each n 0 p) A
     unfolding each
     done h =
@@ -325,39 +350,53 @@ module _ {m n : ℕ} {p : ℕ → List Deed} where
         let z : n - i ≡ 0 = omega arith in
         sym (ap (λ (k : ℕ). indexRun (each k i p) B) z) ∙ t .left
 
-only-few : (b : Bool) (x : Deed) → length (only b x) ≤ 1
-only-few true x = omega arith
-only-few false x = omega arith
-
 -- a part asks for one deed at a face, or none
-pub few-deeds : (s : Size) (e : Entry) (w : Work) (j f : ℕ) → length (deedAt s e w j f) ≤ 1
-unfolding deedAt
-few-deeds s e w zero f = only-few (has (w .own) f) (hide (keyOf (e .cell) f))
-few-deeds s e w (suc zero) f = beside (neighbour s (e .cell) f)
+pub few-deeds : (b : List ℕ) (e : Entry) (set j f : ℕ) → length (deedAt b e set j f) ≤ 1
+unfolding asked
+few-deeds b e set j f = pick (has set f) (j % 2)
   where
-    beside : (o : Option ℕ) → length (showAt e (w .shown) f o) ≤ 1
-    beside none = omega arith
-    beside (some n) = only-few (has (w .shown) f) _
-few-deeds s e w (suc (suc zero)) f = only-few (has (w .drawn) f) (show (keyOf (e .cell) f) (e .type))
-few-deeds s e w (suc (suc (suc p))) f = beside (neighbour s (e .cell) f)
-  where
-    beside : (o : Option ℕ) → length (hideAt (w .hidden) f o) ≤ 1
-    beside none = omega arith
-    beside (some n) = only-few (has (w .hidden) f) _
+    pick : (on : Bool) (n : ℕ) → length (map (act e j f) (cond on (spotsBy n (getD b f 0) (e .cell) f) [])) ≤ 1
+    pick false n = omega arith
+    pick true zero = omega arith
+    pick true (suc n) = found (eqb (getD b f 0) NONE)
+      where
+        found : (none : Bool) → length (map (act e j f) (cond none [] (keyOf (getD b f 0) (opposite f) ∷ []))) ≤ 1
+        found true = omega arith
+        found false = omega arith
 
 each-few : (m n i : ℕ) (p : ℕ → List Deed) → ((k : ℕ) → length (p k) ≤ m) → length (each n i p) ≤ m * n
 unfolding each
 each-few m zero i p h = omega arith
 each-few m (suc n) i p h = omega (arith, length-append (p i) (each n (suc i) p), each-few m n (suc i) p h, h i)
 
-pub few-part : (s : Size) (e : Entry) (w : Work) (j : ℕ) → length (each 6 0 (deedAt s e w j)) ≤ 6
-few-part s e w j = each-few 1 6 0 (deedAt s e w j) (few-deeds s e w j)
+pub few-part : (b : List ℕ) (e : Entry) (set j : ℕ) → length (each 6 0 (deedAt b e set j)) ≤ 6
+few-part b e set j = each-few 1 6 0 (deedAt b e set j) (few-deeds b e set j)
 
 -- LAW: an entry's work is 24 deeds at most
-pub all-few : (s : Size) (e : Entry) (w : Work) → length (deeds s e w) ≤ 24
-all-few s e w = each-few 6 4 0 (λ j. each 6 0 (deedAt s e w j)) (few-part s e w)
+pub all-few : (b : List ℕ) (e : Entry) (w : Work) → length (deeds b e w) ≤ 24
+all-few b e w = each-few 6 4 0 (λ j. each 6 0 (deedAt b e (setIn w j) j)) (λ j. few-part b e (setIn w j) j)
 
 pub hides-few : (ds : List Deed) → hidesIn ds ≤ length ds
 hides-few [] = omega arith
 hides-few (show k t ∷ ds) = omega (arith, hides-few ds)
 hides-few (hide k ∷ ds) = omega (arith, hides-few ds)
+
+-- what the code does at a face of the set is the part's deed there
+pub deed-told : (b : List ℕ) (e : Entry) (set j f mark : ℕ) (x : Spot) → has set f ≡ true → spotIn x ≡ spotsAt b (e .cell) j f → ((k : ℕ) → deedBy k mark ≡ act e j f k)
+    → map (λ k. deedBy k mark) (spotIn x) ≡ deedAt b e set j f
+unfolding asked
+deed-told b e set j f mark x h s a = ap (map (λ k. deedBy k mark)) s ∙ all (spotsAt b (e .cell) j f) ∙ ap (λ (on : Bool). map (act e j f) (cond on (spotsAt b (e .cell) j f) [])) (sym h)
+  where
+    all : (ks : List ℕ) → map (λ k. deedBy k mark) ks ≡ map (act e j f) ks
+    all [] = refl
+    all (k ∷ ks) = let p = a k in let q = all ks in λ i. p i ∷ q i
+
+pub no-deed : (b : List ℕ) (e : Entry) (set j f : ℕ) → has set f ≡ false → deedAt b e set j f ≡ []
+no-deed b e set j f h = ap (map (act e j f)) (idle b (e .cell) set j f h)
+
+-- a deed, by what the mark tells
+pub spot-shows : (x : Spot) (k m : ℕ) → spotIn x ≡ k ∷ [] → m < CUT → map (λ k. deedBy k m) (spotIn x) ≡ show k m ∷ []
+spot-shows x k m e l = ap (map (λ k. deedBy k m)) e ∙ rw (lt-ltb m CUT l)
+
+pub spot-hides : (x : Spot) (k m : ℕ) → spotIn x ≡ k ∷ [] → CUT ≤ m → map (λ k. deedBy k m) (spotIn x) ≡ hide k ∷ []
+spot-hides x k m e l = ap (map (λ k. deedBy k m)) e ∙ rw (le-ltb m CUT l)

@@ -1,6 +1,7 @@
+pub mod Bits
 pub mod Booking
 pub mod Doing
-pub mod Whole
 pub mod Needed
-pub mod Sets
 pub mod Room
+pub mod Sets
+pub mod Whole

@@ -1,22 +1,24 @@
 -- The work of four side sets: no face is named twice, and what holds of its four parts holds of every deed. Assumes nothing.
-use mathlib.Core.Path.{_≡_, refl, sym, ap, _∙_}
+use mathlib.Core.Path.{_≡_, refl, sym, ap, _∙_, subst}
 use mathlib.Core.Bool.{Bool, true, false, cond, false≢true, true≢false}
-use mathlib.Core.List.{List, [], _∷_, _++_}
+use mathlib.Core.List.{List, [], _∷_, _++_, map}
 use mathlib.Core.Option.{Option, none, some}
-use Prim.Native.Nat.{ℕ, zero, suc, _+_, _*_, _/_, _%_, _<_}
+use Prim.Native.Nat.{ℕ, zero, suc, _*_, _/_, _%_, _<_}
 use native.Mathlib.Omega.{arith}
 use native.Mathlib.Decide.{ℕ-discrete}
+use lib.ListN.{getD}
 use borrow.Author.Tests.{eq-eqb, ne-eqb}
 use Rattle.rules.specs.Lists.{each, only, member}
-use Rattle.rules.specs.Cells.{Size, cells, has, opposite, neighbour, keyOf}
+use Rattle.rules.specs.Cells.{cells, has, opposite, neighbour, keyOf}
 use Rattle.rules.specs.Mesh.{Quad, World}
-use Rattle.rules.specs.Update.{Entry, givenAt, quadOf, sides, quads}
+use Rattle.rules.specs.Update.{Entry, givenAt, sides}
 use Rattle.rules.proofs.ListLaws.{All, all-each, each-same, members, read-one, read-none}
 use Rattle.rules.proofs.Neighbours.{beside, opposite-lt, opposite-twice}
 use Rattle.util.specs.Grid.{Within}
-use Rattle.steps.specs.Steps.{Deed, show, hide}
+use Rattle.steps.specs.Steps.{Deed}
 use Rattle.works.specs.declared.Work.{Work}
-use Rattle.works.specs.Sets.{shownAt, workIn, showAt, hideAt, deedAt, deeds}
+use Rattle.works.specs.Sets.{setIn, besideOf, spotsBy, spotsAt, act, asked, deedAt, deeds, quadIn, keysIn, quadsIn, workIn}
+use Rattle.works.proofs.Meant.{next, facing-is}
 use Rattle.indexing.proofs.Needed.{keysOf, Apart, apart-append, apart-each, member-only}
 
 -- ---- keys
@@ -28,15 +30,6 @@ keys-each : (n i : ℕ) (p : ℕ → List Quad) → keysOf (each n i p) ≡ each
 unfolding each
 keys-each zero i p = refl
 keys-each (suc n) i p = keys-append (p i) (each n (suc i) p) ∙ ap (λ (r : List ℕ). keysOf (p i) ++ r) (keys-each n (suc i) p)
-
-keys-only : (b : Bool) (q : Quad) → keysOf (only b q) ≡ only b (q .key)
-keys-only true q = refl
-keys-only false q = refl
-
-keys-quads : (W : World) (t c : ℕ) (p : ℕ → Bool) → keysOf (quads W t c p) ≡ sides c p
-keys-quads W t c p =
-    keys-each 6 0 (λ f. only (p f) (quadOf W t c f))
-    ∙ each-same 6 0 (λ f. keysOf (only (p f) (quadOf W t c f))) (λ f. only (p f) (keyOf c f)) (λ f a b. keys-only (p f) (quadOf W t c f))
 
 apart-only : (b : Bool) (k : ℕ) → Apart (only b k)
 apart-only true k = (refl, tt)
@@ -71,88 +64,103 @@ pub not-side : (c k : ℕ) (p : ℕ → Bool) → (k / 6 ≡ c → ⊥) → memb
 not-side c k p d = read-none (members k) 6 0 (λ g. only (p g) (keyOf c g)) (λ g a b. not-only k (keyOf c g) (p g) (λ e. d (omega arith)))
 
 -- ---- the neighbours' facing sides
+keys-map : (g : ℕ → ℕ → Quad) → ((t k : ℕ) → (g t k) .key ≡ k) → (t : ℕ) (ks : List ℕ) → keysOf (map (g t) ks) ≡ ks
+keys-map g h t [] = refl
+keys-map g h t (k ∷ ks) = let a = h t k in let b = keys-map g h t ks in λ i. a i ∷ b i
+
 module _ (W : World) (e : Entry) (w : Within (W .size)) (h : e .cell < cells (W .size)) where
-  abbrev next : ℕ → Option ℕ
-  next i = neighbour (W .size) (e .cell) i
+  abbrev around : List ℕ
+  around = besideOf (W .size) (e .cell)
 
-  abbrev facing : ℕ → List Quad
-  facing set = each 6 0 (λ i. shownAt W e set i (next i))
+  abbrev shownAt : ℕ → ℕ → Option ℕ → List ℕ
+  shownAt set i none = []
+  shownAt set i (some n) = only (has set i) (keyOf n (opposite i))
 
-  other-cell : (i n : ℕ) → next i ≡ some n → n ≡ e .cell → ⊥
+  abbrev beyond : ℕ → Option ℕ
+  beyond i = neighbour (W .size) (e .cell) i
+
+  abbrev facing-sides : ℕ → List ℕ
+  facing-sides set = each 6 0 (λ i. shownAt set i (beyond i))
+
+  shown-keys : (v : Work) → keysIn around (e .cell) v 1 ≡ facing-sides (v .shown)
+  unfolding asked
+  shown-keys v =
+      each-same 6 0 (asked around (e .cell) (v .shown) 1) (λ i. shownAt (v .shown) i (beyond i))
+      (λ i a b. ap (λ (ks : List ℕ). cond (has (v .shown) i) ks []) (facing-is (W .size) (e .cell) w h i (omega arith)) ∙ one i (has (v .shown) i) refl (beyond i))
+    where
+      one : (i : ℕ) (b : Bool) → has (v .shown) i ≡ b → (o : Option ℕ) → cond b (next i o) [] ≡ shownAt (v .shown) i o
+      one i true z none = refl
+      one i false z none = refl
+      one i b z (some n) = ap (λ (b : Bool). only b (keyOf n (opposite i))) (sym z)
+
+  other-cell : (i n : ℕ) → beyond i ≡ some n → n ≡ e .cell → ⊥
   other-cell i n q = beside (W .size) (w .sides .wide) (w .sides .long) (e .cell) h i n q .other
 
-  facing-apart : (set : ℕ) → Apart (keysOf (facing set))
+  facing-apart : (set : ℕ) → Apart (facing-sides set)
   facing-apart set =
-      rw (keys-each 6 0 (λ i. shownAt W e set i (next i)))
-      (apart-each (λ k. opposite (k % 6)) (λ i. keysOf (shownAt W e set i (next i)))
-      (λ i. one i (next i)) 6 0 (λ i k a b r. class i k (omega arith) (next i) r))
+      apart-each (λ k. opposite (k % 6)) (λ i. shownAt set i (beyond i)) (λ i. one i (beyond i)) 6 0 (λ i k a b r. class i k (omega arith) (beyond i) r)
     where
-      one : (i : ℕ) (o : Option ℕ) → Apart (keysOf (shownAt W e set i o))
+      one : (i : ℕ) (o : Option ℕ) → Apart (shownAt set i o)
       one i none = tt
-      one i (some n) = rw (keys-only (has set i) (quadOf W (givenAt e i) n (opposite i))) (apart-only (has set i) (keyOf n (opposite i)))
+      one i (some n) = apart-only (has set i) (keyOf n (opposite i))
 
-      class : (i k : ℕ) → i < 6 → (o : Option ℕ) → member k (keysOf (shownAt W e set i o)) ≡ true → opposite (k % 6) ≡ i
+      class : (i k : ℕ) → i < 6 → (o : Option ℕ) → member k (shownAt set i o) ≡ true → opposite (k % 6) ≡ i
       class i k l none r = absurd (false≢true r)
       class i k l (some n) r =
-          let d = member-only k (keyOf n (opposite i)) (has set i) (rw (keys-only (has set i) (quadOf W (givenAt e i) n (opposite i))) at r) in
-          ap opposite (face-of n (opposite i) k (opposite-lt i l) d) ∙ opposite-twice i
+          ap opposite (face-of n (opposite i) k (opposite-lt i l) (member-only k (keyOf n (opposite i)) (has set i) r)) ∙ opposite-twice i
 
   -- they are of other cells
-  not-own : (set k : ℕ) → k / 6 ≡ e .cell → member k (keysOf (facing set)) ≡ false
-  not-own set k c =
-      rw (keys-each 6 0 (λ i. shownAt W e set i (next i)))
-      (read-none (members k) 6 0 (λ i. keysOf (shownAt W e set i (next i))) (λ i a b. one i (omega arith) (next i) refl))
+  not-own : (set k : ℕ) → k / 6 ≡ e .cell → member k (facing-sides set) ≡ false
+  not-own set k c = read-none (members k) 6 0 (λ i. shownAt set i (beyond i)) (λ i a b. one i (omega arith) (beyond i) refl)
     where
-      one : (i : ℕ) → i < 6 → (o : Option ℕ) → next i ≡ o → member k (keysOf (shownAt W e set i o)) ≡ false
+      one : (i : ℕ) → i < 6 → (o : Option ℕ) → beyond i ≡ o → member k (shownAt set i o) ≡ false
       one i l none q = refl
-      one i l (some n) q =
-          let b = opposite-lt i l in
-          rw (keys-only (has set i) (quadOf W (givenAt e i) n (opposite i)))
-          (not-only k (keyOf n (opposite i)) (has set i) (λ z. other-cell i n q (omega arith)))
+      one i l (some n) q = let b = opposite-lt i l in not-only k (keyOf n (opposite i)) (has set i) (λ z. other-cell i n q (omega arith))
+
+  quads-keys : (v : Work) (j : ℕ) (t : ℕ → ℕ) → keysOf (quadsIn W around (e .cell) v j t) ≡ keysIn around (e .cell) v j
+  quads-keys v j t =
+      keys-each 6 0 (λ f. map (λ k. quadIn W k (t f)) (asked around (e .cell) (setIn v j) j f))
+      ∙ each-same 6 0 (λ f. keysOf (map (λ k. quadIn W k (t f)) (asked around (e .cell) (setIn v j) j f))) (asked around (e .cell) (setIn v j) j)
+      (λ f a b. keys-map (λ t k. quadIn W k t) (λ t k. refl) (t f) (asked around (e .cell) (setIn v j) j f))
 
   -- LAW: among its own faces none is named twice, nor among those that it draws
-  pub own-apart : (v : Work) → Apart ((workIn W e v) .own)
-  unfolding workIn
+  pub own-apart : (v : Work) → Apart ((workIn W around e v) .own)
+  unfolding workIn asked
   own-apart v = apart-sides (e .cell) (has (v .own))
 
-  pub new-apart : (v : Work) → Apart (keysOf ((workIn W e v) .new))
-  unfolding workIn
+  pub new-apart : (v : Work) → Apart (keysOf ((workIn W around e v) .new))
+  unfolding workIn asked
   new-apart v =
-      rw (keys-append (facing (v .shown)) (quads W (e .type) (e .cell) (has (v .drawn))), keys-quads W (e .type) (e .cell) (has (v .drawn)))
-      (apart-append (keysOf (facing (v .shown))) (sides (e .cell) (has (v .drawn))) (facing-apart (v .shown)) (apart-sides (e .cell) (has (v .drawn)))
+      rw (keys-append (quadsIn W around (e .cell) v 1 (givenAt e)) (quadsIn W around (e .cell) v 2 (λ f. e .type)), quads-keys v 1 (givenAt e), quads-keys v 2 (λ f. e .type), shown-keys v)
+      (apart-append (facing-sides (v .shown)) (sides (e .cell) (has (v .drawn))) (facing-apart (v .shown)) (apart-sides (e .cell) (has (v .drawn)))
       (λ k l. elsewhere k l (ℕ-discrete (k / 6) (e .cell))))
     where
-      elsewhere : (k : ℕ) → member k (keysOf (facing (v .shown))) ≡ true → Dec (k / 6 ≡ e .cell) → member k (sides (e .cell) (has (v .drawn))) ≡ false
+      elsewhere : (k : ℕ) → member k (facing-sides (v .shown)) ≡ true → Dec (k / 6 ≡ e .cell) → member k (sides (e .cell) (has (v .drawn))) ≡ false
       elsewhere k l (yes c) = absurd (true≢false (sym l ∙ not-own (v .shown) k c))
       elsewhere k l (no d) = not-side (e .cell) k (has (v .drawn)) d
 
--- ---- what holds of each part holds of every deed
-all-if : {A : Type 0} (P : A → Type 0) (b : Bool) (x : A) → (b ≡ true → P x) → All P (only b x)
-all-if P true x h = (h refl, tt)
-all-if P false x h = tt
-
-pub record Each (P : Deed → Type 0) (s : Size) (e : Entry) (w : Work) : Type 0 where
-  pub own : (f : ℕ) → f < 6 → P (hide (keyOf (e .cell) f))
-  pub shown : (f n : ℕ) → f < 6 → has (w .shown) f ≡ true → neighbour s (e .cell) f ≡ some n → P (show (keyOf n (opposite f)) (givenAt e f))
-  pub drawn : (f : ℕ) → f < 6 → has (w .drawn) f ≡ true → P (show (keyOf (e .cell) f) (e .type))
-  pub hidden : (f n : ℕ) → f < 6 → neighbour s (e .cell) f ≡ some n → P (hide (keyOf n (opposite f)))
-
-module _ {P : Deed → Type 0} {s : Size} {e : Entry} {w : Work} (holds : Each P s e w) where
-  part : (j f : ℕ) → f < 6 → All P (deedAt s e w j f)
-  unfolding deedAt
-  part zero f l = all-if P (has (w .own) f) (hide (keyOf (e .cell) f)) (λ b. holds .own f l)
-  part (suc zero) f l = beside-it (neighbour s (e .cell) f) refl
+  -- LAW: the faces of every part are in the grid
+  pub spots-inside : (j f : ℕ) → f < 6 → All (λ k. k < 6 * cells (W .size)) (spotsAt around (e .cell) j f)
+  spots-inside j f l = pick (j % 2)
     where
-      beside-it : (o : Option ℕ) → neighbour s (e .cell) f ≡ o → All P (showAt e (w .shown) f o)
-      beside-it none q = tt
-      beside-it (some n) q = all-if P (has (w .shown) f) (show (keyOf n (opposite f)) (givenAt e f)) (λ b. holds .shown f n l b q)
-  part (suc (suc zero)) f l = all-if P (has (w .drawn) f) (show (keyOf (e .cell) f) (e .type)) (λ b. holds .drawn f l b)
-  part (suc (suc (suc j))) f l = beside-it (neighbour s (e .cell) f) refl
-    where
-      beside-it : (o : Option ℕ) → neighbour s (e .cell) f ≡ o → All P (hideAt (w .hidden) f o)
-      beside-it none q = tt
-      beside-it (some n) q = all-if P (has (w .hidden) f) (hide (keyOf n (opposite f))) (λ b. holds .hidden f n l q)
+      far : (o : Option ℕ) → beyond f ≡ o → All (λ k. k < 6 * cells (W .size)) (next f o)
+      far none q = tt
+      far (some n) q = let a = beside (W .size) (w .sides .wide) (w .sides .long) (e .cell) h f n q .inside in let b = opposite-lt f l in (omega arith, tt)
 
-  -- LAW
-  pub all-deeds : All P (deeds s e w)
-  all-deeds = all-each P 4 0 (λ j. each 6 0 (deedAt s e w j)) (λ j a b. all-each P 6 0 (deedAt s e w j) (λ f c d. part j f (omega arith)))
+      pick : (n : ℕ) → All (λ k. k < 6 * cells (W .size)) (spotsBy n (getD around f 0) (e .cell) f)
+      pick zero = (omega arith, tt)
+      pick (suc n) = subst (All (λ k. k < 6 * cells (W .size))) (sym (facing-is (W .size) (e .cell) w h f l)) (far (beyond f) refl)
+
+  -- LAW: what holds of each part on such faces holds of every deed
+  pub all-deeds : (P : Deed → Type 0) (v : Work) → ((j f k : ℕ) → f < 6 → has (setIn v j) f ≡ true → k < 6 * cells (W .size) → P (act e j f k)) → All P (deeds around e v)
+  unfolding asked
+  all-deeds P v holds =
+      all-each P 4 0 (λ j. each 6 0 (deedAt around e (setIn v j) j)) (λ j a b. all-each P 6 0 (deedAt around e (setIn v j) j) (λ f c d. one j f (omega arith) (has (setIn v j) f) refl))
+    where
+      all : (j f : ℕ) → f < 6 → has (setIn v j) f ≡ true → (ks : List ℕ) → All (λ k. k < 6 * cells (W .size)) ks → All P (map (act e j f) ks)
+      all j f l on [] i = tt
+      all j f l on (k ∷ ks) i = (holds j f k l on (i .0), all j f l on ks (i .1))
+
+      one : (j f : ℕ) → f < 6 → (b : Bool) → has (setIn v j) f ≡ b → All P (map (act e j f) (cond b (spotsAt around (e .cell) j f) []))
+      one j f l true on = all j f l on (spotsAt around (e .cell) j f) (spots-inside j f l)
+      one j f l false on = tt

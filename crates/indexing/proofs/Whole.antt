@@ -1,22 +1,19 @@
 -- The three strokes together: the index done first, then its steps replayed on another list, leave the layout of the rule's run. Assumes nothing.
 use mathlib.Core.Path.{_≡_, sym, ap, _∙_, subst}
-use mathlib.Core.List.{List, [], _∷_, _++_}
+use mathlib.Core.List.{List, [], _∷_}
 use Prim.Native.Nat.{ℕ, _+_, _*_, _/_, _%_, _≤_}
-use native.Mathlib.Omega.{arith}
 use lib.ListN.{length}
-use Rattle.rules.specs.Lists.{table}
-use Rattle.rules.specs.Cells.{linkOf}
-use Rattle.rules.specs.Mesh.{Quad, World, laid, slotOf}
+use Rattle.rules.specs.Mesh.{Quad, World, laid}
 use Rattle.rules.specs.Update as rule
 use Rattle.rules.specs.Update.{Entry, Op, run, moves, highest, ops}
 use Rattle.rules.proofs.ListLaws.{All}
 use Rattle.rules.proofs.Laying.{Fits, Sized}
 use Rattle.rules.proofs.Courses.{Sane}
-use Rattle.steps.specs.Steps.{Step, Deed, show, hide, quadBy, opsOf, stepsOf, Shelf, shelf, replayed, Can, Able}
+use Rattle.steps.specs.Steps.{Step, Deed, show, hide, quadBy, opsOf, stepsOf, shelf, replayed, Can, Able}
 use Rattle.steps.proofs.Replaying.{replay-run, can-run}
 use Rattle.works.specs.declared.Work.{Work}
 use Rattle.works.specs.Sets.{workIn, deeds}
-use Rattle.works.proofs.Deeds.{deeds-ops}
+use Rattle.works.proofs.Meant.{deeds-ops}
 use Rattle.indexing.specs.Index.{Index, indexRun, bookOf, Good}
 use Rattle.indexing.proofs.Booking.{run-booked}
 
@@ -41,15 +38,15 @@ pub record Struck (P : ℕ → ℕ → Type 0) (W : World) (s R n : ℕ) (os : L
       ≡ shelf (laid s (λ q x. x .words) (highest h os m) (run os m) vertices) (length (run os m))
 
 -- LAW: a work that is four side sets, on the index, and its steps on the vertices. P: what drawing asks of a key and a type
-pub struck : (P : ℕ → ℕ → Type 0) (W : World) (e : Entry) (x : rule.Work) (w : Work) (s R n : ℕ) (m : List Quad) (h v : ℕ) (links vertices : List ℕ)
-    → workIn W e w ≡ x
+pub struck : (P : ℕ → ℕ → Type 0) (W : World) (b : List ℕ) (e : Entry) (x : rule.Work) (w : Work) (s R n : ℕ) (m : List Quad) (h v : ℕ) (links vertices : List ℕ)
+    → workIn W b e w ≡ x
     → R ≤ length links → s * R ≤ length vertices → n ≤ 1073741823 → Sane n s R m h
-    → All (Good (wordsIn W) n s) (deeds (W .size) e w) → All (Able P) (deeds (W .size) e w) → highest h (ops x) m ≤ R
-    → Struck P W s R n (ops x) h m links vertices v (indexRun (deeds (W .size) e w) (bookOf n h m links v []))
-struck P W e x w s R n m h v links vertices is long rooms small k g drawn fit =
-    let ds = deeds (W .size) e w in
+    → All (Good (wordsIn W) n s) (deeds b e w) → All (Able P) (deeds b e w) → highest h (ops x) m ≤ R
+    → Struck P W s R n (ops x) h m links vertices v (indexRun (deeds b e w) (bookOf n h m links v []))
+struck P W b e x w s R n m h v links vertices is long rooms small k g drawn fit =
+    let ds = deeds b e w in
     let words = wordsIn W in
-    let as-ops : opsOf (quadBy words) ds ≡ ops x = deeds-ops W e w ∙ ap ops is in
+    let as-ops : opsOf (quadBy words) ds ≡ ops x = deeds-ops W e b w ∙ ap ops is in
     let fits : highest h (opsOf (quadBy words) ds) m ≤ R = subst (λ (os : List Op). highest h os m ≤ R) (sym as-ops) fit in
     let ran = run-booked words s R n links long small ds m h v [] g k fits in
     let steps : (indexRun ds (bookOf n h m links v [])) .steps ≡ stepsOf (quadBy words) ds m = ap (λ (B : Index). B .steps) ran in

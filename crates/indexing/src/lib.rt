@@ -3,43 +3,48 @@ use entries::Entry;
 use face::Cell;
 use face::Face;
 use face::Quad;
-use face::bit_if;
 use face::face_at;
 use face::has;
 use face::key;
+use face::quads_of;
+use face::side_set;
 use mesh_metadata::QuadIndex;
 use mesh_metadata::get_quad_index;
 use mesh_metadata::insert;
 use mesh_metadata::renumber;
 use steps::CUT;
-use util::Dimensions;
-use util::Neighbor;
-use util::get_neighbor;
 use vav::free_row;
 use vav::moved_by;
-use works::Deed;
+use works::Spot;
 use works::Work;
-use works::deed_at;
+use works::mark_of;
+use works::spot_at;
 ghost use mathlib.Core.Path.{_≡_};
-ghost use mathlib.Core.List.{[], _∷_};
-ghost use Prim.Native.Nat.{_+_, _*_, _^_, _≤_, _<_};
+ghost use mathlib.Core.List.{[], _∷_, map};
+ghost use Prim.Native.Nat.{ℕ, _+_, _*_, _^_, _≤_, _<_, max};
+ghost use lib.Dec.{leb};
 ghost use lib.ListN.{length, set};
 ghost use Rattle.rules.specs.Lists.{each};
-ghost use Rattle.rules.specs.Cells.{UNIT, cells, keyOf, neighbour, setOf, quadsOf};
+ghost use Rattle.rules.specs.Cells.{UNIT, keyOf, setOf, quadsOf};
 ghost use Rattle.face.specs.Face.{number};
-ghost use Rattle.util.specs.Grid.{sizeOf, Within};
 ghost use Rattle.entries.specs.Log.{entryIn};
-ghost use Rattle.steps.specs.Steps.{show, hide};
-ghost use Rattle.works.specs.Sets.{deedIn, deedAt, deeds};
-ghost use Rattle.indexing.specs.declared.Counted.the-variants.{Gone};
-ghost use Rattle.indexing.specs.Room.{isFilled, bareAt, partOf, counts, quadsNeeded, Gridded};
+ghost use Rattle.steps.specs.Steps.{CUT, show, hide};
+ghost use Rattle.works.specs.Sets.{setIn, spotIn, deedBy, deedAt, deeds};
+ghost use Rattle.indexing.specs.Room.{isFilled, isBare, goneSide, quadsNeeded, Gridded};
 ghost use Rattle.indexing.specs.Index.{indexOf, goneAt, cameAt, indexRun, Ready, Removable, Drawable};
 
-// The number of quads, how many have changed their place, and the number of steps.
+// The number of quads, how many have changed their place, the highest number of quads on the way, and the number of steps.
 pub struct Tally {
     pub quads: usize,
     pub moved: u64,
+    pub top: usize,
     pub steps: usize,
+}
+
+fn larger(a: usize, b: usize) -> usize
+    ensures { λ r. ⌜ r ≡ max a b ⌝ }
+{
+    if a <= b { b } else { a }
 }
 
 // Writes step i: a key and a type, or a place and the mark.
@@ -74,6 +79,7 @@ fn remove_quad(
     Tally {
         quads: count - 1,
         moved: moved,
+        top: tally.top,
         steps: at + 1,
     }
 }
@@ -85,21 +91,22 @@ fn append_quad(
     steps: &mut [u32],
     cell: Cell,
     face: Face,
-    voxel: u8,
+    voxel: u32,
     tally: Tally,
 ) -> Tally
     requires { ⌜ Drawable (cell .0) (keyOf (cell .0) (number face)) (indexOf (now links) (now slots) (now steps) tally)
-        × (2 * tally .steps + 2 ≤ length (now steps)) ⌝ }
+        × (2 * tally .steps + 2 ≤ length (now steps)) × (voxel < CUT) ⌝ }
     ensures { λ r. ⌜ indexOf (now (links .exit)) (now (slots .exit)) (now (steps .exit)) r
         ≡ cameAt (keyOf (cell .0) (number face)) voxel (indexOf (now (links .entry)) (now (slots .entry)) (now (steps .entry)) tally) ⌝ }
 {
     let count = tally.quads;
     let at = tally.steps;
     insert(links, slots, face, cell, Quad(count as u32));
-    write_step(steps, at, key(cell, face), voxel as u32);
+    write_step(steps, at, key(cell, face), voxel);
     Tally {
         quads: count + 1,
         moved: tally.moved,
+        top: larger(tally.top, count + 1),
         steps: at + 1,
     }
 }
@@ -142,10 +149,10 @@ fn draw_face(
     steps: &mut [u32],
     cell: Cell,
     face: Face,
-    voxel: u8,
+    voxel: u32,
     tally: Tally,
 ) -> Tally
-    requires { ⌜ (2 * tally .steps + 2 ≤ length (now steps))
+    requires { ⌜ (2 * tally .steps + 2 ≤ length (now steps)) × (voxel < CUT)
         × Ready (show (keyOf (cell .0) (number face)) voxel ∷ []) (indexOf (now links) (now slots) (now steps) tally) ⌝ }
     ensures { λ r. ⌜ indexOf (now (links .exit)) (now (slots .exit)) (now (steps .exit)) r
         ≡ indexRun (show (keyOf (cell .0) (number face)) voxel ∷ []) (indexOf (now (links .entry)) (now (slots .entry)) (now (steps .entry)) tally) ⌝ }
@@ -156,52 +163,58 @@ fn draw_face(
     append_quad(links, slots, steps, cell, face, voxel, tally)
 }
 
-// Does what is to be done to one face.
-pub fn do_deed(
+// Does what is to be done at a spot.
+fn do_deed(
     links: &mut [u32],
     slots: &mut [u32],
     steps: &mut [u32],
-    deed: Deed,
+    spot: Spot,
+    mark: u32,
     tally: Tally,
 ) -> Tally
-    requires { ⌜ (2 * tally .steps + 2 ≤ length (now steps)) × Ready (deedIn deed) (indexOf (now links) (now slots) (now steps) tally) ⌝ }
+    requires { ⌜ (2 * tally .steps + 2 ≤ length (now steps)) × Ready (map (λ k. deedBy k mark) (spotIn spot)) (indexOf (now links) (now slots) (now steps) tally) ⌝ }
     ensures { λ r. ⌜ indexOf (now (links .exit)) (now (slots .exit)) (now (steps .exit)) r
-        ≡ indexRun (deedIn deed) (indexOf (now (links .entry)) (now (slots .entry)) (now (steps .entry)) tally) ⌝ }
+        ≡ indexRun (map (λ k. deedBy k mark) (spotIn spot)) (indexOf (now (links .entry)) (now (slots .entry)) (now (steps .entry)) tally) ⌝ }
 {
-    match deed {
-        Deed::Nothing => tally,
-        Deed::Cut(cell, face) => cut_face(links, slots, steps, cell, face, tally),
-        Deed::Draw(cell, face, voxel) => {
-            draw_face(links, slots, steps, cell, face, voxel, tally)
+    match spot {
+        Spot::Nothing => tally,
+        Spot::At(cell, face) => {
+            if mark < CUT {
+                draw_face(links, slots, steps, cell, face, mark, tally)
+            } else {
+                cut_face(links, slots, steps, cell, face, tally)
+            }
         }
     }
 }
 
-// Does one of the four parts of a work, face by face.
+// Does one of the four parts of a work, at the faces of its set.
 fn index_part(
     links: &mut [u32],
     slots: &mut [u32],
     steps: &mut [u32],
-    dims: Dimensions,
+    beside: [u32; 6],
     entry: Entry,
-    work: Work,
+    set: u8,
     part: u32,
     tally: Tally,
 ) -> Tally
-    requires { ⌜ Within (sizeOf dims) × (entry .cell .0 < cells (sizeOf dims)) × (2 * tally .steps + 12 ≤ length (now steps))
-        × Ready (each 6 0 (deedAt (sizeOf dims) (entryIn entry) work part)) (indexOf (now links) (now slots) (now steps) tally) ⌝ }
+    requires { ⌜ (2 * tally .steps + 12 ≤ length (now steps)) × (set < 64)
+        × Ready (each 6 0 (deedAt beside (entryIn entry) set part)) (indexOf (now links) (now slots) (now steps) tally) ⌝ }
     ensures { λ r. ⌜ indexOf (now (links .exit)) (now (slots .exit)) (now (steps .exit)) r
-        ≡ indexRun (each 6 0 (deedAt (sizeOf dims) (entryIn entry) work part)) (indexOf (now (links .entry)) (now (slots .entry)) (now (steps .entry)) tally) ⌝ }
+        ≡ indexRun (each 6 0 (deedAt beside (entryIn entry) set part)) (indexOf (now (links .entry)) (now (slots .entry)) (now (steps .entry)) tally) ⌝ }
 {
-    if work.set_of(part) == 0 {
-        return tally;
-    }
     let mut left = tally;
     let mut f: u32 = 0;
-    while f < 6 {
-        let deed = deed_at(dims, entry, work, part, face_at(f));
-        left = do_deed(links, slots, steps, deed, left);
-        f += 1;
+    let mut rest = set;
+    while rest != 0 {
+        let skip = u8::trailing_zeros(rest);
+        let face = face_at(f + skip);
+        let side = (f + skip) as usize;
+        let spot = spot_at(entry.cell, beside[side], part, face);
+        left = do_deed(links, slots, steps, spot, mark_of(entry, part, face), left);
+        f = f + skip + 1;
+        rest = rest >> skip >> 1;
     }
     left
 }
@@ -211,102 +224,109 @@ pub fn index_work(
     links: &mut [u32],
     slots: &mut [u32],
     steps: &mut [u32],
-    dims: Dimensions,
+    beside: [u32; 6],
     entry: Entry,
     work: Work,
     tally: Tally,
 ) -> Tally
-    requires { ⌜ Within (sizeOf dims) × (entry .cell .0 < cells (sizeOf dims)) × (2 * tally .steps + 48 ≤ length (now steps))
-        × Ready (deeds (sizeOf dims) (entryIn entry) work) (indexOf (now links) (now slots) (now steps) tally) ⌝ }
+    requires { ⌜ (2 * tally .steps + 48 ≤ length (now steps)) × ((j : ℕ) → setIn work j < 64)
+        × Ready (deeds beside (entryIn entry) work) (indexOf (now links) (now slots) (now steps) tally) ⌝ }
     ensures { λ r. ⌜ indexOf (now (links .exit)) (now (slots .exit)) (now (steps .exit)) r
-        ≡ indexRun (deeds (sizeOf dims) (entryIn entry) work) (indexOf (now (links .entry)) (now (slots .entry)) (now (steps .entry)) tally) ⌝ }
+        ≡ indexRun (deeds beside (entryIn entry) work) (indexOf (now (links .entry)) (now (slots .entry)) (now (steps .entry)) tally) ⌝ }
 {
     let mut left = tally;
     let mut part: u32 = 0;
     while part < 4 {
-        left = index_part(links, slots, steps, dims, entry, work, part, left);
+        let set = work.set_of(part);
+        left = index_part(links, slots, steps, beside, entry, set, part, left);
         part += 1;
     }
     left
 }
 
-// What is counted for the room: own quads that go, neighbours' sides that are drawn and not there, own sides that are drawn and do not stay.
-pub enum Counted {
-    Gone,
-    Bare,
-    New,
+// The sides of a cell that have quads.
+fn filled_sides(slots: &[u32], cell: Cell) -> u8
+    requires { ⌜ (cell .0 < UNIT) × (6 * cell .0 + 6 ≤ length (now slots)) ⌝ }
+    ensures { λ r. ⌜ r ≡ setOf (λ f. isFilled (now (slots .entry)) (keyOf (cell .0) f)) ⌝ }
+{
+    side_set(
+        is_filled(slots, cell, Face::Top),
+        is_filled(slots, cell, Face::Bottom),
+        is_filled(slots, cell, Face::Right),
+        is_filled(slots, cell, Face::Left),
+        is_filled(slots, cell, Face::Back),
+        is_filled(slots, cell, Face::Forward),
+    )
 }
 
-fn is_bare(slots: &[u32], dims: Dimensions, cell: Cell, set: u8, face: Face) -> bool
-    requires { ⌜ Gridded (sizeOf dims) (cell .0) (now slots) ⌝ }
-    ensures { λ r. ⌜ r ≡ bareAt (now (slots .entry)) set (number face) (neighbour (sizeOf dims) (cell .0) (number face)) ⌝ }
+// Whether a neighbour's side is to be drawn, and is not there.
+fn is_bare(slots: &[u32], cell: Cell, beside: [u32; 6], set: u8, face: Face) -> bool
+    requires { ⌜ Gridded (cell .0) beside (now slots) ⌝ }
+    ensures { λ r. ⌜ r ≡ isBare (now (slots .entry)) (cell .0) beside set (number face) ⌝ }
 {
     if !has(set, face) {
         return false;
     }
-    match get_neighbor(cell, face, dims) {
-        Neighbor::Nothing => false,
-        Neighbor::At(next) => !is_filled(slots, next, face.opposite()),
+    let side = face.number() as usize;
+    match spot_at(cell, beside[side], 1, face) {
+        Spot::Nothing => false,
+        Spot::At(next, facing) => !is_filled(slots, next, facing),
     }
 }
 
-fn is_counted(
-    slots: &[u32],
-    dims: Dimensions,
-    cell: Cell,
-    work: Work,
-    counted: Counted,
-    face: Face,
-) -> bool
-    requires { ⌜ Gridded (sizeOf dims) (cell .0) (now slots) ⌝ }
-    ensures { λ r. ⌜ r ≡ counts counted (now (slots .entry)) (sizeOf dims) (cell .0) work (number face) ⌝ }
+fn bare_sides(slots: &[u32], cell: Cell, beside: [u32; 6], set: u8) -> u8
+    requires { ⌜ Gridded (cell .0) beside (now slots) ⌝ }
+    ensures { λ r. ⌜ r ≡ setOf (isBare (now (slots .entry)) (cell .0) beside set) ⌝ }
 {
-    match counted {
-        Counted::Gone => has(work.own, face) & is_filled(slots, cell, face),
-        Counted::Bare => is_bare(slots, dims, cell, work.shown, face),
-        Counted::New => {
-            has(work.drawn, face) & (has(work.own, face) | !is_filled(slots, cell, face))
-        }
-    }
-}
-
-// The set whose sides are looked at.
-fn part_of(work: Work, counted: Counted) -> u8
-    ensures { λ r. ⌜ r ≡ partOf counted work ⌝ }
-{
-    match counted {
-        Counted::Gone => work.own,
-        Counted::Bare => work.shown,
-        Counted::New => work.drawn,
-    }
-}
-
-// How many sides are counted.
-fn sides_counted(slots: &[u32], dims: Dimensions, cell: Cell, work: Work, counted: Counted) -> usize
-    requires { ⌜ Gridded (sizeOf dims) (cell .0) (now slots) ⌝ }
-    ensures { λ r. ⌜ (r ≡ quadsOf (setOf (counts counted (now (slots .entry)) (sizeOf dims) (cell .0) work))) × (r ≤ 6) ⌝ }
-{
-    if part_of(work, counted) == 0 {
+    if set == 0 {
         return 0;
     }
-    let mut n: usize = 0;
-    let mut f: u32 = 0;
-    while f < 6 {
-        let on = is_counted(slots, dims, cell, work, counted, face_at(f));
-        n += bit_if(on, 1) as usize;
-        f += 1;
-    }
-    n
+    side_set(
+        is_bare(slots, cell, beside, set, Face::Top),
+        is_bare(slots, cell, beside, set, Face::Bottom),
+        is_bare(slots, cell, beside, set, Face::Right),
+        is_bare(slots, cell, beside, set, Face::Left),
+        is_bare(slots, cell, beside, set, Face::Back),
+        is_bare(slots, cell, beside, set, Face::Forward),
+    )
+}
+
+// As many quads as the set has ones.
+fn ones(set: u8) -> usize
+    requires { ⌜ set < 64 ⌝ }
+    ensures { λ r. ⌜ (r ≡ quadsOf set) × (r ≤ 6) ⌝ }
+{
+    quads_of(set) as usize
 }
 
 // Q, less the own quads that go, plus the sides that are drawn: the highest count within the entry's work, if it is over Q.
-pub fn quads_needed(slots: &[u32], dims: Dimensions, cell: Cell, work: Work, count: usize) -> usize
-    requires { ⌜ Gridded (sizeOf dims) (cell .0) (now slots) × (count < 2 ^ 32)
-        × (quadsOf (setOf (counts Gone (now slots) (sizeOf dims) (cell .0) work)) ≤ count) ⌝ }
-    ensures { λ r. ⌜ r ≡ quadsNeeded (now (slots .entry)) (sizeOf dims) (cell .0) work count ⌝ }
+fn quads_needed(slots: &[u32], cell: Cell, beside: [u32; 6], work: Work, count: usize) -> usize
+    requires { ⌜ Gridded (cell .0) beside (now slots) × (count < 2 ^ 32) × ((j : ℕ) → setIn work j < 64)
+        × (quadsOf (setOf (goneSide (now slots) (cell .0) work)) ≤ count) ⌝ }
+    ensures { λ r. ⌜ r ≡ quadsNeeded (now (slots .entry)) (cell .0) beside work count ⌝ }
 {
-    let gone = sides_counted(slots, dims, cell, work, Counted::Gone);
-    let bare = sides_counted(slots, dims, cell, work, Counted::Bare);
-    let new = sides_counted(slots, dims, cell, work, Counted::New);
+    let filled = filled_sides(slots, cell);
+    let gone = ones(work.own & filled);
+    let bare = ones(bare_sides(slots, cell, beside, work.shown));
+    let new = ones(work.drawn & (work.own | (63 - filled)));
     count - gone + bare + new
+}
+
+// Whether the room holds what the entry's work needs. Twelve quads more are enough for any.
+pub fn has_room(
+    slots: &[u32],
+    cell: Cell,
+    beside: [u32; 6],
+    work: Work,
+    count: usize,
+    room: usize,
+) -> bool
+    requires { ⌜ Gridded (cell .0) beside (now slots) × (count < 2 ^ 32) × ((j : ℕ) → setIn work j < 64)
+        × (quadsOf (setOf (goneSide (now slots) (cell .0) work)) ≤ count) ⌝ }
+    ensures { λ r. ⌜ r ≡ leb (quadsNeeded (now (slots .entry)) (cell .0) beside work count) room ⌝ }
+{
+    if count + 12 <= room {
+        return true;
+    }
+    quads_needed(slots, cell, beside, work, count) <= room
 }

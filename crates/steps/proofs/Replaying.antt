@@ -1,7 +1,7 @@
 -- Steps replayed on one list that a mesh is laid out in: the list stays the layout of the quads. Over the words a quad. Assumes nothing.
 use mathlib.Core.Path.{_≡_, refl, sym, ap, _∙_, subst}
-use mathlib.Core.Bool.{Bool, true, false, cond, not}
-use mathlib.Core.List.{List, [], _∷_, _++_, map}
+use mathlib.Core.Bool.{cond, not}
+use mathlib.Core.List.{List, [], _∷_, _++_}
 use Prim.Native.Nat.{ℕ, zero, suc, _+_, _-_, _*_, _≤_, _<_, max}
 use native.Mathlib.Nat.{mul-le-mul-left}
 use native.Mathlib.Numerals.{add-one}
@@ -9,14 +9,12 @@ use native.Mathlib.Omega.{arith}
 use lib.ListN.{length, length-append, take, drop, set, getD}
 use Rattle.rules.specs.Lists.{only}
 use Rattle.rules.specs.Mesh.{Quad, there, placeOf, laid}
-use Rattle.rules.specs.Update.{removeAt, remove, draw, step, run, highest, Op, put, cut, shifts, blank}
+use Rattle.rules.specs.Update.{removeAt, remove, step, run, highest, Op, shifts, blank}
 use Rattle.rules.proofs.ListLaws.{All, all-append, all-take, all-drop, all-at, split}
 use Rattle.rules.proofs.Quads.{placed, length-removeAt}
 use Rattle.rules.proofs.Laying.{Sized}
-use Rattle.vav.specs.Rows as rows
-use Rattle.vav.specs.Rows.{freed}
 use Rattle.vav.proofs.Laid.{draw-laid, remove-laid}
-use Rattle.steps.specs.Steps.{Step, gone, came, Shelf, shelf, countAfter, replayOne, replayed, CanOne, Can, stepped, steppedAll, quadBy, topOf, Deed, show, hide, opOf, opsOf, stepsOf, Able}
+use Rattle.steps.specs.Steps.{Step, gone, came, Shelf, shelf, countAfter, replayOne, replayed, CanOne, Can, stepped, steppedAll, quadBy, topOf, Deed, show, hide, opsOf, stepsOf, Able}
 
 -- what holds of all quads holds of them after a removal
 all-removed : (P : Quad → Type 0) (q : ℕ) (m : List Quad) → q < length m → All P m → All P (removeAt q m)

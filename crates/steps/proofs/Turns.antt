@@ -1,7 +1,7 @@
 -- The vertices through the steps, one after the other: what is left to do on what is there is the whole work on what was there. Assumes nothing.
 use mathlib.Core.Path.{_≡_, refl, sym, ap, _∙_, subst}
-use mathlib.Core.Bool.{Bool, true, false, cond}
-use mathlib.Core.List.{List, [], _∷_, _++_}
+use mathlib.Core.Bool.{Bool, true, false}
+use mathlib.Core.List.{List, _∷_}
 use Prim.Native.Nat.{ℕ, suc, _+_, _-_, _*_, _/_, _%_, _≤_, _<_}
 use native.Mathlib.Nat.{mul-le-mul-left}
 use native.Mathlib.Numerals.{add-one}
@@ -16,8 +16,8 @@ use Rattle.util.specs.Grid.{Within}
 use Rattle.steps.specs.Rows.{Shaped}
 use Rattle.vav.proofs.Laws.{length-freed, length-put}
 use Rattle.quads.proofs.Writing.{length-quad}
-use Rattle.steps.specs.Steps.{Step, gone, came, stepAt, stepsFrom, Shelf, countAfter, replayOne, replayed}
-use Rattle.steps.specs.Rows.{wordsBy, Shelved, Stepping, Replaying}
+use Rattle.steps.specs.Steps.{Step, gone, came, stepAt, stepsFrom, Shelf, replayOne, replayed}
+use Rattle.steps.specs.Rows.{wordsBy, Stepping, Replaying}
 
 abbrev one : Scene → Step → Shelf → Shelf
 one S x v = replayOne (span S) (wordsBy S) x v

@@ -1,10 +1,10 @@
 -- The steps of an update, and what each does to one list. Definitions only.
-use Prim.Native.Nat.{ℕ, zero, suc, _+_, _-_, _*_, _≤_, _<_, max}
+use Prim.Native.Nat.{ℕ, _+_, _-_, _*_, _<_, max}
 use mathlib.Core.Bool.{cond, not}
 use mathlib.Core.List.{List, [], _∷_, _++_, map}
-use lib.ListN.{length, getD}
+use lib.ListN.{getD}
 use lib.Dec.{ltb}
-use Rattle.rules.specs.Lists.{each, only, table}
+use Rattle.rules.specs.Lists.{each, only}
 use Rattle.rules.specs.Mesh.{Quad, there, placeOf}
 use Rattle.rules.specs.Update.{removeAt, remove, draw, Op, put, cut}
 use Rattle.vav.specs.Rows as rows

@@ -11,14 +11,13 @@ ghost use mathlib.Core.Path.{_≡_};
 ghost use mathlib.Core.List.{[]};
 ghost use Prim.Native.Nat.{_+_, _*_, _≤_, _<_};
 ghost use lib.ListN.{length};
-ghost use Rattle.rules.specs.Cells.{cells, keyOf};
+ghost use Rattle.rules.specs.Cells.{cells};
 ghost use Rattle.rules.specs.Calls.{world, span};
 ghost use Rattle.face.specs.Face.{number};
 ghost use Rattle.util.specs.Grid.{sizeOf, Within};
 ghost use Rattle.terms.specs.Scenes.{sceneOf};
 ghost use Rattle.vav.specs.Rows.{put};
 ghost use Rattle.steps.specs.Rows.{Shaped};
-ghost use Rattle.steps.specs.Steps as rule;
 ghost use Rattle.steps.specs.Steps.{stepAt, stepsIn, shelf, replayOne, replayed};
 ghost use Rattle.steps.specs.Rows.{stepOf, wordsBy, Stepping, Replaying};
 

@@ -1,35 +1,33 @@
 -- What an entry draws are cubes of the registry, on faces of the grid. Assumes nothing.
-use mathlib.Core.Path.{_≡_, refl, sym, ap, _∙_, subst}
+use mathlib.Core.Path.{_≡_, sym, subst}
 use mathlib.Core.Logic.{⊎-elim}
-use mathlib.Core.Bool.{Bool, true}
+use mathlib.Core.Bool.{true}
 use mathlib.Core.List.{List, []}
-use mathlib.Core.Option.{some}
-use Prim.Native.Nat.{ℕ, _+_, _*_, _/_, _%_, _≤_, _<_}
+use Prim.Native.Nat.{ℕ, zero, suc, _*_, _/_, _%_, _<_}
 use native.Mathlib.Omega.{arith}
 use lib.Dec.{T, eqb}
 use lib.Ieee.Fits.{and-l}
 use lib.ListN.{length, getD, List·getD-eq-default}
 use borrow.Author.Tests.{eqb-true}
 use Rattle.rules.specs.Lists.{every}
-use Rattle.rules.specs.Cells.{cells, opposite, neighbour, keyOf}
+use Rattle.rules.specs.Cells.{cells, has}
 use Rattle.rules.specs.Floats.{finite}
 use Rattle.rules.specs.Types.{floats, cubeOf, isCube, positionOf}
 use Rattle.rules.specs.Update.{Entry, givenAt}
 use Rattle.rules.specs.Calls.{Scene, world, span, faces}
 use Rattle.rules.proofs.ListLaws.{All}
-use Rattle.rules.proofs.Neighbours.{beside, opposite-lt}
 use Rattle.rules.proofs.Demands.{words-sized}
 use Rattle.mesh_metadata.proofs.Slots.{order}
 use Rattle.util.specs.Grid.{Within}
 use Rattle.types.proofs.Known.{placed}
 use Rattle.voxel_mesh.proofs.Shapes.{row-within}
 use Rattle.lent.specs.Scenes.{Typed}
-use Rattle.steps.specs.Steps.{Deed, Able}
+use Rattle.steps.specs.Steps.{Able}
 use Rattle.steps.specs.Rows.{wordsBy, Shaped, Drawn}
 use Rattle.works.specs.declared.Work.{Work}
-use Rattle.works.specs.Sets.{deeds, Cubes}
+use Rattle.works.specs.Sets.{setIn, besideOf, act, deeds, Cubes}
 use Rattle.indexing.specs.Index.{Good}
-use Rattle.indexing.proofs.Sets.{Each, all-deeds}
+use Rattle.indexing.proofs.Sets.{all-deeds}
 
 -- the scene without its tables of types: what a list of vertices is drawn from
 abbrev pub bare : Scene → Scene
@@ -62,31 +60,25 @@ module _ (S : Scene) (k : Typed S) where
       }
 
   module _ (w : Within (S .size)) (e : Entry) (h : e .cell < cells (S .size)) (v : Work) where
-    next-inside : (f n : ℕ) → neighbour (S .size) (e .cell) f ≡ some n → n < cells (S .size)
-    next-inside f n q = beside (S .size) (w .sides .wide) (w .sides .long) (e .cell) h f n q .inside
+    abbrev around : List ℕ
+    around = besideOf (S .size) (e .cell)
 
     -- LAW: every deed is on a face of the grid, and its words are as long as a quad's
-    pub deeds-good : All (Good (wordsBy (bare S)) (faces S) (span S)) (deeds (S .size) e v)
-    deeds-good =
-        all-deeds (record {
-          own = λ f l. omega arith;
-          shown = λ f n l b q. (next f n l q, words-sized S (givenAt e f) (keyOf n (opposite f) % 6) (keyOf n (opposite f) / 6));
-          drawn = λ f l b. (omega arith, words-sized S (e .type) (keyOf (e .cell) f % 6) (keyOf (e .cell) f / 6));
-          hidden = λ f n l q. next f n l q;
-        })
+    pub deeds-good : All (Good (wordsBy (bare S)) (faces S) (span S)) (deeds around e v)
+    deeds-good = all-deeds (world S) e w h (Good (wordsBy (bare S)) (faces S) (span S)) v (λ j f k l on i. good j f k i)
       where
-        next : (f n : ℕ) → f < 6 → neighbour (S .size) (e .cell) f ≡ some n → keyOf n (opposite f) < 6 * cells (S .size)
-        next f n l q = let a = next-inside f n q in let b = opposite-lt f l in omega arith
+        good : (j f k : ℕ) → k < 6 * cells (S .size) → Good (wordsBy (bare S)) (faces S) (span S) (act e j f k)
+        good zero f k i = i
+        good (suc zero) f k i = (i, words-sized S (givenAt e f) (k % 6) (k / 6))
+        good (suc (suc zero)) f k i = (i, words-sized S (e .type) (k % 6) (k / 6))
+        good (suc (suc (suc j))) f k i = i
 
     -- LAW: what is drawn can be
-    pub deeds-able : Cubes (S .types .kinds) e v → All (Able (Drawn (bare S))) (deeds (S .size) e v)
-    deeds-able c =
-        all-deeds (record {
-          own = λ f l. tt;
-          shown = λ f n l b q. (next f n l q, shaped (givenAt e f) (c .shown f l b));
-          drawn = λ f l b. (omega arith, shaped (e .type) (c .drawn f l b));
-          hidden = λ f n l q. tt;
-        })
+    pub deeds-able : Cubes (S .types .kinds) e v → All (Able (Drawn (bare S))) (deeds around e v)
+    deeds-able c = all-deeds (world S) e w h (Able (Drawn (bare S))) v able
       where
-        next : (f n : ℕ) → f < 6 → neighbour (S .size) (e .cell) f ≡ some n → keyOf n (opposite f) / 6 < cells (S .size)
-        next f n l q = let a = next-inside f n q in let b = opposite-lt f l in omega arith
+        able : (j f k : ℕ) → f < 6 → has (setIn v j) f ≡ true → k < 6 * cells (S .size) → Able (Drawn (bare S)) (act e j f k)
+        able zero f k l on i = tt
+        able (suc zero) f k l on i = (omega arith, shaped (givenAt e f) (c .shown f l on))
+        able (suc (suc zero)) f k l on i = (omega arith, shaped (e .type) (c .drawn f l on))
+        able (suc (suc (suc j))) f k l on i = tt

@@ -3,15 +3,15 @@ use mathlib.Core.Path.{_≡_, refl, sym, ap, _∙_, subst}
 use mathlib.Core.Bool.{Bool, true, false, cond, not}
 use mathlib.Core.List.{List, [], _∷_, _++_, append-nil}
 use mathlib.Core.Option.{Option, none, some}
-use Prim.Native.Nat.{ℕ, zero, suc, _+_, _-_, _*_, _/_, _%_, _^_, _≤_, _<_, max}
+use Prim.Native.Nat.{ℕ, zero, suc, _+_, _-_, _*_, _/_, _^_, _≤_, _<_, max}
 use native.Mathlib.Nat.{mul-le-mul-left}
 use native.Mathlib.Omega.{arith}
-use lib.Dec.{eqb, leb}
-use lib.ListN.{length, getD}
+use lib.Dec.{leb}
+use lib.ListN.{length}
 use borrow.Author.Tests.{le-leb, lt-leb, leb-true}
 use Rattle.rules.specs.Lists.{each, table}
-use Rattle.rules.specs.Cells.{Size, cells, linkOf, setOf, quadsOf, firstVertex}
-use Rattle.rules.specs.Mesh.{Quad, NONE, there, laid, slotOf, pattern}
+use Rattle.rules.specs.Cells.{UNIT, cells, linkOf, setOf, quadsOf, firstVertex}
+use Rattle.rules.specs.Mesh.{Quad, NONE, there, laid, slotOf}
 use Rattle.rules.specs.Update as rule
 use Rattle.rules.specs.Update.{Tested, Entry, Op, cuts, puts, run, moves, highest, ops, needed, work, entryAt, courseFrom}
 use Rattle.rules.specs.Calls.{Scene, world, span, faces}
@@ -22,15 +22,14 @@ use Rattle.rules.proofs.Mending.{Sound}
 use Rattle.rules.proofs.Courses.{Sane, sane-step, highest-needed, run-le, fits-ops, fits-new, entry-moves}
 use Rattle.rules.proofs.Demands.{words-sized}
 use Rattle.mesh_metadata.proofs.Meshes as meshes
-use Rattle.util.specs.Grid.{Within}
-use Rattle.steps.specs.Steps.{Step, Deed, stepsIn, Shelf, shelf, replayed, quadBy, opsOf, stepsOf, Can}
+use Rattle.steps.specs.Steps.{Step, Deed, stepsIn, Shelf, shelf, replayed, quadBy, opsOf, Can, Able}
 use Rattle.steps.specs.Rows.{wordsBy, Drawn, Replaying}
 use Rattle.works.specs.declared.Work.{Work}
-use Rattle.works.specs.Sets.{workIn, deeds, Cubes}
-use Rattle.works.proofs.Deeds.{deeds-ops}
-use Rattle.indexing.specs.Index.{Index, indexRun, bookOf, Ready, hidesIn}
-use Rattle.indexing.specs.declared.Counted.the-variants.{Gone}
-use Rattle.indexing.specs.Room.{isFilled, counts, quadsNeeded, Gridded}
+use Rattle.works.specs.Sets.{meant, setIn, besideOf, spotsAt, workIn, deeds, Cubes}
+use Rattle.works.proofs.Meant.{meant-work, meant-cubes, meant-few, deeds-ops}
+use Rattle.indexing.specs.Index.{Index, indexRun, bookOf, Good, Ready}
+use Rattle.indexing.specs.Room.{isFilled, goneSide, quadsNeeded, Gridded}
+use Rattle.indexing.proofs.Sets.{spots-inside}
 use Rattle.indexing.proofs.Booking.{slot-none}
 use Rattle.indexing.proofs.Doing.{few-steps, all-few, hides-few}
 use Rattle.indexing.proofs.Room.{needed-counted, gone-le}
@@ -74,8 +73,8 @@ course-past room works i (suc k) m v p h =
     (λ e. omega arith)
 
 -- the index, before an entry
-abbrev pub indexAt : List ℕ → List ℕ → ℕ → ℕ → List ℕ → Index
-indexAt links slots quads moved steps = record { links = links; slots = slots; quads = quads; moved = moved; steps = stepsIn 0 steps }
+abbrev pub indexAt : List ℕ → List ℕ → ℕ → ℕ → ℕ → List ℕ → Index
+indexAt links slots quads moved top steps = record { links = links; slots = slots; quads = quads; moved = moved; top = top; steps = stepsIn 0 steps }
 
 -- entry k is next: the lists are the layout of a mesh m, and what is left of the log on m is the whole on what was there
 pub record Running (tested : Tested) (S : Scene) (room : ℕ) (log vs₀ ls₀ : List ℕ) (Q k h : ℕ) (vs ls ss : List ℕ) (q v : ℕ) : Type 0 where
@@ -157,8 +156,8 @@ module _ (tested : Tested) {S : Scene} {room : ℕ} {log vs₀ ls₀ ss₀ : Lis
         ∙ ap not (slot-none (wordsBy (bare S)) (span S) room (faces S) ls₀ (g .words) (g .small) m h (r .sane) j l) ∙ twice-not (there j m)
 
     module _ (lt : k < length log / 12) {e : Entry} (at : e ≡ entryAt log k) where
-      inGrid : e .cell < cells (S .size)
-      inGrid = subst (λ (x : Entry). x .cell < cells (S .size)) (sym at) (g .inside k lt)
+      pub run-inside : e .cell < cells (S .size)
+      run-inside = subst (λ (x : Entry). x .cell < cells (S .size)) (sym at) (g .inside k lt)
 
       fits : All (Fits (faces S) (span S)) ((works k) .new)
       fits = fits-new (world S) sound (span S) (words-sized S) tested (entryAt log k) (g .inside k lt) ((entryAt log k) .change)
@@ -177,44 +176,72 @@ module _ (tested : Tested) {S : Scene} {room : ℕ} {log vs₀ ls₀ ss₀ : Lis
           let a : length log / 12 - k ≡ suc (length log / 12 - (k + 1)) = omega arith in
           rw (a, lt-leb (needed (works k) m) room over)
 
-      -- ---- the room test
-      pub run-gridded : Gridded (S .size) (e .cell) ss
-      run-gridded = let z = length-slots in record { within = g .within; inside = inGrid; slots = omega arith }
+      -- ---- the entry's sets, and the cells beside its cell
+      module _ {w : Work} {b : List ℕ} (w-is : w ≡ meant tested (world S) e) (b-is : b ≡ besideOf (S .size) (e .cell)) where
+        is : workIn (world S) b e w ≡ works k
+        is = (λ i. workIn (world S) (b-is i) e (w-is i)) ∙ meant-work (world S) e (g .within) run-inside tested ∙ ap (work tested (world S)) at
 
-      module _ (w : Work) (told-work : workIn (world S) e w ≡ work tested (world S) e) where
-        is : workIn (world S) e w ≡ works k
-        is = told-work ∙ ap (work tested (world S)) at
+        pub run-sets : (j : ℕ) → setIn w j < 64
+        run-sets j = subst (λ (x : Work). setIn x j < 64) (sym w-is) (meant-few (world S) e tested j)
 
-        pub run-needed : quadsNeeded ss (S .size) (e .cell) w q ≡ needed (works k) m
+        -- ---- the room test
+        pub run-gridded : Gridded (e .cell) b ss
+        run-gridded =
+            let z = length-slots in
+            let s = g .small in
+            let i = run-inside in
+            record {
+              small = omega arith;
+              own = omega arith;
+              next = λ f l. subst (λ (x : List ℕ). All (λ n. (n < length ss) × (n < 6 * UNIT)) (spotsAt x (e .cell) 1 f)) (sym b-is)
+                  (widen (spotsAt (besideOf (S .size) (e .cell)) (e .cell) 1 f) (spots-inside (world S) e (g .within) run-inside 1 f l));
+            }
+          where
+            widen : (ks : List ℕ) → All (λ n. n < 6 * cells (S .size)) ks → All (λ n. (n < length ss) × (n < 6 * UNIT)) ks
+            widen [] a = tt
+            widen (n ∷ ks) a = let z = length-slots in let s = g .small in let l = a .0 in ((omega arith, omega arith), widen ks (a .1))
+
+        pub run-needed : quadsNeeded ss (e .cell) b w q ≡ needed (works k) m
         run-needed =
-            ap (quadsNeeded ss (S .size) (e .cell) w) (r .count)
-            ∙ needed-counted m (world S) e w ss told (g .within) inGrid (r .sane .once) ∙ ap (λ (x : rule.Work). needed x m) is
+            ap (quadsNeeded ss (e .cell) b w) (r .count) ∙ ap (λ (x : List ℕ). quadsNeeded ss (e .cell) x w (length m)) b-is
+            ∙ needed-counted m (world S) e w ss told (g .within) run-inside (r .sane .once) ∙ ap (λ (x : List ℕ). needed (workIn (world S) x e w) m) (sym b-is) ∙ ap (λ (x : rule.Work). needed x m) is
 
-        pub run-gone : quadsOf (setOf (counts Gone ss (S .size) (e .cell) w)) ≤ q
-        run-gone = let c = r .count in let l = gone-le m (world S) e w ss told (g .within) inGrid (r .sane .once) in omega arith
+        pub run-gone : quadsOf (setOf (goneSide ss (e .cell) w)) ≤ q
+        run-gone = let c = r .count in let l = gone-le m (world S) e w ss told (g .within) run-inside (r .sane .once) in omega arith
 
         -- ---- an entry that finds its room
-        module _ (fit : needed (works k) m ≤ room) (cubes : Cubes (S .types .kinds) e w) (xs : List ℕ) where
+        module _ (fit : needed (works k) m ≤ room) (xs : List ℕ) where
           abbrev ds : List Deed
-          ds = deeds (S .size) e w
+          ds = deeds b e w
+
+          on-faces : (P : Deed → Type 0) → All P (deeds (besideOf (S .size) (e .cell)) e w) → All P ds
+          on-faces P = subst (λ (x : List ℕ). All P (deeds x e w)) (sym b-is)
+
+          good : All (Good (wordsBy (bare S)) (faces S) (span S)) ds
+          good = on-faces (Good (wordsBy (bare S)) (faces S) (span S)) (deeds-good S (g .typed) (g .within) e run-inside w)
+
+          able : All (Able (Drawn (bare S))) ds
+          able =
+              on-faces (Able (Drawn (bare S)))
+              (deeds-able S (g .typed) (g .within) e run-inside w (subst (Cubes (S .types .kinds) e) (sym w-is) (meant-cubes (world S) e tested)))
 
           top : highest h (ops (works k)) m ≡ max h (needed (works k) m)
           top = highest-needed (works k) h m (r .sane .reached)
 
           as-ops : opsOf (quadBy (wordsBy (bare S))) ds ≡ ops (works k)
-          as-ops = deeds-ops (world S) e w ∙ ap ops is
+          as-ops = deeds-ops (world S) e b w ∙ ap ops is
 
           fits-top : highest h (ops (works k)) m ≤ room
           fits-top = let t = top in let b = r .sane .within in omega arith
 
-          index : indexAt ls ss q v xs ≡ bookOf (faces S) h m ls₀ v (stepsIn 0 xs)
-          index = let a = r .links in let b = r .slots in let c = r .count in λ i. record { links = a i; slots = b i; quads = c i; moved = v; steps = stepsIn 0 xs }
+          index : indexAt ls ss q v h xs ≡ bookOf (faces S) h m ls₀ v (stepsIn 0 xs)
+          index = let a = r .links in let b = r .slots in let c = r .count in λ i. record { links = a i; slots = b i; quads = c i; moved = v; top = h; steps = stepsIn 0 xs }
 
-          pub run-ready : Ready ds (indexAt ls ss q v xs)
+          pub run-ready : Ready ds (indexAt ls ss q v h xs)
           run-ready =
               let few = g .few in
               let mv = r .moves in
-              let a = all-few (S .size) e w in
+              let a = all-few b e w in
               let b = hides-few ds in
               record {
                 words = wordsBy (bare S);
@@ -222,24 +249,23 @@ module _ (tested : Tested) {S : Scene} {room : ℕ} {log vs₀ ls₀ ss₀ : Lis
                 room = room;
                 faces = faces S;
                 booked = record { old = ls₀; top = h; all = m; long = g .words; small = g .small; sane = r .sane; is = index };
-                good = deeds-good S (g .typed) (g .within) e inGrid w;
+                good = good;
                 fits = subst (λ (os : List Op). highest h os m ≤ room) (sym as-ops) fits-top;
                 moves = omega arith;
               }
 
           abbrev done : Index
-          done = indexRun ds (indexAt ls ss q v xs)
+          done = indexRun ds (indexAt ls ss q v h xs)
 
           struck-now : Struck (Drawn (bare S)) (world S) (span S) room (faces S) (ops (works k)) h m ls₀ vs₀ v done
           unfolding each
           struck-now =
               subst (λ (I : Index). Struck (Drawn (bare S)) (world S) (span S) room (faces S) (ops (works k)) h m ls₀ vs₀ v (indexRun ds I)) (sym index)
-              (struck (Drawn (bare S)) (world S) e (works k) w (span S) room (faces S) m h v ls₀ vs₀ is (g .words) (g .rows) (g .small) (r .sane)
-              (deeds-good S (g .typed) (g .within) e inGrid w) (deeds-able S (g .typed) (g .within) e inGrid w cubes) fits-top)
+              (struck (Drawn (bare S)) (world S) b e (works k) w (span S) room (faces S) m h v ls₀ vs₀ is (g .words) (g .rows) (g .small) (r .sane) good able fits-top)
 
           pub run-few : length (done .steps) ≤ 24
           unfolding each
-          run-few = let a = few-steps ds (indexAt ls ss q v xs) in let b = all-few (S .size) e w in omega arith
+          run-few = let a = few-steps ds (indexAt ls ss q v h xs) in let b = all-few b e w in omega arith
 
           pub run-replaying : Replaying (bare S) (done .steps) (shelf vs q)
           run-replaying =
@@ -255,15 +281,15 @@ module _ (tested : Tested) {S : Scene} {room : ℕ} {log vs₀ ls₀ ss₀ : Lis
               }
 
           -- what the entry leaves
-          pub run-on : {vs′ : List ℕ} {c : ℕ} {ls′ ss′ : List ℕ} {q′ v′ h′ n : ℕ} {ys : List Step}
-              → record { links = ls′; slots = ss′; quads = q′; moved = v′; steps = ys } ≡ done
-              → shelf vs′ c ≡ replayed (span S) (wordsBy (bare S)) (done .steps) (shelf vs q) → n ≡ needed (works k) m → h′ ≡ max h n
+          pub run-on : {vs′ : List ℕ} {c : ℕ} {ls′ ss′ : List ℕ} {q′ v′ h′ : ℕ} {ys : List Step}
+              → record { links = ls′; slots = ss′; quads = q′; moved = v′; top = h′; steps = ys } ≡ done
+              → shelf vs′ c ≡ replayed (span S) (wordsBy (bare S)) (done .steps) (shelf vs q)
               → Running tested S room log vs₀ ls₀ Q (k + 1) h′ vs′ ls′ ss′ q′ v′
-          run-on {vs′} {c} {ls′} {ss′} {q′} {v′} {h′} {n} {ys} i s a b =
+          run-on {vs′} {c} {ls′} {ss′} {q′} {v′} {h′} {ys} i s =
               let after : List Quad = run (ops (works k)) m in
               let above : ℕ = highest h (ops (works k)) m in
-              let h-is : h′ ≡ above = b ∙ ap (max h) a ∙ sym top in
               let book = i ∙ struck-now .book in
+              let h-is : h′ ≡ above = ap (λ (I : Index). I .top) book in
               let rows = s
               ∙ (λ j. replayed (span S) (wordsBy (bare S)) (done .steps) (shelf (r .vertices j) (r .count j))) ∙ struck-now .rows in
               let moved-is : v′ ≡ v + moves (ops (works k)) m = ap (λ (I : Index). I .moved) book in

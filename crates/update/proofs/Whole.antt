@@ -4,10 +4,10 @@ use mathlib.Core.Logic.{⊎-elim}
 use mathlib.Core.Bool.{true, true≢false}
 use mathlib.Core.List.{List, [], _∷_, _++_, append-assoc}
 use mathlib.Core.Option.{Option, none, some}
-use Prim.Native.Nat.{ℕ, zero, suc, _+_, _-_, _*_, _/_, _≤_, _<_}
+use Prim.Native.Nat.{ℕ, suc, _+_, _-_, _*_, _/_, _≤_, _<_}
 use native.Mathlib.Omega.{arith}
-use lib.ListN.{length, take, drop, replicate, length-replicate, length-append}
-use lib.Seq.{length-take-le, take-at, drop-append-add, drop-drop}
+use lib.ListN.{length, take, drop, replicate, length-replicate}
+use lib.Seq.{take-at, drop-append-add, drop-drop}
 use borrow.Author.Tests.{ltb-false, le-leb}
 use Rattle.rules.specs.Lists.{each, table}
 use Rattle.rules.specs.Cells.{cells}
@@ -15,7 +15,7 @@ use Rattle.rules.specs.Mesh.{Quad, Lists, NONE, pattern, rows, laid, listsOf, d
 use Rattle.rules.specs.Update.{Tested, entryAt, work, Course}
 use Rattle.rules.specs.Types.{floats}
 use Rattle.rules.specs.Answers.{Verdict, fine, refuse, _then_, refuseLowest, badEntry, BAD-SIZE, SHORT-SLOTS, BAD-COUNT, BAD-LINKS, BAD-TRIANGLES, BAD-ENTRY}
-use Rattle.rules.specs.Calls.{Scene, world, span, faces, room, typesVerdict, lentVerdict, bookVerdict, updateVerdict, course, Answer, Outcome, answered, refused, courseAnswer, updateBy, updateMesh}
+use Rattle.rules.specs.Calls.{Scene, world, span, faces, room, typesVerdict, lentVerdict, bookVerdict, updateVerdict, course, refused, courseAnswer, updateBy, updateMesh}
 use Rattle.rules.proofs.ListLaws.{All, length-table, length-each, each-split}
 use Rattle.rules.proofs.Laying.{Fits}
 use Rattle.rules.proofs.Checking.{then-fine, if-fine, lowest-fine, book-of-fine, length-decode}
@@ -26,7 +26,7 @@ use Rattle.lent.proofs.Admitted.{sized, typed}
 use Rattle.mesh_metadata.proofs.Slots.{order}
 use Rattle.mesh_metadata.proofs.Meshes as meshes
 use Rattle.vav.specs.Rows.{put, zeros}
-use Rattle.update.specs.Runs.{Ended, laidOut, meshIn, courseIn, Logging, patternsMended}
+use Rattle.update.specs.Runs.{Ended, laidOut, courseIn, Logging, patternsMended}
 use Rattle.update.specs.Outcome.{toldVerdict, endedAnswer}
 use Rattle.update.proofs.Running.{course-few, course-past}
 

@@ -8,8 +8,8 @@ use entries::Entry;
 use entries::first_bad_entry;
 use entries::read_entry;
 use indexing::Tally;
+use indexing::has_room;
 use indexing::index_work;
-use indexing::quads_needed;
 use lent::lent_verdict;
 use lent::links::links_verdict;
 use lent::room_of;
@@ -22,9 +22,10 @@ use terms::Scene;
 use terms::Tested;
 use types::types_verdict;
 use vav::clear;
+use works::cells_beside;
 use works::work_of;
 ghost use mathlib.Core.Path.{_≡_};
-ghost use Prim.Native.Nat.{_*_, _≤_, max};
+ghost use Prim.Native.Nat.{_*_, _≤_};
 ghost use lib.ListN.{length};
 ghost use Rattle.rules.specs.Mesh.{NONE, Lists};
 ghost use Rattle.rules.specs.Answers.{BAD-ENTRY};
@@ -56,12 +57,6 @@ pub enum Ran {
     Full(usize, Course),
 }
 
-fn larger(a: usize, b: usize) -> usize
-    ensures { λ r. ⌜ r ≡ max a b ⌝ }
-{
-    if a <= b { b } else { a }
-}
-
 // The entries of a log in order, up to the first that finds no room: each on the index, and by its steps on the vertices.
 fn run_log(
     vertices: &mut [u32],
@@ -89,8 +84,8 @@ fn run_log(
     while k < entries {
         let entry = read_entry(log, k);
         let work = work_of(kinds, covers, tested, entry);
-        let needed = quads_needed(slots, scene.dims, entry.cell, work, quads);
-        if task.room < needed {
+        let beside = cells_beside(scene.dims, entry.cell);
+        if !has_room(slots, entry.cell, beside, work, quads, task.room) {
             return Ran::Full(
                 k,
                 Course {
@@ -106,19 +101,20 @@ fn run_log(
             links,
             slots,
             &mut steps,
-            scene.dims,
+            beside,
             entry,
             work,
             Tally {
                 quads: quads,
                 moved: moved,
+                top: highest,
                 steps: 0,
             },
         );
         replay(vertices, scene, cubes, &steps, tally.steps, quads);
         quads = tally.quads;
         moved = tally.moved;
-        highest = larger(highest, needed);
+        highest = tally.top;
         k += 1;
     }
     Ran::Through(Course {

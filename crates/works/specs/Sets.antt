@@ -1,89 +1,117 @@
 -- What an entry means, as four side sets, and face by face. Definitions only.
-use Prim.Native.Nat.{ℕ, zero, suc, _<_}
+use Prim.Native.Nat.{ℕ, zero, suc, _/_, _%_, _<_}
 use mathlib.Core.Path.{_≡_}
-use mathlib.Core.Bool.{Bool, true, _&&_}
-use mathlib.Core.List.{List, [], _∷_, _++_}
+use mathlib.Core.Bool.{Bool, true, cond, _&&_}
+use mathlib.Core.List.{List, [], _∷_, _++_, map}
 use mathlib.Core.Option.{Option, none, some}
 use lib.ListN.{getD}
-use lib.Dec.{eqb}
-use Rattle.rules.specs.Lists.{each, only}
-use Rattle.rules.specs.Cells.{Size, opposite, neighbour, keyOf, has}
-use Rattle.rules.specs.Mesh.{Quad, World, isNormalCube, covering}
+use lib.Dec.{eqb, ltb}
+use Rattle.rules.specs.Lists.{each, table}
+use Rattle.rules.specs.Cells.{Size, opposite, neighbour, keyOf, has, setOf}
+use Rattle.rules.specs.Mesh.{Quad, World, NONE, isNormalCube, covering}
 use Rattle.rules.specs.Update as rule
-use Rattle.rules.specs.Update.{Entry, givenAt, withGiven, isOpen, quadOf, sides, quads}
+use Rattle.rules.specs.Update.{Entry, Change, Broken, Added, CullFaces, AddFaces, Tested, givenAt, withGiven, isOpen}
 use Rattle.face.specs.Face.{number}
-use Rattle.steps.specs.Steps as steps
+use Rattle.steps.specs.Steps.{Deed, show, hide, CUT, quadBy}
 use Rattle.works.specs.declared.Work.{Work}
-use Rattle.works.specs.declared.Question.{Question}
-use Rattle.works.specs.declared.Question.the-variants.{Given, Open, Shown, Hidden}
-use Rattle.works.specs.declared.Deed.{Deed}
-use Rattle.works.specs.declared.Deed.the-variants.{Nothing, Cut, Draw}
-
-abbrev pub worldBy : Size → List ℕ → List ℕ → (ℕ → ℕ → ℕ → List ℕ) → World
-worldBy s kinds covers words = record { size = s; kinds = kinds; covers = covers; wordsOf = words }
+use Rattle.works.specs.declared.Spot.{Spot}
+use Rattle.works.specs.declared.Spot.the-variants.{At, Nothing}
 
 -- the types alone
 abbrev pub typesBy : List ℕ → List ℕ → World
-typesBy kinds covers = worldBy (record { w = 0; h = 0; l = 0 }) kinds covers (λ t f c. [])
+typesBy kinds covers = record { size = record { w = 0; h = 0; l = 0 }; kinds = kinds; covers = covers; wordsOf = λ t f c. [] }
 
--- the neighbour's facing side: drawn for the type given, cut
-abbrev pub shownAt : World → Entry → ℕ → ℕ → Option ℕ → List Quad
-shownAt W e set i none = []
-shownAt W e set i (some n) = only (has set i) (quadOf W (givenAt e i) n (opposite i))
+abbrev pub sets : ℕ → ℕ → ℕ → ℕ → Work
+sets own shown drawn hidden = record { own = own; shown = shown; drawn = drawn; hidden = hidden }
 
-abbrev pub hiddenAt : ℕ → ℕ → Option ℕ → List ℕ
-hiddenAt set i none = []
-hiddenAt set i (some n) = only (has set i) (keyOf n (opposite i))
+abbrev pub noWork : Work
+noWork = sets 0 0 0 0
 
--- four side sets as the rule's work
-unfoldable pub workIn : World → Entry → Work → rule.Work
-workIn W e w =
-    record {
-      own = sides (e .cell) (has (w .own));
-      new = each 6 0 (λ i. shownAt W e (w .shown) i (neighbour (W .size) (e .cell) i)) ++ quads W (e .type) (e .cell) (has (w .drawn));
-      facing = each 6 0 (λ i. hiddenAt (w .hidden) i (neighbour (W .size) (e .cell) i));
-    }
+-- the voxel that goes covers side i, and the neighbour given there is a NormalCube
+abbrev pub isShown : List ℕ → ℕ → Entry → ℕ → Bool
+isShown kinds cover e i = has cover i && eqb (getD kinds (givenAt e i) 0) 1
 
--- what an entry asks of side i: a neighbour is given there; it is open; the voxel that goes covers it, and the neighbour given is a NormalCube; the
--- voxel that comes covers the side tested
-abbrev pub asks : Question → rule.Tested → World → Entry → ℕ → Bool
-asks Given tested W e i = withGiven e i
-asks Open tested W e i = isOpen W e i
-asks Shown tested W e i = covering W (e .type) i && isNormalCube W (givenAt e i)
-asks Hidden tested W e i = covering W (e .type) (tested i)
+-- ---- the four sets of each change
+abbrev pub meantBy : Tested → World → Entry → Change → Work
+meantBy tested W e Broken = sets 63 (setOf (isShown (W .kinds) (getD (W .covers) (e .type) 0) e)) 0 0
+meantBy tested W e Added = cond (isNormalCube W (e .type)) (sets 63 0 (setOf (isOpen W e)) (setOf (λ i. covering W (e .type) (tested i)))) noWork
+meantBy tested W e CullFaces = sets (setOf (withGiven e)) 0 0 0
+meantBy tested W e AddFaces = cond (isNormalCube W (e .type)) (sets 0 0 (setOf (withGiven e)) 0) noWork
 
--- what is drawn is of NormalCubes
-pub record Cubes (kinds : List ℕ) (e : Entry) (w : Work) : Type 0 where
-  pub shown : (i : ℕ) → i < 6 → has (w .shown) i ≡ true → eqb (getD kinds (givenAt e i) 0) 1 ≡ true
-  pub drawn : (i : ℕ) → i < 6 → has (w .drawn) i ≡ true → eqb (getD kinds (e .type) 0) 1 ≡ true
+abbrev pub meant : Tested → World → Entry → Work
+meant tested W e = meantBy tested W e (e .change)
 
--- ---- face by face: the work's four parts, one after the other
-
-abbrev pub deedIn : Deed → List steps.Deed
-deedIn Nothing = []
-deedIn (Cut cell face) = steps.hide (keyOf (cell .0) (number face)) ∷ []
-deedIn (Draw cell face voxel) = steps.show (keyOf (cell .0) (number face)) voxel ∷ []
-
-abbrev pub showAt : Entry → ℕ → ℕ → Option ℕ → List steps.Deed
-showAt e set i none = []
-showAt e set i (some n) = only (has set i) (steps.show (keyOf n (opposite i)) (givenAt e i))
-
-abbrev pub hideAt : ℕ → ℕ → Option ℕ → List steps.Deed
-hideAt set i none = []
-hideAt set i (some n) = only (has set i) (steps.hide (keyOf n (opposite i)))
-
-unfoldable pub deedAt : Size → Entry → Work → ℕ → ℕ → List steps.Deed
-deedAt s e w zero f = only (has (w .own) f) (steps.hide (keyOf (e .cell) f))
-deedAt s e w (suc zero) f = showAt e (w .shown) f (neighbour s (e .cell) f)
-deedAt s e w (suc (suc zero)) f = only (has (w .drawn) f) (steps.show (keyOf (e .cell) f) (e .type))
-deedAt s e w (suc (suc (suc p))) f = hideAt (w .hidden) f (neighbour s (e .cell) f)
-
--- the set that a part is of
+-- ---- the four parts: their sets, the faces that they are about, and what is done there
 abbrev pub setIn : Work → ℕ → ℕ
 setIn w zero = w .own
 setIn w (suc zero) = w .shown
 setIn w (suc (suc zero)) = w .drawn
 setIn w (suc (suc (suc p))) = w .hidden
 
-abbrev pub deeds : Size → Entry → Work → List steps.Deed
-deeds s e w = each 4 0 (λ j. each 6 0 (deedAt s e w j))
+-- the cells beside a cell, NONE where the grid has none
+abbrev pub cellOr : Option ℕ → ℕ
+cellOr none = NONE
+cellOr (some n) = n
+
+abbrev pub besideOf : Size → ℕ → List ℕ
+besideOf s c = table 6 (λ f. cellOr (neighbour s c f))
+
+-- a neighbour's facing side
+abbrev pub facing : ℕ → ℕ → List ℕ
+facing f n = cond (eqb n NONE) [] (keyOf n (opposite f) ∷ [])
+
+-- the own side, or the facing one of the neighbour n
+abbrev pub spotsBy : ℕ → ℕ → ℕ → ℕ → List ℕ
+spotsBy zero n c f = keyOf c f ∷ []
+spotsBy (suc odd) n c f = facing f n
+
+abbrev pub spotsAt : List ℕ → ℕ → ℕ → ℕ → List ℕ
+spotsAt beside c part f = spotsBy (part % 2) (getD beside f 0) c f
+
+abbrev pub act : Entry → ℕ → ℕ → ℕ → Deed
+act e zero f k = hide k
+act e (suc zero) f k = show k (givenAt e f)
+act e (suc (suc zero)) f k = show k (e .type)
+act e (suc (suc (suc p))) f k = hide k
+
+-- the faces of a part with its set at face f: one, or none
+unfoldable pub asked : List ℕ → ℕ → ℕ → ℕ → ℕ → List ℕ
+asked beside c set part f = cond (has set f) (spotsAt beside c part f) []
+
+abbrev pub deedAt : List ℕ → Entry → ℕ → ℕ → ℕ → List Deed
+deedAt beside e set part f = map (act e part f) (asked beside (e .cell) set part f)
+
+abbrev pub deeds : List ℕ → Entry → Work → List Deed
+deeds beside e w = each 4 0 (λ j. each 6 0 (deedAt beside e (setIn w j) j))
+
+-- ---- as the rule's work
+abbrev pub quadIn : World → ℕ → ℕ → Quad
+quadIn W = quadBy (λ k t. W .wordsOf t (k % 6) (k / 6))
+
+abbrev pub keysIn : List ℕ → ℕ → Work → ℕ → List ℕ
+keysIn beside c w part = each 6 0 (asked beside c (setIn w part) part)
+
+abbrev pub quadsIn : World → List ℕ → ℕ → Work → ℕ → (ℕ → ℕ) → List Quad
+quadsIn W beside c w part type = each 6 0 (λ f. map (λ k. quadIn W k (type f)) (asked beside c (setIn w part) part f))
+
+unfoldable pub workIn : World → List ℕ → Entry → Work → rule.Work
+workIn W beside e w =
+    record {
+      own = keysIn beside (e .cell) w 0;
+      new = quadsIn W beside (e .cell) w 1 (givenAt e) ++ quadsIn W beside (e .cell) w 2 (λ f. e .type);
+      facing = keysIn beside (e .cell) w 3;
+    }
+
+-- what is drawn is of NormalCubes
+pub record Cubes (kinds : List ℕ) (e : Entry) (w : Work) : Type 0 where
+  pub shown : (i : ℕ) → i < 6 → has (w .shown) i ≡ true → eqb (getD kinds (givenAt e i) 0) 1 ≡ true
+  pub drawn : (i : ℕ) → i < 6 → has (w .drawn) i ≡ true → eqb (getD kinds (e .type) 0) 1 ≡ true
+
+-- ---- what the code tells of the faces
+abbrev pub spotIn : Spot → List ℕ
+spotIn Nothing = []
+spotIn (At cell face) = keyOf (cell .0) (number face) ∷ []
+
+-- a key with a type's code, or with CUT
+abbrev pub deedBy : ℕ → ℕ → Deed
+deedBy k mark = cond (ltb mark CUT) (show k mark) (hide k)

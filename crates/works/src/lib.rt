@@ -1,31 +1,34 @@
-// What an entry of a log means: four side sets, and the deeds on faces that they ask for. No list of the mesh is lent.
+// What an entry of a log means: four side sets, and the faces that they stand for. No list of the mesh is lent.
 use entries::Entry;
 use entries::Neighbour;
 use entries::VoxelChange;
 use face::Cell;
 use face::Face;
-use face::bit_if;
+use face::NONE;
 use face::face_at;
 use face::has;
+use face::side_set;
+use steps::CUT;
 use terms::Tested;
+use util::Coordinates;
 use util::Dimensions;
 use util::Neighbor;
-use util::get_neighbor;
+use util::neighbor_at;
+use util::three_d_cords;
 ghost use mathlib.Core.Path.{_≡_};
-ghost use mathlib.Core.List.{List, []};
-ghost use Prim.Native.Nat.{ℕ, _<_};
+ghost use mathlib.Core.Bool.{cond};
+ghost use mathlib.Core.List.{[]};
+ghost use Prim.Native.Nat.{ℕ, _%_, _<_};
 ghost use lib.Dec.{eqb};
 ghost use lib.ListN.{getD};
-ghost use Rattle.rules.specs.Lists.{only};
 ghost use Rattle.rules.specs.Cells as rule;
-ghost use Rattle.rules.specs.Cells.{Size, cells, neighbour, setOf, keyOf};
-ghost use Rattle.rules.specs.Update.{givenAt, withGiven, isOpen, work};
+ghost use Rattle.rules.specs.Cells.{cells, coordinates, neighbour, setOf};
+ghost use Rattle.rules.specs.Update.{givenAt, withGiven, isOpen};
 ghost use Rattle.face.specs.Face.{number};
-ghost use Rattle.util.specs.Grid.{sizeOf, Within};
+ghost use Rattle.util.specs.Grid.{sizeOf, tripleOf, Within};
 ghost use Rattle.entries.specs.Log.{entryIn};
 ghost use Rattle.terms.specs.Modes.{testedBy};
-ghost use Rattle.steps.specs.Steps as steps;
-ghost use Rattle.works.specs.Sets.{worldBy, typesBy, asks, workIn, Cubes, setIn, deedIn, showAt, hideAt, deedAt};
+ghost use Rattle.works.specs.Sets.{typesBy, isShown, noWork, meant, setIn, cellOr, besideOf, spotIn, spotsBy, deedBy, act};
 
 // All six sides.
 const ALL_SIDES: u8 = 63;
@@ -38,19 +41,10 @@ pub struct Work {
     pub hidden: u8,
 }
 
-// What an entry asks of a side of its cell: is a neighbour given there; is it open; is the neighbour's facing side uncovered, or covered.
-pub enum Question {
-    Given,
-    Open,
-    Shown,
-    Hidden,
-}
-
-// What is to be done to one face.
-pub enum Deed {
+// A face of a cell of the grid, or none.
+pub enum Spot {
+    At(Cell, Face),
     Nothing,
-    Cut(Cell, Face),
-    Draw(Cell, Face, u8),
 }
 
 // A code that is no type's is of no NormalCube, and covers nothing.
@@ -64,14 +58,14 @@ fn is_normal_cube(kinds: &[u8], voxel: u8) -> bool
     kinds[t] == 1
 }
 
-fn is_covering(covers: &[u8], voxel: u8, face: Face) -> bool
-    ensures { λ r. ⌜ r ≡ rule.has (getD (now (covers .entry)) voxel 0) (number face) ⌝ }
+fn cover_of(covers: &[u8], voxel: u8) -> u8
+    ensures { λ r. ⌜ r ≡ getD (now (covers .entry)) voxel 0 ⌝ }
 {
     let t = voxel as usize;
     if covers.len() <= t {
-        return false;
+        return 0;
     }
-    has(covers[t], face)
+    covers[t]
 }
 
 // The neighbour's byte: a type, or outside.
@@ -96,141 +90,130 @@ fn is_open(covers: &[u8], entry: Entry, face: Face) -> bool
 {
     match entry.neighbour(face) {
         Neighbour::Outside => true,
-        Neighbour::Voxel(given) => !is_covering(covers, given, face.opposite()),
+        Neighbour::Voxel(given) => !has(cover_of(covers, given), face.opposite()),
     }
 }
 
-fn is_asked(
-    kinds: &[u8],
-    covers: &[u8],
-    tested: Tested,
-    entry: Entry,
-    question: Question,
-    face: Face,
-) -> bool
-    ensures { λ r. ⌜ r ≡ asks question (testedBy tested) (typesBy (now (kinds .entry)) (now (covers .entry))) (entryIn entry) (number face) ⌝ }
+// Whether the side that goes covered it, and what is given there is a NormalCube.
+fn is_shown(kinds: &[u8], cover: u8, entry: Entry, face: Face) -> bool
+    ensures { λ r. ⌜ r ≡ isShown (now (kinds .entry)) cover (entryIn entry) (number face) ⌝ }
 {
-    match question {
-        Question::Given => is_given(entry, face),
-        Question::Open => is_open(covers, entry, face),
-        Question::Shown => {
-            is_covering(covers, entry.voxel, face) & is_normal_cube(kinds, given(entry, face))
-        }
-        Question::Hidden => is_covering(covers, entry.voxel, tested.side(face)),
-    }
+    has(cover, face) & is_normal_cube(kinds, given(entry, face))
 }
 
-// The sides of which it holds: one call in a loop, which the compiler takes in whole.
-fn asked_sides(kinds: &[u8], covers: &[u8], tested: Tested, entry: Entry, question: Question) -> u8
-    ensures { λ r. ⌜ r ≡ setOf (asks question (testedBy tested) (typesBy (now (kinds .entry)) (now (covers .entry))) (entryIn entry)) ⌝ }
+fn given_sides(entry: Entry) -> u8
+    ensures { λ r. ⌜ r ≡ setOf (withGiven (entryIn entry)) ⌝ }
 {
-    let mut set: u8 = 0;
-    let mut f: u32 = 6;
-    while 0 < f {
-        f -= 1;
-        let on = is_asked(kinds, covers, tested, entry, question, face_at(f));
-        set = 2 * set + bit_if(on, 1);
-    }
-    set
+    side_set(
+        is_given(entry, Face::Top),
+        is_given(entry, Face::Bottom),
+        is_given(entry, Face::Right),
+        is_given(entry, Face::Left),
+        is_given(entry, Face::Back),
+        is_given(entry, Face::Forward),
+    )
 }
 
-// The work of an entry.
-pub fn work_of(kinds: &[u8], covers: &[u8], tested: Tested, entry: Entry) -> Work
-    ensures { λ r. ⌜ ((s : Size) (words : ℕ → ℕ → ℕ → List ℕ) → workIn (worldBy s (now (kinds .entry)) (now (covers .entry)) words) (entryIn entry) r
-        ≡ work (testedBy tested) (worldBy s (now (kinds .entry)) (now (covers .entry)) words) (entryIn entry))
-        × Cubes (now (kinds .entry)) (entryIn entry) r ⌝ }
+fn open_sides(covers: &[u8], entry: Entry) -> u8
+    ensures { λ r. ⌜ r ≡ setOf (isOpen (typesBy [] (now (covers .entry))) (entryIn entry)) ⌝ }
 {
-    let nothing = Work {
+    side_set(
+        is_open(covers, entry, Face::Top),
+        is_open(covers, entry, Face::Bottom),
+        is_open(covers, entry, Face::Right),
+        is_open(covers, entry, Face::Left),
+        is_open(covers, entry, Face::Back),
+        is_open(covers, entry, Face::Forward),
+    )
+}
+
+fn shown_sides(kinds: &[u8], cover: u8, entry: Entry) -> u8
+    ensures { λ r. ⌜ r ≡ setOf (isShown (now (kinds .entry)) cover (entryIn entry)) ⌝ }
+{
+    side_set(
+        is_shown(kinds, cover, entry, Face::Top),
+        is_shown(kinds, cover, entry, Face::Bottom),
+        is_shown(kinds, cover, entry, Face::Right),
+        is_shown(kinds, cover, entry, Face::Left),
+        is_shown(kinds, cover, entry, Face::Back),
+        is_shown(kinds, cover, entry, Face::Forward),
+    )
+}
+
+// The sides of which the side tested is covered.
+fn hidden_sides(tested: Tested, cover: u8) -> u8
+    ensures { λ r. ⌜ r ≡ setOf (λ i. rule.has cover (testedBy tested i)) ⌝ }
+{
+    side_set(
+        has(cover, tested.side(Face::Top)),
+        has(cover, tested.side(Face::Bottom)),
+        has(cover, tested.side(Face::Right)),
+        has(cover, tested.side(Face::Left)),
+        has(cover, tested.side(Face::Back)),
+        has(cover, tested.side(Face::Forward)),
+    )
+}
+
+fn work_if(on: bool, work: Work) -> Work
+    ensures { λ r. ⌜ r ≡ cond on work noWork ⌝ }
+{
+    if on {
+        return work;
+    }
+    Work {
         own: 0,
         shown: 0,
         drawn: 0,
         hidden: 0,
-    };
+    }
+}
+
+// The work of an entry.
+pub fn work_of(kinds: &[u8], covers: &[u8], tested: Tested, entry: Entry) -> Work
+    ensures { λ r. ⌜ r ≡ meant (testedBy tested) (typesBy (now (kinds .entry)) (now (covers .entry))) (entryIn entry) ⌝ }
+{
+    let cube = is_normal_cube(kinds, entry.voxel);
+    let cover = cover_of(covers, entry.voxel);
     let change = entry.change;
     match change {
         VoxelChange::Broken => {
             Work {
                 own: ALL_SIDES,
-                shown: asked_sides(kinds, covers, tested, entry, Question::Shown),
+                shown: shown_sides(kinds, cover, entry),
                 drawn: 0,
                 hidden: 0,
             }
         }
         VoxelChange::Added => {
-            if !is_normal_cube(kinds, entry.voxel) {
-                return nothing;
-            }
-            Work {
-                own: ALL_SIDES,
-                shown: 0,
-                drawn: asked_sides(kinds, covers, tested, entry, Question::Open),
-                hidden: asked_sides(kinds, covers, tested, entry, Question::Hidden),
-            }
+            work_if(
+                cube,
+                Work {
+                    own: ALL_SIDES,
+                    shown: 0,
+                    drawn: open_sides(covers, entry),
+                    hidden: hidden_sides(tested, cover),
+                },
+            )
         }
         VoxelChange::CullFaces => {
             Work {
-                own: asked_sides(kinds, covers, tested, entry, Question::Given),
+                own: given_sides(entry),
                 shown: 0,
                 drawn: 0,
                 hidden: 0,
             }
         }
         VoxelChange::AddFaces => {
-            if !is_normal_cube(kinds, entry.voxel) {
-                return nothing;
-            }
-            Work {
-                own: 0,
-                shown: 0,
-                drawn: asked_sides(kinds, covers, tested, entry, Question::Given),
-                hidden: 0,
-            }
+            work_if(
+                cube,
+                Work {
+                    own: 0,
+                    shown: 0,
+                    drawn: given_sides(entry),
+                    hidden: 0,
+                },
+            )
         }
-    }
-}
-
-fn cut_if(on: bool, cell: Cell, face: Face) -> Deed
-    ensures { λ r. ⌜ deedIn r ≡ only on (steps.hide (keyOf (cell .0) (number face))) ⌝ }
-{
-    if on {
-        return Deed::Cut(cell, face);
-    }
-    Deed::Nothing
-}
-
-fn draw_if(on: bool, cell: Cell, face: Face, voxel: u8) -> Deed
-    ensures { λ r. ⌜ deedIn r ≡ only on (steps.show (keyOf (cell .0) (number face)) voxel) ⌝ }
-{
-    if on {
-        return Deed::Draw(cell, face, voxel);
-    }
-    Deed::Nothing
-}
-
-// The neighbour's facing side, if the grid has the neighbour.
-fn show_at(dims: Dimensions, entry: Entry, set: u8, face: Face) -> Deed
-    requires { ⌜ Within (sizeOf dims) × (entry .cell .0 < cells (sizeOf dims)) ⌝ }
-    ensures { λ r. ⌜ deedIn r ≡ showAt (entryIn entry) set (number face) (neighbour (sizeOf dims) (entry .cell .0) (number face)) ⌝ }
-{
-    if !has(set, face) {
-        return Deed::Nothing;
-    }
-    match get_neighbor(entry.cell, face, dims) {
-        Neighbor::Nothing => Deed::Nothing,
-        Neighbor::At(next) => Deed::Draw(next, face.opposite(), given(entry, face)),
-    }
-}
-
-fn hide_at(dims: Dimensions, entry: Entry, set: u8, face: Face) -> Deed
-    requires { ⌜ Within (sizeOf dims) × (entry .cell .0 < cells (sizeOf dims)) ⌝ }
-    ensures { λ r. ⌜ deedIn r ≡ hideAt set (number face) (neighbour (sizeOf dims) (entry .cell .0) (number face)) ⌝ }
-{
-    if !has(set, face) {
-        return Deed::Nothing;
-    }
-    match get_neighbor(entry.cell, face, dims) {
-        Neighbor::Nothing => Deed::Nothing,
-        Neighbor::At(next) => Deed::Cut(next, face.opposite()),
     }
 }
 
@@ -248,15 +231,60 @@ impl Work {
     }
 }
 
-// What part `part` of the work asks for at a face.
-pub fn deed_at(dims: Dimensions, entry: Entry, work: Work, part: u32, face: Face) -> Deed
-    requires { ⌜ Within (sizeOf dims) × (entry .cell .0 < cells (sizeOf dims)) ⌝ }
-    ensures { λ r. ⌜ deedIn r ≡ deedAt (sizeOf dims) (entryIn entry) work part (number face) ⌝ }
+fn cell_beside(dims: Dimensions, cell: Cell, at: Coordinates, face: Face) -> u32
+    requires { ⌜ Within (sizeOf dims) × (cell .0 < cells (sizeOf dims)) × (tripleOf at ≡ coordinates (sizeOf dims) (cell .0)) ⌝ }
+    ensures { λ r. ⌜ r ≡ cellOr (neighbour (sizeOf dims) (cell .0) (number face)) ⌝ }
+{
+    match neighbor_at(cell, at.x, at.y, at.z, face, dims) {
+        Neighbor::At(next) => next.0,
+        Neighbor::Nothing => NONE,
+    }
+}
+
+// The cells beside a cell, face by face; NONE where the grid has none.
+pub fn cells_beside(dims: Dimensions, cell: Cell) -> [u32; 6]
+    requires { ⌜ Within (sizeOf dims) × (cell .0 < cells (sizeOf dims)) ⌝ }
+    ensures { λ r. ⌜ r ≡ besideOf (sizeOf dims) (cell .0) ⌝ }
+{
+    let at = three_d_cords(cell, dims);
+    [
+        cell_beside(dims, cell, at, Face::Top),
+        cell_beside(dims, cell, at, Face::Bottom),
+        cell_beside(dims, cell, at, Face::Right),
+        cell_beside(dims, cell, at, Face::Left),
+        cell_beside(dims, cell, at, Face::Back),
+        cell_beside(dims, cell, at, Face::Forward),
+    ]
+}
+
+// The opposite face, by a sum: `opposite` tells six faces apart by branches, which are guessed wrong where the face is not known beforehand.
+fn facing(face: Face) -> Face
+    ensures { λ r. ⌜ number r ≡ rule.opposite (number face) ⌝ }
+{
+    let n = face.number();
+    face_at(n + 1 - 2 * (n % 2))
+}
+
+// The face that part `part` is about at a face of a cell: its own, or the facing one of the neighbour, if the grid has it.
+pub fn spot_at(cell: Cell, next: u32, part: u32, face: Face) -> Spot
+    ensures { λ r. ⌜ spotIn r ≡ spotsBy (part % 2) next (cell .0) (number face) ⌝ }
+{
+    if part % 2 == 0 {
+        return Spot::At(cell, face);
+    }
+    if next == NONE {
+        return Spot::Nothing;
+    }
+    Spot::At(Cell(next), facing(face))
+}
+
+// What part `part` does there: the type that it draws, or CUT.
+pub fn mark_of(entry: Entry, part: u32, face: Face) -> u32
+    ensures { λ r. ⌜ ((k : ℕ) → deedBy k r ≡ act (entryIn entry) part (number face) k) ⌝ }
 {
     match part {
-        0 => cut_if(has(work.own, face), entry.cell, face),
-        1 => show_at(dims, entry, work.shown, face),
-        2 => draw_if(has(work.drawn, face), entry.cell, face, entry.voxel),
-        _ => hide_at(dims, entry, work.hidden, face),
+        1 => given(entry, face) as u32,
+        2 => entry.voxel as u32,
+        _ => CUT,
     }
 }

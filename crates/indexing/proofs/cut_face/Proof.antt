@@ -1,11 +1,9 @@
 -- `indexing::cut_face` meets its contract: VIVI tells the quad. Assumes nothing.
-use mathlib.Core.Path.{_≡_, refl, sym, ap, _∙_, subst}
-use mathlib.Core.List.{List, [], _∷_}
-use Prim.Native.Nat.{ℕ, _+_, _*_, _/_, _<_}
+use mathlib.Core.Path.{sym, ap, _∙_, subst}
+use Prim.Native.Nat.{ℕ, _/_, _<_}
 use native.Mathlib.Omega.{arith}
-use lib.ListN.{length, getD}
+use lib.ListN.{length}
 use Rattle.rules.specs.Cells.{UNIT, keyOf}
-use Rattle.rules.specs.Mesh.{NONE}
 use Rattle.face.specs.Face.{number}
 use Rattle.face.proofs.Laws.{number-below}
 use Rattle.indexing.specs.Index.{Index, indexOf, slotIn}
@@ -33,15 +31,6 @@ inside t =
 get-quad-index-requires : tie.Need-get-quad-index-requires
 get-quad-index-requires c κs = inside (c .before .before .before .before)
 
-enum-told : tie.Need-enum-told
-enum-told c = search needs
-
-enum-known-vertex : tie.Need-enum-known-vertex
-enum-known-vertex c = search needs
-
-quad-requires : tie.Need-quad-requires
-quad-requires c κs = search needs
-
 remove-quad-requires : tie.Need-remove-quad-requires
 remove-quad-requires c κs =
     let met = c .before .before .before .before .before in
@@ -50,23 +39,11 @@ remove-quad-requires c κs =
     let e = some-told (slotIn (there t) (face t)) _ (sym (found .get-quad-index .ensures) ∙ ap vertexIn (met .vertex .given .1)) in
     (subst (λ (q : ℕ). Removable q (there t)) (ap (λ (v : ℕ). v / 4) (e .1) ∙ sym (c .quad .ensures)) (removable (t .pre .1) (e .0)), t .pre .0)
 
-same-length : tie.Need-same-length
-same-length c = search needs
-
 returns : tie.Need-returns
 returns c =
     let found = c .before .before in
     let t = found .before .before .before .before .before in
     sym (hide-none (face t) (there t) (none-told (slotIn (there t) (face t)) (sym (found .get-quad-index .ensures) ∙ ap vertexIn (c .enum-told .given .1))))
-
-same-length-2 : tie.Need-same-length-2
-same-length-2 c = search needs
-
-same-length-3 : tie.Need-same-length-3
-same-length-3 c = search needs
-
-same-length-4 : tie.Need-same-length-4
-same-length-4 c = search needs
 
 returns-2 : tie.Need-returns-2
 returns-2 c =
@@ -84,13 +61,13 @@ cut-face-spec =
     tie.close
     (tie.spec
     get-quad-index-requires
-    enum-told
-    enum-known-vertex
-    quad-requires
+    (λ c. search needs)
+    (λ c. search needs)
+    (λ c κs. search needs)
     remove-quad-requires
-    same-length
+    (λ c. search needs)
     returns
-    same-length-2
-    same-length-3
-    same-length-4
+    (λ c. search needs)
+    (λ c. search needs)
+    (λ c. search needs)
     returns-2)

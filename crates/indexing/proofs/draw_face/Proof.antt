@@ -1,11 +1,9 @@
 -- `indexing::draw_face` meets its contract. Assumes nothing.
-use mathlib.Core.Path.{_≡_, refl, sym, ap, _∙_, subst}
-use mathlib.Core.List.{List, [], _∷_}
-use Prim.Native.Nat.{ℕ, _+_, _*_, _/_, _<_}
+use mathlib.Core.Path.{sym, _∙_}
+use Prim.Native.Nat.{ℕ, _<_}
 use native.Mathlib.Omega.{arith}
-use lib.ListN.{length, getD}
+use lib.ListN.{length}
 use Rattle.rules.specs.Cells.{UNIT, keyOf}
-use Rattle.rules.specs.Mesh.{NONE}
 use Rattle.face.specs.Face.{number}
 use Rattle.face.proofs.Laws.{number-below}
 use Rattle.indexing.specs.Index.{Index, indexOf, slotIn}
@@ -22,17 +20,14 @@ there t = indexOf (t .args .links .now) (t .args .slots .now) (t .args .steps .n
 
 inside : (t : tie.Start) → (t .args .cell .0 < UNIT) × (face t < length (t .args .slots .now))
 inside t =
-    let z = standing (t .pre .1 .booked) .slots in
-    let g = t .pre .1 .good .0 .0 in
-    let s = t .pre .1 .booked .small in
+    let z = standing (t .pre .2 .booked) .slots in
+    let g = t .pre .2 .good .0 .0 in
+    let s = t .pre .2 .booked .small in
     let f = number-below (t .args .face) in
     (omega arith, omega arith)
 
 is-filled-requires : tie.Need-is-filled-requires
 is-filled-requires c κs = inside (c .before .before .before .before)
-
-same-length : tie.Need-same-length
-same-length c = search needs
 
 returns : tie.Need-returns
 returns c =
@@ -43,16 +38,7 @@ append-quad-requires : tie.Need-append-quad-requires
 append-quad-requires c κs =
     let test = c .before .before .before in
     let t = test .before .before .before .before .before .before in
-    (drawable (t .args .cell .0) (number (t .args .face)) (t .pre .1) (filled-no (slotIn (there t) (face t)) (sym (test .before .is-filled .ensures) ∙ test .if1 .left)), t .pre .0)
-
-same-length-2 : tie.Need-same-length-2
-same-length-2 c = search needs
-
-same-length-3 : tie.Need-same-length-3
-same-length-3 c = search needs
-
-same-length-4 : tie.Need-same-length-4
-same-length-4 c = search needs
+    (drawable (t .args .cell .0) (number (t .args .face)) (t .pre .2) (filled-no (slotIn (there t) (face t)) (sym (test .before .is-filled .ensures) ∙ test .if1 .left)), t .pre .0, t .pre .1)
 
 returns-2 : tie.Need-returns-2
 returns-2 c =
@@ -67,10 +53,10 @@ draw-face-spec =
     tie.close
     (tie.spec
     is-filled-requires
-    same-length
+    (λ c. search needs)
     returns
     append-quad-requires
-    same-length-2
-    same-length-3
-    same-length-4
+    (λ c. search needs)
+    (λ c. search needs)
+    (λ c. search needs)
     returns-2)

@@ -1,83 +1,125 @@
 -- `indexing::index_part` meets its contract: what is left to do on what is there is the whole part on what was there. Assumes nothing.
 use mathlib.Core.Path.{_≡_, refl, sym, ap, _∙_, subst}
-use mathlib.Core.List.{List, [], _∷_}
-use Prim.Native.Nat.{ℕ, _+_, _-_, _*_, _≤_}
+use mathlib.Core.List.{List, map}
+use Prim.Native.Nat.{ℕ, _+_, _%_, _^_, _<_}
+use native.Mathlib.Nat.{div-le-self}
 use native.Mathlib.Omega.{arith}
-use lib.ListN.{length}
-use Rattle.rules.specs.Lists.{each}
+use lib.Count.{trailingZeros}
+use lib.ListN.{length, getD}
 use Rattle.rules.proofs.ListLaws.{length-table}
-use Rattle.util.specs.Grid.{sizeOf}
 use Rattle.entries.specs.Log.{entryIn}
 use Rattle.steps.specs.Steps.{Deed, stepAt}
+use Rattle.works.specs.Sets.{spotIn, spotsBy, act, deedBy, deedAt}
 use Rattle.indexing.specs.Index.{Index, indexOf, indexRun, Ready}
-use Rattle.works.specs.Sets.{deedIn, deedAt}
-use Rattle.works.proofs.Deeds.{part-idle}
-use Rattle.indexing.proofs.Doing.{Turning, start, this, turn, done, few-deeds}
+use Rattle.indexing.proofs.Bits.{Left, left-start, left-none, left-at, left-skip, left-below, left-next}
+use Rattle.indexing.proofs.Doing.{Turning, start, this, skip, turn, done, few-deeds, deed-told, no-deed}
 use borrow.Author.Needs.{needs}
 use Rattle.indexing.proofs.index_part.Statement.{statement}
 use Rattle.indexing.proofs.index_part.Tie as tie
 
 abbrev Inv-loop : tie.InvT-loop
-Inv-loop links₀ slots₀ steps₀ dims entry work part left₀ f₀ links slots steps left f =
-    Turning 1 6 (deedAt (sizeOf dims) (entryIn entry) work part) f (indexOf links₀ slots₀ steps₀ left₀) (indexOf links slots steps left)
-    × (length steps ≡ length steps₀)
+Inv-loop links₀ slots₀ steps₀ entry set part beside left₀ f₀ rest₀ links slots steps left f rest =
+    Turning 1 6 (deedAt beside (entryIn entry) set part) f (indexOf links₀ slots₀ steps₀ left₀) (indexOf links slots steps left)
+    × (length steps ≡ length steps₀) × Left set f rest × (set < 64)
 
 abbrev μ-loop : tie.MeasureT-loop
-μ-loop links₀ slots₀ steps₀ dims entry work part left₀ f₀ links slots steps left f = 6 - f
+μ-loop links₀ slots₀ steps₀ entry set part beside left₀ f₀ rest₀ links slots steps left f rest = rest
 
-set-of-requires : tie.Need-set-of-requires Inv-loop μ-loop
-set-of-requires c κs = search needs
+abbrev begun : tie.In-loop Inv-loop μ-loop → tie.Start Inv-loop μ-loop
+begun i = i .before .before .before .before .before
 
-returns : tie.Need-returns Inv-loop μ-loop
-returns c =
-    let a = c .before .before .before .before .before .args in
-    sym (ap (λ (ds : List Deed). indexRun ds (indexOf (a .links .now) (a .slots .now) (a .steps .now) (a .tally)))
-    (part-idle (sizeOf (a .dims)) (entryIn (a .entry)) (a .work) (a .part) (sym (c .before .set-of .ensures) ∙ c .if1 .taken)))
+-- the next face of the set
+abbrev low : tie.In-loop Inv-loop μ-loop → ℕ
+low i = trailingZeros 8 (i .before .loop .rest)
+
+abbrev deed : tie.In-loop Inv-loop μ-loop → ℕ → List Deed
+deed i = let a = begun i .args in deedAt (a .t4) (entryIn (a .entry)) (a .set) (a .part)
+
+abbrev here : tie.In-loop Inv-loop μ-loop → Index
+here i = let l = i .before .loop in indexOf (l .links) (l .slots) (l .steps) (l .left)
+
+below : (i : tie.In-loop Inv-loop μ-loop) → i .before .loop .f + low i < 6
+below i = let v = i .before .loop .inv in left-below (v .2) (i .loop-test .taken) refl (v .3)
+
+turned : (i : tie.In-loop Inv-loop μ-loop) →
+    let a = begun i .args in Turning 1 6 (deed i) (i .before .loop .f + low i) (indexOf (a .links .now) (a .slots .now) (a .steps .now) (a .tally)) (here i)
+turned i =
+    let l = i .before .loop in
+    let a = begun i .args in
+    let b = below i in
+    skip (l .inv .0) (omega arith) (omega arith) (λ k c d. no-deed (a .t4) (entryIn (a .entry)) (a .set) (a .part) k (left-skip (l .inv .2) (i .loop-test .taken) refl k c d))
+
+-- what is done there
+told : (c : tie.After-mark-of Inv-loop μ-loop) →
+    let spotted = c .before .before .before .before in
+    let i = spotted .before .before in
+    map (λ k. deedBy k (c .mark-of .result)) (spotIn (spotted .spot-at .result)) ≡ deed i (i .before .loop .f + low i)
+told c =
+    let spotted = c .before .before .before .before in
+    let faced = spotted .before in
+    let i = faced .before in
+    let a = begun i .args in
+    let e = entryIn (a .entry) in
+    let f = faced .face-at .ensures in
+    deed-told (a .t4) e (a .set) (a .part) _ (c .mark-of .result) (spotted .spot-at .result) (left-at (i .before .loop .inv .2) (i .loop-test .taken) refl)
+    (spotted .spot-at .ensures ∙ ap (spotsBy (a .part % 2) (getD (a .t4) (i .before .loop .f + low i) 0) (a .entry .cell .0)) f) (λ k. c .mark-of .ensures k ∙ ap (λ (n : ℕ). act e (a .part) n k) f)
 
 loop-holds : tie.Need-loop-holds Inv-loop μ-loop
-loop-holds c = (start (c .before .before .before .before .before .pre .3), refl)
+loop-holds c = let t = c .before .before .before in (start (t .pre .2), refl, left-start (t .pre .1), t .pre .1)
+
+add-face-at : tie.Need-add-face-at Inv-loop μ-loop
+add-face-at c = omega (arith, below c)
 
 face-at-requires : tie.Need-face-at-requires Inv-loop μ-loop
-face-at-requires c κs = omega arith
-
-deed-at-requires : tie.Need-deed-at-requires Inv-loop μ-loop
-deed-at-requires c κs = let t = c .before .before .before .before .before .before .before .before in (t .pre .0, t .pre .1)
+face-at-requires c κs = below c
 
 do-deed-requires : tie.Need-do-deed-requires Inv-loop μ-loop
 do-deed-requires c κs =
-    let told = c .before .before .before in
-    let faced = told .before in
-    let test = faced .before in
-    let l = test .before .loop in
-    let t = test .before .before .before .before .before .before .before in
-    let a = t .args in
-    let e = told .deed-at .ensures ∙ ap (deedAt (sizeOf (a .dims)) (entryIn (a .entry)) (a .work) (a .part)) (faced .face-at .ensures) in
-    let f = l .inv .0 .few in
+    let i = c .before .before .before .before .before .before in
+    let l = i .before .loop in
+    let t = begun i in
+    let f = turned i .few in
     let x = length-table (stepAt (l .steps)) (l .left .steps) in
-    let y = length-table (stepAt (a .steps .now)) (a .tally .steps) in
-    let room = t .pre .2 in
+    let y = length-table (stepAt (t .args .steps .now)) (t .args .tally .steps) in
+    let room = t .pre .0 in
     let same = l .inv .1 in
-    let low = test .loop-test .taken in
-    (omega arith, subst (λ (ds : List Deed). Ready ds (indexOf (l .links) (l .slots) (l .steps) (l .left))) (sym e) (this (l .inv .0) low))
+    let b = below i in
+    (omega arith, subst (λ (ds : List Deed). Ready ds (here i)) (sym (told c)) (this (turned i) b))
+
+abbrev into : tie.After-slice-known6 Inv-loop μ-loop → tie.In-loop Inv-loop μ-loop
+into c = c .before .before .before .before .before .before .before .before .before .before .before .before .before
 
 add-f : tie.Need-add-f Inv-loop μ-loop
-add-f c = omega arith
+add-f c = omega (arith, below (into c))
+
+add-f-2 : tie.Need-add-f-2 Inv-loop μ-loop
+add-f-2 c = omega (arith, below (into c))
+
+cast-rest : tie.Need-cast-rest Inv-loop μ-loop
+cast-rest c = omega (arith, below (into c))
+
+shr-rest : tie.Need-shr-rest Inv-loop μ-loop
+shr-rest c = omega (arith, below (into c))
 
 loop-less : tie.Need-loop-less Inv-loop μ-loop
-loop-less c = omega arith
+loop-less c =
+    let l = into c .before .loop in
+    let some = into c .loop-test .taken in
+    let a = div-le-self (l .rest) (2 ^ low (into c)) in
+    omega arith
 
 loop-again : tie.Need-loop-again Inv-loop μ-loop
 loop-again c =
     let went = c .before .before .before .before .before .before in
-    let told = went .before .before .before .before in
-    let faced = told .before in
-    let test = faced .before in
-    let l = test .before .loop in
-    let a = test .before .before .before .before .before .before .before .args in
-    let e = told .deed-at .ensures ∙ ap (deedAt (sizeOf (a .dims)) (entryIn (a .entry)) (a .work) (a .part)) (faced .face-at .ensures) in (
-      turn (l .inv .0) (test .loop-test .taken) (few-deeds (sizeOf (a .dims)) (entryIn (a .entry)) (a .work) (a .part) (l .f))
-          (went .do-deed .ensures ∙ ap (λ (ds : List Deed). indexRun ds (indexOf (l .links) (l .slots) (l .steps) (l .left))) e),
+    let marked = went .before in
+    let i = marked .before .before .before .before .before .before in
+    let l = i .before .loop in
+    let a = begun i .args in (
+      turn (turned i) (below i) (few-deeds (a .t4) (entryIn (a .entry)) (a .set) (a .part) _)
+          (went .do-deed .ensures ∙ ap (λ (ds : List Deed). indexRun ds (here i)) (told marked)),
       went .do-deed .kept .1 .1 .0 ∙ l .inv .1,
+      left-next (l .inv .2) (i .loop-test .taken) refl,
+      l .inv .3,
     )
 
 same-length : tie.Need-same-length Inv-loop μ-loop
@@ -89,8 +131,12 @@ same-length-2 c = c .before .loop .inv .0 .kept .slots
 same-length-3 : tie.Need-same-length-3 Inv-loop μ-loop
 same-length-3 c = c .before .loop .inv .1
 
-returns-2 : tie.Need-returns-2 Inv-loop μ-loop
-returns-2 c = done (c .before .loop .inv .0) (c .loop-test .left)
+returns : tie.Need-returns Inv-loop μ-loop
+returns c =
+    let l = c .before .loop in
+    let a = c .before .before .before .before .before .args in
+    let b = l .inv .0 .below in
+    done (skip (l .inv .0) b (omega arith) (λ k u v. no-deed (a .t4) (entryIn (a .entry)) (a .set) (a .part) k (left-none (l .inv .2) (c .loop-test .left) k u))) (omega arith)
 
 pub index-part-spec : {M : Type 1} → statement M
 index-part-spec =
@@ -98,16 +144,23 @@ index-part-spec =
     (tie.spec
     Inv-loop
     μ-loop
-    set-of-requires
-    returns
     loop-holds
+    add-face-at
     face-at-requires
-    deed-at-requires
+    (λ c. omega (arith, below (c .before)))
+    (λ c. omega (arith, below (c .before)))
+    (λ c. omega (arith, below (c .before)))
+    (λ c. below (c .before))
+    (λ c κs. search needs)
+    (λ c κs. search needs)
     do-deed-requires
     add-f
+    add-f-2
+    cast-rest
+    shr-rest
     loop-less
     loop-again
     same-length
     same-length-2
     same-length-3
-    returns-2)
+    returns)

@@ -1,58 +1,59 @@
 -- `indexing::index_work` meets its contract: what is left to do on what is there is the whole work on what was there. Assumes nothing.
 use mathlib.Core.Path.{_≡_, refl, sym, ap, _∙_, subst}
-use mathlib.Core.List.{List, [], _∷_}
-use Prim.Native.Nat.{ℕ, _+_, _-_, _*_, _≤_}
+use Prim.Native.Nat.{ℕ, _-_, _<_}
 use native.Mathlib.Omega.{arith}
 use lib.ListN.{length}
 use Rattle.rules.specs.Lists.{each}
 use Rattle.rules.proofs.ListLaws.{length-table}
-use Rattle.util.specs.Grid.{sizeOf}
 use Rattle.entries.specs.Log.{entryIn}
-use Rattle.steps.specs.Steps.{Deed, stepAt}
-use Rattle.indexing.specs.Index.{Index, indexOf, indexRun, Ready}
-use Rattle.works.specs.Sets.{deedAt}
+use Rattle.steps.specs.Steps.{stepAt}
+use Rattle.works.specs.Sets.{setIn, deedAt}
+use Rattle.indexing.specs.Index.{indexOf, indexRun, Ready}
 use Rattle.indexing.proofs.Doing.{Turning, start, this, turn, done, few-part}
+use borrow.Author.Needs.{needs}
 use Rattle.indexing.proofs.index_work.Statement.{statement}
 use Rattle.indexing.proofs.index_work.Tie as tie
 
 abbrev Inv-loop : tie.InvT-loop
-Inv-loop links₀ slots₀ steps₀ dims entry work left₀ part₀ links slots steps left part =
-    Turning 6 4 (λ j. each 6 0 (deedAt (sizeOf dims) (entryIn entry) work j)) part (indexOf links₀ slots₀ steps₀ left₀) (indexOf links slots steps left)
+Inv-loop links₀ slots₀ steps₀ beside entry work left₀ part₀ links slots steps left part =
+    Turning 6 4 (λ j. each 6 0 (deedAt beside (entryIn entry) (setIn work j) j)) part (indexOf links₀ slots₀ steps₀ left₀) (indexOf links slots steps left)
     × (length steps ≡ length steps₀)
 
 abbrev μ-loop : tie.MeasureT-loop
-μ-loop links₀ slots₀ steps₀ dims entry work left₀ part₀ links slots steps left part = 4 - part
+μ-loop links₀ slots₀ steps₀ beside entry work left₀ part₀ links slots steps left part = 4 - part
 
 loop-holds : tie.Need-loop-holds Inv-loop μ-loop
-loop-holds c = (start (c .before .before .before .pre .3), refl)
+loop-holds c = (start (c .before .before .before .pre .2), refl)
 
 index-part-requires : tie.Need-index-part-requires Inv-loop μ-loop
 index-part-requires c κs =
-    let test = c .before .before .before in
-    let l = test .before .loop in
-    let t = test .before .before .before .before .before in
+    let set = c .before .before .before in
+    let i = set .before in
+    let l = i .before .loop in
+    let t = i .before .before .before .before .before in
     let a = t .args in
     let f = l .inv .0 .few in
     let x = length-table (stepAt (l .steps)) (l .left .steps) in
     let y = length-table (stepAt (a .steps .now)) (a .tally .steps) in
-    let room = t .pre .2 in
+    let room = t .pre .0 in
     let same = l .inv .1 in
-    let low = test .loop-test .taken in
-    (t .pre .0, t .pre .1, omega arith, this (l .inv .0) low)
-
-add-part : tie.Need-add-part Inv-loop μ-loop
-add-part c = omega arith
-
-loop-less : tie.Need-loop-less Inv-loop μ-loop
-loop-less c = omega arith
+    let low = i .loop-test .taken in
+    let e = sym (set .set-of .ensures) in (
+      omega arith,
+      subst (λ (n : ℕ). n < 64) e (t .pre .1 (l .part)),
+      subst (λ (n : ℕ). Ready (each 6 0 (deedAt (a .beside) (entryIn (a .entry)) n (l .part))) (indexOf (l .links) (l .slots) (l .steps) (l .left))) e (this (l .inv .0) low),
+    )
 
 loop-again : tie.Need-loop-again Inv-loop μ-loop
 loop-again c =
     let went = c .before .before .before .before .before .before in
-    let test = went .before .before .before .before in
-    let l = test .before .loop in
-    let a = test .before .before .before .before .before .args in (
-      turn (l .inv .0) (test .loop-test .taken) (few-part (sizeOf (a .dims)) (entryIn (a .entry)) (a .work) (l .part)) (went .index-part .ensures),
+    let set = went .before .before .before .before in
+    let i = set .before in
+    let l = i .before .loop in
+    let a = i .before .before .before .before .before .args in (
+      turn (l .inv .0) (i .loop-test .taken) (few-part (a .beside) (entryIn (a .entry)) (setIn (a .work) (l .part)) (l .part))
+          (went .index-part .ensures
+          ∙ ap (λ (n : ℕ). indexRun (each 6 0 (deedAt (a .beside) (entryIn (a .entry)) n (l .part))) (indexOf (l .links) (l .slots) (l .steps) (l .left))) (set .set-of .ensures)),
       went .index-part .kept .1 .1 .0 ∙ l .inv .1,
     )
 
@@ -75,9 +76,10 @@ index-work-spec =
     Inv-loop
     μ-loop
     loop-holds
+    (λ c κs. search needs)
     index-part-requires
-    add-part
-    loop-less
+    (λ c. omega arith)
+    (λ c. omega arith)
     loop-again
     same-length
     same-length-2

@@ -1,7 +1,5 @@
 -- `indexing::is_filled` meets its contract: VIVI tells it. Assumes nothing.
-use mathlib.Core.Path.{_≡_, refl, sym, ap, _∙_}
-use mathlib.Core.Bool.{Bool, not}
-use mathlib.Core.Option.{Option, none, some}
+use mathlib.Core.Path.{sym, ap, _∙_}
 use Prim.Native.Nat.{ℕ}
 use lib.ListN.{getD}
 use Rattle.rules.specs.Cells.{keyOf}
@@ -16,15 +14,6 @@ use Rattle.indexing.proofs.is_filled.Tie as tie
 abbrev slot : tie.Start → ℕ
 slot t = getD (t .args .slots .now) (keyOf (t .args .cell .0) (number (t .args .face))) NONE
 
-get-quad-index-requires : tie.Need-get-quad-index-requires
-get-quad-index-requires c κs = search needs
-
-enum-told : tie.Need-enum-told
-enum-told c = search needs
-
-enum-told-2 : tie.Need-enum-told-2
-enum-told-2 c = search needs
-
 returns : tie.Need-returns
 returns c =
     filled-not (slot (c .before .before .before .before)) (sym (c .before .before .get-quad-index .ensures) ∙ ap vertexIn (c .enum-told .given .1))
@@ -35,4 +24,4 @@ returns-2 c =
 
 pub is-filled-spec : {M : Type 1} → statement M
 is-filled-spec =
-    tie.close (tie.spec get-quad-index-requires enum-told enum-told-2 returns returns-2)
+    tie.close (tie.spec (λ c κs. search needs) (λ c. search needs) (λ c. search needs) returns returns-2)

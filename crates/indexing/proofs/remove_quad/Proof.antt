@@ -10,41 +10,11 @@ use borrow.Author.Needs.{needs}
 use Rattle.indexing.proofs.remove_quad.Statement.{statement}
 use Rattle.indexing.proofs.remove_quad.Tie as tie
 
-cast-place : tie.Need-cast-place
-cast-place c = search needs
-
-moved-by-requires : tie.Need-moved-by-requires
-moved-by-requires c κs = search needs
-
 add-moved : tie.Need-add-moved
 add-moved c =
     let t = c .before .before .before .before .before .before in
     let few = movedBy-le (t .args .tally .quads) (t .args .quad .0) (t .pre .0 .within) in
     omega (arith, c .before .moved-by .ensures, t .pre .0 .moves)
-
-renumber-requires : tie.Need-renumber-requires
-renumber-requires c κs = search needs
-
-free-row-requires : tie.Need-free-row-requires
-free-row-requires c κs = search needs
-
-write-step-requires : tie.Need-write-step-requires
-write-step-requires c κs = search needs
-
-sub-t10 : tie.Need-sub-t10
-sub-t10 c = search needs
-
-add-t21 : tie.Need-add-t21
-add-t21 c = search needs
-
-same-length : tie.Need-same-length
-same-length c = search needs
-
-same-length-2 : tie.Need-same-length-2
-same-length-2 c = search needs
-
-same-length-3 : tie.Need-same-length-3
-same-length-3 c = search needs
 
 returns : tie.Need-returns
 unfolding goneAt
@@ -55,22 +25,22 @@ returns c =
     let counted = renamed .before .before .before .before in
     let t = counted .before .before .before .before .before in
     let a = t .args in
-    same-index (linked .free-row .ensures) (renamed .renumber .ensures) refl (ap (λ (v : ℕ). a .tally .moved + v) (counted .moved-by .ensures))
+    same-index (linked .free-row .ensures) (renamed .renumber .ensures) refl (ap (λ (v : ℕ). a .tally .moved + v) (counted .moved-by .ensures)) refl
     (ap (stepsIn (a .tally .steps + 1)) (wrote .write-step .ensures) ∙ steps-more (a .tally .steps) (a .quad .0) CUT (a .steps .now) (t .pre .1))
 
 pub remove-quad-spec : {M : Type 1} → statement M
 remove-quad-spec =
     tie.close
     (tie.spec
-    cast-place
-    moved-by-requires
+    (λ c. search needs)
+    (λ c κs. search needs)
     add-moved
-    renumber-requires
-    free-row-requires
-    write-step-requires
-    sub-t10
-    add-t21
-    same-length
-    same-length-2
-    same-length-3
+    (λ c κs. search needs)
+    (λ c κs. search needs)
+    (λ c κs. search needs)
+    (λ c. search needs)
+    (λ c. search needs)
+    (λ c. search needs)
+    (λ c. search needs)
+    (λ c. search needs)
     returns)

@@ -1,7 +1,7 @@
 -- `steps::draw_row` meets its contract. Assumes nothing.
-use mathlib.Core.Path.{_≡_, ap, _∙_}
-use mathlib.Core.List.{List, []}
-use Prim.Native.Nat.{ℕ, _+_, _*_, _≤_}
+use mathlib.Core.Path.{_∙_}
+use mathlib.Core.List.{[]}
+use Prim.Native.Nat.{_+_, _*_, _≤_}
 use native.Mathlib.Omega.{arith}
 use lib.ListN.{length}
 use Rattle.rules.specs.Calls as rules
@@ -24,32 +24,14 @@ ends : (c : tie.After-floats-of) →
     24 * c .floats-of .result * a .voxel + 24 * c .floats-of .result ≤ length (a .cubes .now)
 ends c = rw (c .floats-of .ensures) (c .before .before .before .pre .2 .whole)
 
-floats-of-requires : tie.Need-floats-of-requires
-floats-of-requires c κs = search needs
-
-mul-start : tie.Need-mul-start
-mul-start c = search needs
-
 mul-start-2 : tie.Need-mul-start-2
 mul-start-2 c = omega (arith, words c, ends c)
-
-mul-end : tie.Need-mul-end
-mul-end c = search needs
 
 add-end : tie.Need-add-end
 add-end c = omega (arith, words c, ends c)
 
-three-d-cords-requires : tie.Need-three-d-cords-requires
-three-d-cords-requires c κs = search needs
-
 mul-write-place : tie.Need-mul-write-place
 mul-write-place c = omega (arith, ends (c .before .before))
-
-sub-write-place : tie.Need-sub-write-place
-sub-write-place c = search needs
-
-part-write-place-start : tie.Need-part-write-place-start
-part-write-place-start c = search needs
 
 part-write-place-end : tie.Need-part-write-place-end
 part-write-place-end c = omega (arith, ends (c .before .before))
@@ -63,9 +45,6 @@ write-place-requires c κs =
       lent-drawable (scene t) (a .voxel) (a .cell .0) _ _ (t .pre .0) (t .pre .1) (t .pre .2) (sized .floats-of .ensures) (placed .three-d-cords .ensures),
       rw (sized .floats-of .ensures) (t .pre .3),
     )
-
-same-length : tie.Need-same-length
-same-length c = search needs
 
 returns : tie.Need-returns
 returns c =
@@ -81,16 +60,16 @@ pub draw-row-spec : {M : Type 1} → statement M
 draw-row-spec =
     tie.close
     (tie.spec
-    floats-of-requires
-    mul-start
+    (λ c κs. search needs)
+    (λ c. search needs)
     mul-start-2
-    mul-end
+    (λ c. search needs)
     add-end
-    three-d-cords-requires
+    (λ c κs. search needs)
     mul-write-place
-    sub-write-place
-    part-write-place-start
+    (λ c. search needs)
+    (λ c. search needs)
     part-write-place-end
     write-place-requires
-    same-length
+    (λ c. search needs)
     returns)

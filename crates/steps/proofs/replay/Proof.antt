@@ -1,9 +1,8 @@
 -- `steps::replay` meets its contract. Assumes nothing.
 use mathlib.Core.Path.{sym, ap, _∙_, subst}
 use mathlib.Core.List.{[]}
-use Prim.Native.Nat.{ℕ, _+_, _-_}
+use Prim.Native.Nat.{_-_}
 use native.Mathlib.Omega.{arith}
-use Rattle.rules.specs.Calls as rules
 use Rattle.rules.specs.Calls.{span}
 use Rattle.terms.specs.Scenes.{sceneOf}
 use Rattle.steps.specs.Steps.{Step, shelf, replayOne}
@@ -36,12 +35,6 @@ replay-one-requires c κs =
     subst (λ (x : Step). Stepping (sceneOf (t .args .scene) [] [] (t .args .cubes .now)) x (shelf (l .vertices) (l .left))) (sym (c .step-at .ensures))
     (this (l .inv) (c .before .before .loop-test .taken))
 
-add-i : tie.Need-add-i Inv-loop μ-loop
-add-i c = omega arith
-
-loop-less : tie.Need-loop-less Inv-loop μ-loop
-loop-less c = omega arith
-
 loop-again : tie.Need-loop-again Inv-loop μ-loop
 loop-again c =
     let went = c .before .before in
@@ -68,8 +61,8 @@ replay-spec =
     loop-holds
     step-at-requires
     replay-one-requires
-    add-i
-    loop-less
+    (λ c. omega arith)
+    (λ c. omega arith)
     loop-again
     same-length
     returns)

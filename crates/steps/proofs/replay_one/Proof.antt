@@ -1,10 +1,9 @@
 -- `steps::replay_one` meets its contract. Assumes nothing.
-use mathlib.Core.Path.{_≡_, refl, sym, ap, _∙_, subst}
+use mathlib.Core.Path.{_≡_, sym, ap, _∙_, subst}
 use mathlib.Core.List.{List, []}
-use Prim.Native.Nat.{ℕ, _+_, _-_, _*_, _<_, _≤_}
+use Prim.Native.Nat.{ℕ, _+_, _-_, _*_}
 use native.Mathlib.Omega.{arith}
 use lib.ListN.{length}
-use Rattle.rules.specs.Cells.{keyOf}
 use Rattle.rules.specs.Calls as rules
 use Rattle.rules.specs.Calls.{span}
 use Rattle.face.specs.Face.{number}
@@ -12,7 +11,7 @@ use Rattle.face.proofs.Laws.{number-below}
 use Rattle.voxel_mesh.proofs.Shapes.{few}
 use Rattle.terms.specs.Scenes.{sceneOf}
 use Rattle.vav.specs.Rows.{put, freed}
-use Rattle.steps.specs.Steps.{Step, gone, came, Shelf, shelf, replayOne}
+use Rattle.steps.specs.Steps.{Step, Shelf, shelf, replayOne}
 use Rattle.steps.specs.Rows.{stepOf, wordsBy, Stepping}
 use Rattle.steps.proofs.Turns.{words-key, freeable, drawable, room-le}
 use borrow.Author.Needs.{needs}
@@ -27,12 +26,6 @@ there t = shelf (t .args .vertices .now) (t .args .count)
 
 known : (t : tie.Start) {x : Step} → stepOf (t .args .step) ≡ x → Stepping (scene t) x (there t)
 known t e = subst (λ (x : Step). Stepping (scene t) x (there t)) e (t .pre)
-
-enum-known-step : tie.Need-enum-known-step
-enum-known-step c = search needs
-
-floats-of-requires : tie.Need-floats-of-requires
-floats-of-requires c κs = search needs
 
 mul-free-row : tie.Need-mul-free-row
 mul-free-row c =
@@ -50,9 +43,6 @@ sub-result c =
     let l = freeable (known t (ap stepOf (c .before .before .before .before .before .before .step .given .1))) .0 in
     omega arith
 
-enum-known-step-2 : tie.Need-enum-known-step-2
-enum-known-step-2 c = search needs
-
 draw-row-requires : tie.Need-draw-row-requires
 draw-row-requires c κs =
     let t = c .before .before .before .before .before .before in
@@ -66,9 +56,6 @@ add-result c =
     let d = drawable (number-below (e .0 .1 .0)) (known t (ap stepOf (e .1))) in
     omega (arith, room-le (scene t) (t .args .count + 1) (length (t .args .vertices .now)) (d .3))
 
-same-length : tie.Need-same-length
-same-length c = search needs
-
 returns : tie.Need-returns
 returns c =
     let freed-at = c .before .before in
@@ -78,9 +65,6 @@ returns c =
     let l = freed-at .free-row .ensures ∙ ap (λ (k : ℕ). freed (4 * k) (e .0 .0) (t .args .count) (t .args .vertices .now)) (sized .floats-of .ensures) in
     (λ i. shelf (l i) (t .args .count - 1))
     ∙ sym (ap (λ (x : Step). replayOne (span (scene t)) (wordsBy (scene t)) x (there t)) (ap stepOf (e .1)))
-
-same-length-2 : tie.Need-same-length-2
-same-length-2 c = search needs
 
 returns-2 : tie.Need-returns-2
 returns-2 c =
@@ -97,15 +81,15 @@ pub replay-one-spec : {M : Type 1} → statement M
 replay-one-spec =
     tie.close
     (tie.spec
-    enum-known-step
-    floats-of-requires
+    (λ c. search needs)
+    (λ c κs. search needs)
     mul-free-row
     free-row-requires
     sub-result
-    enum-known-step-2
+    (λ c. search needs)
     draw-row-requires
     add-result
-    same-length
+    (λ c. search needs)
     returns
-    same-length-2
+    (λ c. search needs)
     returns-2)

@@ -17,22 +17,10 @@ lowest c =
     let a = c .before .before .before .args in
     c .refuse-if .ensures ∙ ap (λ (b : ℕ). refuseIf (ltb b (length (a .log .now) / 12)) 13 b) (c .before .first-bad-entry .ensures)
 
-first-bad-entry-requires : tie.Need-first-bad-entry-requires
-first-bad-entry-requires c κs = search needs
-
-refuse-if-requires : tie.Need-refuse-if-requires
-refuse-if-requires c κs = search needs
-
-is-refusal-requires : tie.Need-is-refusal-requires
-is-refusal-requires c κs = search needs
-
 returns : tie.Need-returns
 unfolding BAD-ENTRY
 returns c =
     stops _ _ _ (lowest (c .before .before)) (sym (c .before .is-refusal .ensures) ∙ c .if1 .taken)
-
-refuse-if-requires-2 : tie.Need-refuse-if-requires-2
-refuse-if-requires-2 c κs = search needs
 
 returns-2 : tie.Need-returns-2
 unfolding BAD-ENTRY
@@ -43,9 +31,9 @@ pub entry-verdict-spec : {M : Type 1} → statement M
 entry-verdict-spec =
     tie.close
     (tie.spec
-    first-bad-entry-requires
-    refuse-if-requires
-    is-refusal-requires
+    (λ c κs. search needs)
+    (λ c κs. search needs)
+    (λ c κs. search needs)
     returns
-    refuse-if-requires-2
+    (λ c κs. search needs)
     returns-2)

@@ -1,7 +1,6 @@
 -- `update::mend_patterns` meets its contract. Assumes nothing.
-use mathlib.Core.Path.{_≡_, refl, sym, ap, _∙_}
-use mathlib.Core.List.{List}
-use Prim.Native.Nat.{ℕ, _+_, _-_, _*_, _≤_}
+use mathlib.Core.Path.{_≡_, sym, ap, _∙_}
+use Prim.Native.Nat.{ℕ, _+_, _-_, _*_}
 use native.Mathlib.Omega.{arith}
 use lib.ListN.{length, length-replicate, take, drop, length-drop}
 use lib.Seq.{length-take-le}
@@ -13,36 +12,6 @@ use Rattle.update.specs.Runs.{patternsMended}
 use borrow.Author.Needs.{needs}
 use Rattle.update.proofs.mend_patterns.Statement.{statement}
 use Rattle.update.proofs.mend_patterns.Tie as tie
-
-write-patterns-requires : tie.Need-write-patterns-requires
-write-patterns-requires c κs = search needs
-
-mul-start : tie.Need-mul-start
-mul-start c = search needs
-
-mul-end : tie.Need-mul-end
-mul-end c = search needs
-
-mul-clear : tie.Need-mul-clear
-mul-clear c = search needs
-
-sub-clear : tie.Need-sub-clear
-sub-clear c = search needs
-
-part-clear-start : tie.Need-part-clear-start
-part-clear-start c = search needs
-
-part-clear-end : tie.Need-part-clear-end
-part-clear-end c = search needs
-
-sub-clear-2 : tie.Need-sub-clear-2
-sub-clear-2 c = search needs
-
-clear-requires : tie.Need-clear-requires
-clear-requires c κs = search needs
-
-same-length : tie.Need-same-length
-same-length c = search needs
 
 returns : tie.Need-returns
 unfolding patternsMended
@@ -69,14 +38,14 @@ pub mend-patterns-spec : {M : Type 1} → statement M
 mend-patterns-spec =
     tie.close
     (tie.spec
-    write-patterns-requires
-    mul-start
-    mul-end
-    mul-clear
-    sub-clear
-    part-clear-start
-    part-clear-end
-    sub-clear-2
-    clear-requires
-    same-length
+    (λ c κs. search needs)
+    (λ c. search needs)
+    (λ c. search needs)
+    (λ c. search needs)
+    (λ c. search needs)
+    (λ c. search needs)
+    (λ c. search needs)
+    (λ c. search needs)
+    (λ c κs. search needs)
+    (λ c. search needs)
     returns)

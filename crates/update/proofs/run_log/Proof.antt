@@ -1,24 +1,24 @@
 -- `update::run_log` meets its contract: entry by entry, the lists are the layout of the rule's mesh. Assumes nothing.
 use mathlib.Core.Path.{_≡_, refl, sym, ap, _∙_, subst}
-use mathlib.Core.List.{List, []}
-use Prim.Native.Nat.{ℕ, _+_, _-_, _*_, _/_, _≤_, _<_}
+use mathlib.Core.List.{List}
+use Prim.Native.Nat.{ℕ, _-_, _/_, _≤_}
 use native.Mathlib.Omega.{arith}
+use lib.Dec.{leb}
 use lib.ListN.{length}
-use Rattle.rules.specs.Cells.{cells}
-use Rattle.rules.specs.Update as rules
-use Rattle.rules.specs.Update.{Tested, entryAt, work, needed}
-use Rattle.rules.specs.Calls.{Scene, world, wordsIn, span}
-use Rattle.rules.proofs.ListLaws.{length-table}
+use borrow.Author.Tests.{leb-true, leb-false}
+use Rattle.rules.specs.Update.{Tested, Work, entryAt, work, needed}
+use Rattle.rules.specs.Calls.{Scene, world, span}
+use Rattle.rules.proofs.ListLaws.{length-table, not-true, not-false}
 use Rattle.entries.specs.Log.{entryIn}
 use Rattle.terms.specs.Modes.{testedBy}
 use Rattle.terms.specs.Scenes.{sceneOf}
-use Rattle.steps.specs.Steps.{Step, Shelf, shelf, stepAt, stepsIn, replayed}
+use Rattle.steps.specs.Steps.{Step, shelf, stepAt, replayed}
 use Rattle.steps.specs.Rows.{wordsBy, Replaying}
-use Rattle.works.specs.Sets.{workIn}
+use Rattle.works.specs.Sets.{meant}
+use Rattle.works.proofs.Meant.{meant-types}
 use Rattle.indexing.specs.Index.{Index}
-use Rattle.indexing.specs.Room.{quadsNeeded}
 use Rattle.update.proofs.Drawing.{bare}
-use Rattle.update.proofs.Running.{Running, run-start, run-gridded, run-small, run-needed, run-gone, run-ready, run-few, run-replaying, run-on, run-full, run-through, run-ended, run-kept}
+use Rattle.update.proofs.Running.{Running, run-start, run-inside, run-sets, run-gridded, run-small, run-needed, run-gone, run-ready, run-few, run-replaying, run-on, run-full, run-through, run-ended, run-kept}
 use borrow.Author.Needs.{needs}
 use Rattle.update.proofs.run_log.Statement.{statement}
 use Rattle.update.proofs.run_log.Tie as tie
@@ -41,24 +41,26 @@ side t = testedBy (t .args .task .tested)
 abbrev begun : tie.In-loop Inv-loop μ-loop → tie.Start Inv-loop μ-loop
 begun i = i .before .before .before .before .before .before .before .before .before .before
 
--- the entry's work is the rule's
-told : (c : tie.After-work-of Inv-loop μ-loop) →
-    let t = begun (c .before .before) in
-    workIn (world (scene-of t)) (entryIn (c .before .read-entry .result)) (c .work-of .result) ≡ work (side t) (world (scene-of t)) (entryIn (c .before .read-entry .result))
-told c = let t = begun (c .before .before) in c .work-of .ensures .0 ((scene-of t) .size) (wordsIn (scene-of t))
+-- ---- the entry at hand
+abbrev looped : tie.After-cells-beside Inv-loop μ-loop → tie.In-loop Inv-loop μ-loop
+looped c = c .before .before .before
+
+abbrev works : tie.After-cells-beside Inv-loop μ-loop → Work
+works c = let t = begun (looped c) in work (side t) (world (scene-of t)) (entryAt (t .args .log .now) (looped c .before .loop .k))
+
+-- its sets, as the rule means them
+sets : (c : tie.After-cells-beside Inv-loop μ-loop) →
+    let t = begun (looped c) in c .before .work-of .result ≡ meant (side t) (world (scene-of t)) (entryIn (c .before .before .read-entry .result))
+sets c = let t = begun (looped c) in c .before .work-of .ensures ∙ meant-types (world (scene-of t)) (entryIn (c .before .before .read-entry .result)) (side t)
 
 -- what it needs, as the rule has it
-asked : (c : tie.After-quads-needed Inv-loop μ-loop) →
-    let i = c .before .before .before .before in
-    let t = begun i in
-    c .quads-needed .result ≡ needed (work (side t) (world (scene-of t)) (entryAt (t .args .log .now) (i .before .loop .k))) (i .before .loop .inv .0 .mesh)
+asked : (c : tie.After-has-room Inv-loop μ-loop) → let b = c .before .before in c .has-room .result ≡ leb (needed (works b) (looped b .before .loop .inv .0 .mesh)) (begun (looped b) .args .task .room)
 asked c =
-    let worked = c .before .before in
-    let read = worked .before in
-    let i = read .before in
+    let b = c .before .before in
+    let i = looped b in
     let t = begun i in
-    c .quads-needed .ensures
-    ∙ run-needed (side t) (t .pre) (i .before .loop .inv .0) (i .loop-test .taken) (read .read-entry .ensures) (worked .work-of .result) (told worked)
+    c .has-room .ensures
+    ∙ ap (λ (n : ℕ). leb n (t .args .task .room)) (run-needed (side t) (t .pre) (i .before .loop .inv .0) (i .loop-test .taken) (b .before .before .read-entry .ensures) (sets b) (b .cells-beside .ensures))
 
 loop-holds : tie.Need-loop-holds Inv-loop μ-loop
 loop-holds c = let t = c .before .before .before .before .before .before .before .before in (run-start (side t) (t .pre), refl)
@@ -66,131 +68,111 @@ loop-holds c = let t = c .before .before .before .before .before .before .before
 read-entry-requires : tie.Need-read-entry-requires Inv-loop μ-loop
 read-entry-requires c κs = let h = c .loop-test .taken in omega arith
 
-work-of-requires : tie.Need-work-of-requires Inv-loop μ-loop
-work-of-requires c κs = search needs
+cells-beside-requires : tie.Need-cells-beside-requires Inv-loop μ-loop
+cells-beside-requires c κs =
+    let i = c .before .before in
+    let t = begun i in
+    (t .pre .within, run-inside (side t) (t .pre) (i .before .loop .inv .0) (i .loop-test .taken) (c .before .read-entry .ensures))
 
-quads-needed-requires : tie.Need-quads-needed-requires Inv-loop μ-loop
-quads-needed-requires c κs =
-    let worked = c .before in
-    let read = worked .before in
-    let i = read .before in
+has-room-requires : tie.Need-has-room-requires Inv-loop μ-loop
+has-room-requires c κs =
+    let b = c .before in
+    let i = looped b in
     let t = begun i in
     let r = i .before .loop .inv .0 in
     let lt = i .loop-test .taken in
-    let at = read .read-entry .ensures in
-    (run-gridded (side t) (t .pre) r lt at, run-small (side t) (t .pre) r, run-gone (side t) (t .pre) r lt at (worked .work-of .result) (told worked))
+    let at = b .before .before .read-entry .ensures in
+    let s = sets b in
+    let n = b .cells-beside .ensures in
+    (run-gridded (side t) (t .pre) r lt at s n, run-small (side t) (t .pre) r, run-sets (side t) (t .pre) r lt at s n, run-gone (side t) (t .pre) r lt at s n)
 
-same-length : tie.Need-same-length Inv-loop μ-loop
-same-length c = let i = c .before .before .before .before .before .before in run-kept (side (begun i)) (begun i .pre) (i .before .loop .inv .0) .0
-
-same-length-2 : tie.Need-same-length-2 Inv-loop μ-loop
-same-length-2 c = let i = c .before .before .before .before .before .before in run-kept (side (begun i)) (begun i .pre) (i .before .loop .inv .0) .1
-
-same-length-3 : tie.Need-same-length-3 Inv-loop μ-loop
-same-length-3 c = let i = c .before .before .before .before .before .before in run-kept (side (begun i)) (begun i .pre) (i .before .loop .inv .0) .2
+kept : (i : tie.In-loop Inv-loop μ-loop) →
+    let l = i .before .loop in let a = begun i .args in (length (l .vertices) ≡ length (a .vertices .now)) × (length (l .links) ≡ length (a .links .now)) × (length (l .slots) ≡ length (a .slots .now))
+kept i = run-kept (side (begun i)) (begun i .pre) (i .before .loop .inv .0)
 
 returns : tie.Need-returns Inv-loop μ-loop
 returns c =
-    let found = c .before .before in
-    let read = found .before .before .before in
-    let i = read .before in
+    let found = c .before in
+    let b = found .before .before in
+    let i = looped b in
     let t = begun i in
     let r = i .before .loop .inv .0 in
-    let over = c .if1 .taken in
-    let e = asked found in
-    run-ended (side t) (t .pre) r (run-full (side t) (t .pre) r (i .loop-test .taken) (read .read-entry .ensures) (omega arith))
+    let over = leb-false (needed (works b) (r .mesh)) (t .args .task .room) (sym (asked found) ∙ not-false _ (c .if1 .taken)) in
+    run-ended (side t) (t .pre) r (run-full (side t) (t .pre) r (i .loop-test .taken) (b .before .before .read-entry .ensures) (omega arith))
+
+fits : (c : tie.Else1 Inv-loop μ-loop) → let b = c .before .before .before in needed (works b) (looped b .before .loop .inv .0 .mesh) ≤ begun (looped b) .args .task .room
+fits c = leb-true _ _ (sym (asked (c .before)) ∙ not-true _ (c .if1 .left))
 
 slice-aggregate-index-work : tie.Need-slice-aggregate-index-work Inv-loop μ-loop
-slice-aggregate-index-work c = sym (c .before .before .before .before .before .before .before .before .before .before .loop .inv .1)
+slice-aggregate-index-work c = sym (looped (c .before .before .before .before .before .before) .before .loop .inv .1)
 
 index-work-requires : tie.Need-index-work-requires Inv-loop μ-loop
 index-work-requires c κs =
     let test = c .before .before .before in
-    let found = test .before .before in
-    let worked = found .before .before in
-    let read = worked .before in
-    let i = read .before in
+    let b = test .before .before .before in
+    let i = looped b in
     let t = begun i in
     let l = i .before .loop in
     let lt = i .loop-test .taken in
-    let at = read .read-entry .ensures in
-    let under = test .if1 .left in
-    let e = asked found in
-    let z = l .inv .1 in
-    let d = run-gridded (side t) (t .pre) (l .inv .0) lt at in (
-      d .within,
-      d .inside,
+    let at = b .before .before .read-entry .ensures in
+    let z = l .inv .1 in (
       omega arith,
-      run-ready (side t) (t .pre) (l .inv .0) lt at (worked .work-of .result) (told worked) (omega arith) (worked .work-of .ensures .1) (l .steps),
+      run-sets (side t) (t .pre) (l .inv .0) lt at (sets b) (b .cells-beside .ensures),
+      run-ready (side t) (t .pre) (l .inv .0) lt at (sets b) (b .cells-beside .ensures) (fits test) (l .steps),
     )
 
 slice-aggregate-replay : tie.Need-slice-aggregate-replay Inv-loop μ-loop
-slice-aggregate-replay c = sym (c .before .before .before .before .before .before .before .index-work .kept .1 .1 .0 ∙ c .before .before .before .before .before .before .before .before .before .before .before .before .before .before .before .before .before .before .loop .inv .1)
+slice-aggregate-replay c =
+    let went = c .before .before .before .before .before .before .before in
+    sym (went .index-work .kept .1 .1 .0 ∙ looped (went .before .before .before .before .before .before .before) .before .loop .inv .1)
 
 replay-requires : tie.Need-replay-requires Inv-loop μ-loop
 replay-requires c κs =
     let went = c .before .before .before .before .before .before .before in
     let test = went .before .before .before .before in
-    let found = test .before .before in
-    let worked = found .before .before in
-    let read = worked .before in
-    let i = read .before in
+    let b = test .before .before .before in
+    let i = looped b in
     let t = begun i in
     let l = i .before .loop in
     let lt = i .loop-test .taken in
-    let at = read .read-entry .ensures in
-    let under = test .if1 .left in
-    let e = asked found in
-    let fit : needed (work (side t) (world (scene-of t)) (entryAt (t .args .log .now) (l .k))) (l .inv .0 .mesh) ≤ t .args .task .room = omega arith in
+    let at = b .before .before .read-entry .ensures in
     let is = ap (λ (I : Index). I .steps) (went .index-work .ensures) in
-    let few = run-few (side t) (t .pre) (l .inv .0) lt at (worked .work-of .result) (told worked) fit (worked .work-of .ensures .1) (l .steps) in
+    let few = run-few (side t) (t .pre) (l .inv .0) lt at (sets b) (b .cells-beside .ensures) (fits test) (l .steps) in
     let n = length-table (stepAt (went .index-work .last .1 .1 .0)) (went .index-work .result .steps) in
     let long = went .index-work .kept .1 .1 .0 ∙ l .inv .1 in (
       omega (arith, ap length is, n, few, long),
       subst (λ (xs : List Step). Replaying (bare (scene-of t)) xs (shelf (l .vertices) (l .quads))) (sym is)
-          (run-replaying (side t) (t .pre) (l .inv .0) lt at (worked .work-of .result) (told worked) fit (worked .work-of .ensures .1) (l .steps)),
+          (run-replaying (side t) (t .pre) (l .inv .0) lt at (sets b) (b .cells-beside .ensures) (fits test) (l .steps)),
     )
 
-larger-requires : tie.Need-larger-requires Inv-loop μ-loop
-larger-requires c κs = search needs
-
 add-k : tie.Need-add-k Inv-loop μ-loop
-add-k c = let h = c .before .before .before .before .before .before .before .before .before .before .before .before .before .before .before .before .before .before .before .before .before .loop-test .taken in omega (arith, begun (c .before .before .before .before .before .before .before .before .before .before .before .before .before .before .before .before .before .before .before .before .before) .pre .few)
+add-k c = let i = looped (c .before .before .before .before .before .before .before .before .before .before .before .before .before .before .before .before .before) in let h = i .loop-test .taken in omega (arith, begun i .pre .few)
 
 loop-less : tie.Need-loop-less Inv-loop μ-loop
-loop-less c = let h = c .before .before .before .before .before .before .before .before .before .before .before .before .before .before .before .before .before .before .before .before .before .loop-test .taken in omega arith
+loop-less c = let i = looped (c .before .before .before .before .before .before .before .before .before .before .before .before .before .before .before .before .before) in let h = i .loop-test .taken in omega arith
 
 loop-again : tie.Need-loop-again Inv-loop μ-loop
 loop-again c =
-    let drew = c .before .before .before in
+    let drew = c .before .before in
     let went = drew .before .before .before .before .before .before .before .before in
     let test = went .before .before .before .before in
-    let found = test .before .before in
-    let worked = found .before .before in
-    let read = worked .before in
-    let i = read .before in
+    let b = test .before .before .before in
+    let i = looped b in
     let t = begun i in
     let l = i .before .loop in
-    let under = test .if1 .left in
-    let e = asked found in
-    let fit : needed (work (side t) (world (scene-of t)) (entryAt (t .args .log .now) (l .k))) (l .inv .0 .mesh) ≤ t .args .task .room = omega arith in
     let S = bare (scene-of t) in
     let is = ap (λ (I : Index). I .steps) (went .index-work .ensures) in (
-      run-on (side t) (t .pre) (l .inv .0) (i .loop-test .taken) (read .read-entry .ensures) (worked .work-of .result) (told worked) fit (worked .work-of .ensures .1) (l .steps)
+      run-on (side t) (t .pre) (l .inv .0) (i .loop-test .taken) (b .before .before .read-entry .ensures) (sets b) (b .cells-beside .ensures) (fits test) (l .steps)
           (went .index-work .ensures)
-          (drew .replay .ensures ∙ ap (λ (xs : List Step). replayed (span S) (wordsBy S) xs (shelf (l .vertices) (l .quads))) is)
-          e (c .larger .ensures),
+          (drew .replay .ensures ∙ ap (λ (xs : List Step). replayed (span S) (wordsBy S) xs (shelf (l .vertices) (l .quads))) is),
       went .index-work .kept .1 .1 .0 ∙ l .inv .1,
     )
 
-same-length-4 : tie.Need-same-length-4 Inv-loop μ-loop
-same-length-4 c = let t = c .before .before .before .before .before .before .before .before .before .before in run-kept (side t) (t .pre) (c .before .loop .inv .0) .0
-
-same-length-5 : tie.Need-same-length-5 Inv-loop μ-loop
-same-length-5 c = let t = c .before .before .before .before .before .before .before .before .before .before in run-kept (side t) (t .pre) (c .before .loop .inv .0) .1
-
-same-length-6 : tie.Need-same-length-6 Inv-loop μ-loop
-same-length-6 c = let t = c .before .before .before .before .before .before .before .before .before .before in run-kept (side t) (t .pre) (c .before .loop .inv .0) .2
+ended-kept : (c : tie.After-loop Inv-loop μ-loop) →
+    let t = c .before .before .before .before .before .before .before .before .before .before in
+    let l = c .before .loop in
+    (length (l .vertices) ≡ length (t .args .vertices .now)) × (length (l .links) ≡ length (t .args .links .now)) × (length (l .slots) ≡ length (t .args .slots .now))
+ended-kept c = let t = c .before .before .before .before .before .before .before .before .before .before in run-kept (side t) (t .pre) (c .before .loop .inv .0)
 
 returns-2 : tie.Need-returns-2 Inv-loop μ-loop
 returns-2 c =
@@ -206,21 +188,21 @@ run-log-spec =
     μ-loop
     loop-holds
     read-entry-requires
-    work-of-requires
-    quads-needed-requires
-    same-length
-    same-length-2
-    same-length-3
+    (λ c κs. search needs)
+    cells-beside-requires
+    has-room-requires
+    (λ c. kept (looped (c .before .before .before)) .0)
+    (λ c. kept (looped (c .before .before .before)) .1)
+    (λ c. kept (looped (c .before .before .before)) .2)
     returns
     slice-aggregate-index-work
     index-work-requires
     slice-aggregate-replay
     replay-requires
-    larger-requires
     add-k
     loop-less
     loop-again
-    same-length-4
-    same-length-5
-    same-length-6
+    (λ c. ended-kept c .0)
+    (λ c. ended-kept c .1)
+    (λ c. ended-kept c .2)
     returns-2)

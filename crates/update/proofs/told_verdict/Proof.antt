@@ -20,21 +20,9 @@ size c = sym (c .before .is-refusal .ensures) ∙ c .if1 .left
 types : (c : tie.Else2) → refuses (verdictOf (c .before .before .types-verdict .result)) ≡ false
 types c = sym (c .before .is-refusal2 .ensures) ∙ c .if2 .left
 
-size-verdict-requires : tie.Need-size-verdict-requires
-size-verdict-requires c κs = search needs
-
-is-refusal-requires : tie.Need-is-refusal-requires
-is-refusal-requires c κs = search needs
-
 returns : tie.Need-returns
 returns c B l =
     stops _ _ _ (c .before .before .size-verdict .ensures) (sym (c .before .is-refusal .ensures) ∙ c .if1 .taken)
-
-types-verdict-requires : tie.Need-types-verdict-requires
-types-verdict-requires c κs = search needs
-
-is-refusal-requires-2 : tie.Need-is-refusal-requires-2
-is-refusal-requires-2 c κs = search needs
 
 returns-2 : tie.Need-returns-2
 returns-2 c B l =
@@ -58,11 +46,11 @@ pub told-verdict-spec : {M : Type 1} → statement M
 told-verdict-spec =
     tie.close
     (tie.spec
-    size-verdict-requires
-    is-refusal-requires
+    (λ c κs. search needs)
+    (λ c κs. search needs)
     returns
-    types-verdict-requires
-    is-refusal-requires-2
+    (λ c κs. search needs)
+    (λ c κs. search needs)
     returns-2
     lent-verdict-requires
     returns-3)

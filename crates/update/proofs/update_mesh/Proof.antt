@@ -8,7 +8,7 @@ use Rattle.rules.specs.Cells.{cells}
 use Rattle.rules.specs.Mesh.{Lists, listsOf}
 use Rattle.rules.specs.Types.{floats}
 use Rattle.rules.specs.Update.{Tested}
-use Rattle.rules.specs.Answers.{Verdict, fine, _then_, BAD-SIZE, SHORT-SLOTS, BAD-COUNT, BAD-LINKS, BAD-TRIANGLES, BAD-ENTRY}
+use Rattle.rules.specs.Answers.{fine, BAD-SIZE, SHORT-SLOTS, BAD-COUNT, BAD-LINKS, BAD-TRIANGLES, BAD-ENTRY}
 use Rattle.rules.specs.Calls.{Scene, faces, room, typesVerdict}
 use Rattle.rules.proofs.Checking.{then-fine}
 use Rattle.rules.proofs.Demands.{Room}
@@ -137,19 +137,10 @@ Ends c x =
 ends : (c : tie.After-run-log) {x : Ran} → c .run-log .result ≡ x → Ends c x
 ends c {x} e = let l = c .run-log .last in ap (λ (y : Ran). ranOf y (l .0) (l .1 .0) (l .1 .1 .0)) (sym e) ∙ c .run-log .ensures
 
-told-verdict-requires : tie.Need-told-verdict-requires
-told-verdict-requires c κs = search needs
-
-enum-known-told : tie.Need-enum-known-told
-enum-known-told c = search needs
-
 returns : tie.Need-returns
 returns c =
     let t = begun (c .before .before .before) in
     refused-so (side t) (scene t) (t .args .log .now) (lists t) (t .args .quads) (at-it _ (sym (told-is (c .before .before .before)) ∙ ap verdictOf (c .before .told .given .1)))
-
-enum-told : tie.Need-enum-told
-enum-told c = search needs
 
 cell-count-requires : tie.Need-cell-count-requires
 cell-count-requires c κs = within (c .before) .sides
@@ -159,23 +150,11 @@ links-verdict-requires c κs =
     let counted = c .before .before in
     rw (counted .cell-count .ensures) (lent-well (counted .before .before) .0)
 
-enum-known-linked : tie.Need-enum-known-linked
-enum-known-linked c = search needs
-
-same-length : tie.Need-same-length
-same-length c = search needs
-
-same-length-2 : tie.Need-same-length-2
-same-length-2 c = search needs
-
 returns-2 : tie.Need-returns-2
 returns-2 c =
     let l = c .before .before .before in
     let t = asked (opened l) in
     refused-so (side t) (scene t) (t .args .log .now) (lists t) (t .args .quads) (past (told-fine (opened l)) (at-it _ (sym (links-are l) ∙ ap verdictOf (c .before .linked .given .1))))
-
-enum-told-2 : tie.Need-enum-told-2
-enum-told-2 c = search needs
 
 triangles-verdict-requires : tie.Need-triangles-verdict-requires
 triangles-verdict-requires c κs =
@@ -185,18 +164,6 @@ triangles-verdict-requires c κs =
     let m = within (opened (l .before .before)) .most in
     (w .1 .triangles, omega (arith, few-linked (size t) (lists t) (t .args .quads) (w .0 .slotted) (links-fine l)))
 
-enum-known-patterned : tie.Need-enum-known-patterned
-enum-known-patterned c = search needs
-
-same-length-3 : tie.Need-same-length-3
-same-length-3 c = search needs
-
-same-length-4 : tie.Need-same-length-4
-same-length-4 c = search needs
-
-same-length-5 : tie.Need-same-length-5
-same-length-5 c = search needs
-
 returns-3 : tie.Need-returns-3
 returns-3 c =
     let p = c .before .before .before in
@@ -204,30 +171,12 @@ returns-3 c =
     let t = listed l in
     refused-so (side t) (scene t) (t .args .log .now) (lists t) (t .args .quads) (past (told-fine (opened (l .before .before))) (past (links-fine l) (at-it _ (sym (triangles-are p) ∙ ap verdictOf (c .before .patterned .given .1)))))
 
-enum-told-3 : tie.Need-enum-told-3
-enum-told-3 c = search needs
-
 cast-entry-verdict : tie.Need-cast-entry-verdict
 cast-entry-verdict c =
     let told = opened ((linked (c .before .before)) .before .before) in
     let t = asked told in
     let few = typed (scene t) (then-fine (typesVerdict (scene t)) _ (then-fine (BAD-SIZE ((scene t) .size)) _ (told-fine told) .1) .0) .counted .few in
     omega arith
-
-entry-verdict-requires : tie.Need-entry-verdict-requires
-entry-verdict-requires c κs = search needs
-
-enum-known-entered : tie.Need-enum-known-entered
-enum-known-entered c = search needs
-
-same-length-6 : tie.Need-same-length-6
-same-length-6 c = search needs
-
-same-length-7 : tie.Need-same-length-7
-same-length-7 c = search needs
-
-same-length-8 : tie.Need-same-length-8
-same-length-8 c = search needs
 
 returns-4 : tie.Need-returns-4
 returns-4 c =
@@ -237,18 +186,6 @@ returns-4 c =
     let t = drawn p in
     refused-so (side t) (scene t) (t .args .log .now) (lists t) (t .args .quads)
     (past (told-fine (opened (l .before .before))) (past (links-fine l) (past (triangles-fine p) (sym (entries-are e) ∙ ap verdictOf (c .before .entered .given .1)))))
-
-enum-told-4 : tie.Need-enum-told-4
-enum-told-4 c = search needs
-
-cast-six : tie.Need-cast-six
-cast-six c = search needs
-
-mul-six : tie.Need-mul-six
-mul-six c = search needs
-
-room-of-requires : tie.Need-room-of-requires
-room-of-requires c κs = search needs
 
 slice-relend-prefix-run-log : tie.Need-slice-relend-prefix-run-log
 slice-relend-prefix-run-log c =
@@ -268,9 +205,6 @@ run-log-requires c κs =
     let t = whole (r .before) in
     lent-logging (side t) (scene t) (t .args .log .now) (lists t) (t .args .quads) (accepted (r .before)) (six (r .before)) (found r)
 
-enum-known-ran : tie.Need-enum-known-ran
-enum-known-ran c = search needs
-
 mend-patterns-requires : tie.Need-mend-patterns-requires
 mend-patterns-requires c κs =
     let met = c .before .before .before in
@@ -278,9 +212,6 @@ mend-patterns-requires c κs =
     let r = roomed went in
     let t = whole (r .before) in
     lent-mend (side t) (scene t) (t .args .log .now) (lists t) (t .args .quads) (accepted (r .before)) (six (r .before)) (found r) (ends went (met .ran .given .1))
-
-enum-known-ran-2 : tie.Need-enum-known-ran-2
-enum-known-ran-2 c = search needs
 
 mend-patterns-requires-2 : tie.Need-mend-patterns-requires-2
 mend-patterns-requires-2 c κs =
@@ -290,18 +221,6 @@ mend-patterns-requires-2 c κs =
     let t = whole (r .before) in
     lent-mend (side t) (scene t) (t .args .log .now) (lists t) (t .args .quads) (accepted (r .before)) (six (r .before)) (found r) (ends went (met .ran2 .given .1))
 
-same-length-9 : tie.Need-same-length-9
-same-length-9 c = search needs
-
-same-length-10 : tie.Need-same-length-10
-same-length-10 c = search needs
-
-same-length-11 : tie.Need-same-length-11
-same-length-11 c = search needs
-
-same-length-12 : tie.Need-same-length-12
-same-length-12 c = search needs
-
 returns-5 : tie.Need-returns-5
 returns-5 c =
     let mended = c .before .before in
@@ -310,18 +229,6 @@ returns-5 c =
     let r = roomed went in
     let t = whole (r .before) in
     lent-outcome (side t) (scene t) (t .args .log .now) (lists t) (t .args .quads) (accepted (r .before)) (six (r .before)) (found r) (ends went (met .ran .given .1)) (mended .mend-patterns .ensures)
-
-same-length-13 : tie.Need-same-length-13
-same-length-13 c = search needs
-
-same-length-14 : tie.Need-same-length-14
-same-length-14 c = search needs
-
-same-length-15 : tie.Need-same-length-15
-same-length-15 c = search needs
-
-same-length-16 : tie.Need-same-length-16
-same-length-16 c = search needs
 
 returns-6 : tie.Need-returns-6
 returns-6 c =
@@ -336,49 +243,49 @@ pub update-mesh-spec : {M : Type 1} → statement M
 update-mesh-spec =
     tie.close
     (tie.spec
-    told-verdict-requires
-    enum-known-told
+    (λ c κs. search needs)
+    (λ c. search needs)
     returns
-    enum-told
+    (λ c. search needs)
     cell-count-requires
     links-verdict-requires
-    enum-known-linked
-    same-length
-    same-length-2
+    (λ c. search needs)
+    (λ c. search needs)
+    (λ c. search needs)
     returns-2
-    enum-told-2
+    (λ c. search needs)
     triangles-verdict-requires
-    enum-known-patterned
-    same-length-3
-    same-length-4
-    same-length-5
+    (λ c. search needs)
+    (λ c. search needs)
+    (λ c. search needs)
+    (λ c. search needs)
     returns-3
-    enum-told-3
+    (λ c. search needs)
     cast-entry-verdict
-    entry-verdict-requires
-    enum-known-entered
-    same-length-6
-    same-length-7
-    same-length-8
+    (λ c κs. search needs)
+    (λ c. search needs)
+    (λ c. search needs)
+    (λ c. search needs)
+    (λ c. search needs)
     returns-4
-    enum-told-4
-    cast-six
-    mul-six
-    room-of-requires
+    (λ c. search needs)
+    (λ c. search needs)
+    (λ c. search needs)
+    (λ c κs. search needs)
     slice-relend-prefix-run-log
     slice-aggregate-run-log
     run-log-requires
-    enum-known-ran
+    (λ c. search needs)
     mend-patterns-requires
-    enum-known-ran-2
+    (λ c. search needs)
     mend-patterns-requires-2
-    same-length-9
-    same-length-10
-    same-length-11
-    same-length-12
+    (λ c. search needs)
+    (λ c. search needs)
+    (λ c. search needs)
+    (λ c. search needs)
     returns-5
-    same-length-13
-    same-length-14
-    same-length-15
-    same-length-16
+    (λ c. search needs)
+    (λ c. search needs)
+    (λ c. search needs)
+    (λ c. search needs)
     returns-6)

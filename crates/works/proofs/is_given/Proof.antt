@@ -7,15 +7,6 @@ use borrow.Author.Needs.{needs}
 use Rattle.works.proofs.is_given.Statement.{statement}
 use Rattle.works.proofs.is_given.Tie as tie
 
-neighbour-requires : tie.Need-neighbour-requires
-neighbour-requires c κs = search needs
-
-enum-told : tie.Need-enum-told
-enum-told c = search needs
-
-enum-told-2 : tie.Need-enum-told-2
-enum-told-2 c = search needs
-
 returns : tie.Need-returns
 returns c =
     let a = c .before .before .before .args in
@@ -27,4 +18,4 @@ returns-2 c =
     is-given (entryIn (a .entry)) (number (a .face)) (sym (c .before .before .neighbour .ensures) ∙ c .enum-told2 .given .1)
 
 pub is-given-spec : {M : Type 1} → statement M
-is-given-spec = tie.close (tie.spec neighbour-requires enum-told enum-told-2 returns returns-2)
+is-given-spec = tie.close (tie.spec (λ c κs. search needs) (λ c. search needs) (λ c. search needs) returns returns-2)

@@ -9,21 +9,6 @@ use borrow.Author.Needs.{needs}
 use Rattle.works.proofs.is_open.Statement.{statement}
 use Rattle.works.proofs.is_open.Tie as tie
 
-neighbour-requires : tie.Need-neighbour-requires
-neighbour-requires c κs = search needs
-
-enum-told : tie.Need-enum-told
-enum-told c = search needs
-
-enum-known-given : tie.Need-enum-known-given
-enum-known-given c = search needs
-
-opposite-requires : tie.Need-opposite-requires
-opposite-requires c κs = search needs
-
-is-covering-requires : tie.Need-is-covering-requires
-is-covering-requires c κs = search needs
-
 returns : tie.Need-returns
 returns c =
     let a = c .before .before .before .before .args in
@@ -31,18 +16,12 @@ returns c =
 
 returns-2 : tie.Need-returns-2
 returns-2 c =
-    let a = c .before .before .before .before .before .before .before .args in
-    open-voxel (entryIn (a .entry)) (number (a .face)) (typesBy [] (a .covers .now)) (sym (c .before .before .before .before .before .neighbour .ensures) ∙ c .before .before .before .given .given .1)
-    (c .is-covering .ensures) (c .before .opposite .ensures)
+    let told = c .before .before in
+    let found = told .before .before in
+    let a = found .before .before .before .before .args in
+    open-voxel (entryIn (a .entry)) (number (a .face)) (typesBy [] (a .covers .now)) (sym (found .before .before .neighbour .ensures) ∙ found .given .given .1)
+    (c .has .ensures) (told .cover-of .ensures) (c .before .opposite .ensures)
 
 pub is-open-spec : {M : Type 1} → statement M
 is-open-spec =
-    tie.close
-    (tie.spec
-    neighbour-requires
-    enum-told
-    enum-known-given
-    opposite-requires
-    is-covering-requires
-    returns
-    returns-2)
+    tie.close (tie.spec (λ c κs. search needs) (λ c. search needs) (λ c. search needs) (λ c κs. search needs) (λ c κs. search needs) (λ c κs. search needs) returns returns-2)

@@ -1,124 +1,76 @@
 -- `works::work_of` meets its contract: change by change. Assumes nothing.
-use mathlib.Core.Path.{sym, ap, _∙_}
-use mathlib.Core.List.{List}
+use mathlib.Core.Path.{_≡_, sym, ap, _∙_}
+use mathlib.Core.Bool.{cond}
 use Prim.Native.Nat.{ℕ}
-use Rattle.rules.specs.Cells.{Size}
+use Rattle.rules.specs.Cells.{setOf, has}
 use Rattle.rules.specs.Mesh.{World}
-use Rattle.rules.proofs.ListLaws.{not-true, not-false}
+use Rattle.rules.specs.Update.{Change}
 use Rattle.entries.specs.Log.{changeIn, entryIn}
 use Rattle.terms.specs.Modes.{testedBy}
-use Rattle.works.specs.Sets.{worldBy, typesBy}
-use Rattle.works.proofs.Works.{broken-work, added-work, culled-work, faces-work, added-idle, faces-idle, shown-cubes, drawn-cubes, no-cubes}
+use Rattle.works.specs.Sets.{typesBy, sets, noWork, isShown, meantBy, meant}
 use borrow.Author.Needs.{needs}
 use Rattle.works.proofs.work_of.Statement.{statement}
 use Rattle.works.proofs.work_of.Tie as tie
 
-abbrev known : tie.Start → Size → (ℕ → ℕ → ℕ → List ℕ) → World
-known t s words = worldBy s (t .args .kinds .now) (t .args .covers .now) words
+abbrev types : tie.Start → World
+types t = typesBy (t .args .kinds .now) (t .args .covers .now)
 
-enum-told : tie.Need-enum-told
-enum-told c = search needs
-
-asked-sides-requires : tie.Need-asked-sides-requires
-asked-sides-requires c κs = search needs
-
-enum-told-2 : tie.Need-enum-told-2
-enum-told-2 c = search needs
-
-is-normal-cube-requires : tie.Need-is-normal-cube-requires
-is-normal-cube-requires c κs = search needs
+by : (t : tie.Start) {k : Change} → changeIn (t .args .entry .change) ≡ k → meantBy (testedBy (t .args .tested)) (types t) (entryIn (t .args .entry)) k ≡ meant (testedBy (t .args .tested)) (types t) (entryIn (t .args .entry))
+by t e = sym (ap (meantBy (testedBy (t .args .tested)) (types t) (entryIn (t .args .entry))) e)
 
 returns : tie.Need-returns
 returns c =
-    let t = c .before .before .before .before .before .before in (
-      λ s words. added-idle (known t s words) (entryIn (t .args .entry)) (testedBy (t .args .tested)) (ap changeIn (c .before .before .enum-told2 .given .1))
-          (sym (c .before .is-normal-cube .ensures) ∙ not-false _ (c .if1 .taken)),
-      no-cubes (t .args .kinds .now) (entryIn (t .args .entry)),
-    )
-
-asked-sides-requires-2 : tie.Need-asked-sides-requires-2
-asked-sides-requires-2 c κs = search needs
-
-asked-sides-requires-3 : tie.Need-asked-sides-requires-3
-asked-sides-requires-3 c κs = search needs
-
-enum-told-3 : tie.Need-enum-told-3
-enum-told-3 c = search needs
-
-asked-sides-requires-4 : tie.Need-asked-sides-requires-4
-asked-sides-requires-4 c κs = search needs
-
-enum-told-4 : tie.Need-enum-told-4
-enum-told-4 c = search needs
-
-is-normal-cube-requires-2 : tie.Need-is-normal-cube-requires-2
-is-normal-cube-requires-2 c κs = search needs
+    let told = c .before in
+    let cover = told .before .before in
+    let t = cover .before .before .before .before in
+    ap (λ (n : ℕ). sets 63 n 0 0) (c .shown-sides .ensures ∙ ap (λ (n : ℕ). setOf (isShown (t .args .kinds .now) n (entryIn (t .args .entry)))) (cover .cover-of .ensures))
+    ∙ by t (ap changeIn (told .enum-told .given .1))
 
 returns-2 : tie.Need-returns-2
 returns-2 c =
-    let t = c .before .before .before .before .before .before in (
-      λ s words. faces-idle (known t s words) (entryIn (t .args .entry)) (testedBy (t .args .tested)) (ap changeIn (c .before .before .enum-told4 .given .1))
-          (sym (c .before .is-normal-cube2 .ensures) ∙ not-false _ (c .if2 .taken)),
-      no-cubes (t .args .kinds .now) (entryIn (t .args .entry)),
-    )
-
-asked-sides-requires-5 : tie.Need-asked-sides-requires-5
-asked-sides-requires-5 c κs = search needs
+    let hidden = c .before in
+    let opened = hidden .before in
+    let told = opened .before in
+    let cover = told .before .before in
+    let cube = cover .before in
+    let t = cube .before .before .before in
+    let on = cube .is-normal-cube .ensures in
+    let drawn = opened .open-sides .ensures in
+    let gone = hidden .hidden-sides .ensures ∙ ap (λ (n : ℕ). setOf (λ i. has n (testedBy (t .args .tested) i))) (cover .cover-of .ensures) in
+    c .work-if .ensures ∙ (λ i. cond (on i) (sets 63 0 (drawn i) (gone i)) noWork) ∙ by t (ap changeIn (told .enum-told2 .given .1))
 
 returns-3 : tie.Need-returns-3
 returns-3 c =
-    let t = c .before .before .before .before .before in (
-      λ s words. broken-work (known t s words) (entryIn (t .args .entry)) (testedBy (t .args .tested)) (c .asked-sides .result)
-          (ap changeIn (c .before .enum-told .given .1)) (c .asked-sides .ensures),
-      shown-cubes (typesBy (t .args .kinds .now) (t .args .covers .now)) (entryIn (t .args .entry)) (testedBy (t .args .tested)) (c .asked-sides .ensures),
-    )
+    let t = c .before .before .before .before .before .before .before in
+    ap (λ (n : ℕ). sets n 0 0 0) (c .given-sides .ensures) ∙ by t (ap changeIn (c .before .enum-told3 .given .1))
 
 returns-4 : tie.Need-returns-4
 returns-4 c =
-    let cube = c .before .before .before in
-    let t = cube .before .before .before .before .before in
-    let is = sym (cube .is-normal-cube .ensures) ∙ not-true _ (c .before .before .if1 .left) in (
-      λ s words. added-work (known t s words) (entryIn (t .args .entry)) (testedBy (t .args .tested)) (c .before .asked-sides2 .result) (c .asked-sides3 .result)
-          (ap changeIn (cube .before .enum-told2 .given .1)) is (c .before .asked-sides2 .ensures) (c .asked-sides3 .ensures),
-      drawn-cubes (t .args .kinds .now) (entryIn (t .args .entry)) is,
-    )
-
-returns-5 : tie.Need-returns-5
-returns-5 c =
-    let t = c .before .before .before .before .before in (
-      λ s words. culled-work (known t s words) (entryIn (t .args .entry)) (testedBy (t .args .tested)) (c .asked-sides4 .result)
-          (ap changeIn (c .before .enum-told3 .given .1)) (c .asked-sides4 .ensures),
-      no-cubes (t .args .kinds .now) (entryIn (t .args .entry)),
-    )
-
-returns-6 : tie.Need-returns-6
-returns-6 c =
-    let cube = c .before .before in
-    let t = cube .before .before .before .before .before in
-    let is = sym (cube .is-normal-cube2 .ensures) ∙ not-true _ (c .before .if2 .left) in (
-      λ s words. faces-work (known t s words) (entryIn (t .args .entry)) (testedBy (t .args .tested)) (c .asked-sides5 .result)
-          (ap changeIn (cube .before .enum-told4 .given .1)) is (c .asked-sides5 .ensures),
-      drawn-cubes (t .args .kinds .now) (entryIn (t .args .entry)) is,
-    )
+    let given = c .before in
+    let told = given .before in
+    let cube = told .before .before .before in
+    let on = cube .is-normal-cube .ensures in
+    let drawn = given .given-sides2 .ensures in
+    c .work-if2 .ensures ∙ (λ i. cond (on i) (sets 0 0 (drawn i) 0) noWork) ∙ by (cube .before .before .before) (ap changeIn (told .enum-told4 .given .1))
 
 pub work-of-spec : {M : Type 1} → statement M
 work-of-spec =
     tie.close
     (tie.spec
-    enum-told
-    asked-sides-requires
-    enum-told-2
-    is-normal-cube-requires
+    (λ c κs. search needs)
+    (λ c κs. search needs)
+    (λ c. search needs)
+    (λ c κs. search needs)
+    (λ c. search needs)
+    (λ c κs. search needs)
+    (λ c κs. search needs)
+    (λ c κs. search needs)
+    (λ c. search needs)
+    (λ c κs. search needs)
+    (λ c. search needs)
+    (λ c κs. search needs)
+    (λ c κs. search needs)
     returns
-    asked-sides-requires-2
-    asked-sides-requires-3
-    enum-told-3
-    asked-sides-requires-4
-    enum-told-4
-    is-normal-cube-requires-2
     returns-2
-    asked-sides-requires-5
     returns-3
-    returns-4
-    returns-5
-    returns-6)
+    returns-4)

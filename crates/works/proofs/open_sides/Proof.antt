@@ -1,0 +1,20 @@
+-- `works::open_sides` meets its contract: side by side. Assumes nothing.
+use borrow.Author.Needs.{needs}
+use Rattle.works.proofs.open_sides.Statement.{statement}
+use Rattle.works.proofs.open_sides.Tie as tie
+
+returns : tie.Need-returns
+returns c = cc
+
+pub open-sides-spec : {M : Type 1} → statement M
+open-sides-spec =
+    tie.close
+    (tie.spec
+    (λ c κs. search needs)
+    (λ c κs. search needs)
+    (λ c κs. search needs)
+    (λ c κs. search needs)
+    (λ c κs. search needs)
+    (λ c κs. search needs)
+    (λ c κs. search needs)
+    returns)
