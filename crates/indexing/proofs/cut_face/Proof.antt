@@ -59,15 +59,5 @@ returns-2 c =
 pub cut-face-spec : {M : Type 1} → statement M
 cut-face-spec =
     tie.close
-    (tie.spec
-    get-quad-index-requires
-    (λ c. search needs)
-    (λ c. search needs)
-    (λ c κs. search needs)
-    remove-quad-requires
-    (λ c. search needs)
-    returns
-    (λ c. search needs)
-    (λ c. search needs)
-    (λ c. search needs)
-    returns-2)
+    (tie.spec get-quad-index-requires (λ c. search needs) (λ c. search needs) (λ c κs. search needs) remove-quad-requires (λ c. search needs) returns
+    (λ c. search needs) (λ c. search needs) (λ c. search needs) returns-2)

@@ -51,12 +51,5 @@ returns-2 c =
 pub draw-face-spec : {M : Type 1} → statement M
 draw-face-spec =
     tie.close
-    (tie.spec
-    is-filled-requires
-    (λ c. search needs)
-    returns
-    append-quad-requires
-    (λ c. search needs)
-    (λ c. search needs)
-    (λ c. search needs)
+    (tie.spec is-filled-requires (λ c. search needs) returns append-quad-requires (λ c. search needs) (λ c. search needs) (λ c. search needs)
     returns-2)

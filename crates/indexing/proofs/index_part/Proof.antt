@@ -141,26 +141,6 @@ returns c =
 pub index-part-spec : {M : Type 1} → statement M
 index-part-spec =
     tie.close
-    (tie.spec
-    Inv-loop
-    μ-loop
-    loop-holds
-    add-face-at
-    face-at-requires
-    (λ c. omega (arith, below (c .before)))
-    (λ c. omega (arith, below (c .before)))
-    (λ c. omega (arith, below (c .before)))
-    (λ c. below (c .before))
-    (λ c κs. search needs)
-    (λ c κs. search needs)
-    do-deed-requires
-    add-f
-    add-f-2
-    cast-rest
-    shr-rest
-    loop-less
-    loop-again
-    same-length
-    same-length-2
-    same-length-3
-    returns)
+    (tie.spec Inv-loop μ-loop loop-holds add-face-at face-at-requires (λ c. omega (arith, below (c .before))) (λ c. omega (arith, below (c .before)))
+    (λ c. omega (arith, below (c .before))) (λ c. below (c .before)) (λ c κs. search needs) (λ c κs. search needs) do-deed-requires add-f add-f-2
+    cast-rest shr-rest loop-less loop-again same-length same-length-2 same-length-3 returns)

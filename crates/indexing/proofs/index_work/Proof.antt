@@ -72,16 +72,5 @@ returns c = done (c .before .loop .inv .0) (c .loop-test .left)
 pub index-work-spec : {M : Type 1} → statement M
 index-work-spec =
     tie.close
-    (tie.spec
-    Inv-loop
-    μ-loop
-    loop-holds
-    (λ c κs. search needs)
-    index-part-requires
-    (λ c. omega arith)
-    (λ c. omega arith)
-    loop-again
-    same-length
-    same-length-2
-    same-length-3
-    returns)
+    (tie.spec Inv-loop μ-loop loop-holds (λ c κs. search needs) index-part-requires (λ c. omega arith) (λ c. omega arith) loop-again same-length
+    same-length-2 same-length-3 returns)

@@ -59,16 +59,5 @@ returns-3 c =
 pub is-bare-spec : {M : Type 1} → statement M
 is-bare-spec =
     tie.close
-    (tie.spec
-    (λ c κs. search needs)
-    returns
-    (λ c κs. search needs)
-    (λ c. search needs)
-    (λ c. search needs)
-    array-read-spot-at
-    (λ c κs. search needs)
-    (λ c. search needs)
-    (λ c. search needs)
-    is-filled-requires
-    returns-2
-    returns-3)
+    (tie.spec (λ c κs. search needs) returns (λ c κs. search needs) (λ c. search needs) (λ c. search needs) array-read-spot-at (λ c κs. search needs)
+    (λ c. search needs) (λ c. search needs) is-filled-requires returns-2 returns-3)

@@ -12,7 +12,4 @@ returns c = (c .quads-of .ensures, omega (arith, c .quads-of .ensures, count-le 
 pub ones-spec : {M : Type 1} → statement M
 ones-spec =
     tie.close
-    (tie.spec
-    (λ c κs. search needs)
-    (λ c. search needs)
-    returns)
+    (tie.spec (λ c κs. search needs) (λ c. search needs) returns)

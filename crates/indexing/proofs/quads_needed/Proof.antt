@@ -60,14 +60,5 @@ returns c =
 pub quads-needed-spec : {M : Type 1} → statement M
 quads-needed-spec =
     tie.close
-    (tie.spec
-    (λ c κs. search needs)
-    ones-requires
-    (λ c κs. search needs)
-    ones-requires-2
-    sub-ones
-    ones-requires-3
-    sub-result
-    add-result
-    add-result-2
+    (tie.spec (λ c κs. search needs) ones-requires (λ c κs. search needs) ones-requires-2 sub-ones ones-requires-3 sub-result add-result add-result-2
     returns)

@@ -11,12 +11,5 @@ slice-write-steps-2 c = simp length-set (omega arith)
 pub write-step-spec : {M : Type 1} → statement M
 write-step-spec =
     tie.close
-    (tie.spec
-    (λ c. search needs)
-    (λ c. search needs)
-    (λ c. search needs)
-    (λ c. search needs)
-    (λ c. search needs)
-    slice-write-steps-2
-    (λ c. search needs)
-    (λ c. search needs))
+    (tie.spec (λ c. search needs) (λ c. search needs) (λ c. search needs) (λ c. search needs) (λ c. search needs) slice-write-steps-2
+    (λ c. search needs) (λ c. search needs))

@@ -59,17 +59,5 @@ returns c =
 pub draw-row-spec : {M : Type 1} → statement M
 draw-row-spec =
     tie.close
-    (tie.spec
-    (λ c κs. search needs)
-    (λ c. search needs)
-    mul-start-2
-    (λ c. search needs)
-    add-end
-    (λ c κs. search needs)
-    mul-write-place
-    (λ c. search needs)
-    (λ c. search needs)
-    part-write-place-end
-    write-place-requires
-    (λ c. search needs)
-    returns)
+    (tie.spec (λ c κs. search needs) (λ c. search needs) mul-start-2 (λ c. search needs) add-end (λ c κs. search needs) mul-write-place
+    (λ c. search needs) (λ c. search needs) part-write-place-end write-place-requires (λ c. search needs) returns)

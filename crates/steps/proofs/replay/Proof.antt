@@ -55,14 +55,4 @@ returns c = done (c .before .loop .inv) (c .loop-test .left)
 pub replay-spec : {M : Type 1} → statement M
 replay-spec =
     tie.close
-    (tie.spec
-    Inv-loop
-    μ-loop
-    loop-holds
-    step-at-requires
-    replay-one-requires
-    (λ c. omega arith)
-    (λ c. omega arith)
-    loop-again
-    same-length
-    returns)
+    (tie.spec Inv-loop μ-loop loop-holds step-at-requires replay-one-requires (λ c. omega arith) (λ c. omega arith) loop-again same-length returns)

@@ -80,16 +80,5 @@ returns-2 c =
 pub replay-one-spec : {M : Type 1} → statement M
 replay-one-spec =
     tie.close
-    (tie.spec
-    (λ c. search needs)
-    (λ c κs. search needs)
-    mul-free-row
-    free-row-requires
-    sub-result
-    (λ c. search needs)
-    draw-row-requires
-    add-result
-    (λ c. search needs)
-    returns
-    (λ c. search needs)
-    returns-2)
+    (tie.spec (λ c. search needs) (λ c κs. search needs) mul-free-row free-row-requires sub-result (λ c. search needs) draw-row-requires add-result
+    (λ c. search needs) returns (λ c. search needs) returns-2)

@@ -183,26 +183,7 @@ returns-2 c =
 pub run-log-spec : {M : Type 1} → statement M
 run-log-spec =
     tie.close
-    (tie.spec
-    Inv-loop
-    μ-loop
-    loop-holds
-    read-entry-requires
-    (λ c κs. search needs)
-    cells-beside-requires
-    has-room-requires
-    (λ c. kept (looped (c .before .before .before)) .0)
-    (λ c. kept (looped (c .before .before .before)) .1)
-    (λ c. kept (looped (c .before .before .before)) .2)
-    returns
-    slice-aggregate-index-work
-    index-work-requires
-    slice-aggregate-replay
-    replay-requires
-    add-k
-    loop-less
-    loop-again
-    (λ c. ended-kept c .0)
-    (λ c. ended-kept c .1)
-    (λ c. ended-kept c .2)
-    returns-2)
+    (tie.spec Inv-loop μ-loop loop-holds read-entry-requires (λ c κs. search needs) cells-beside-requires has-room-requires
+    (λ c. kept (looped (c .before .before .before)) .0) (λ c. kept (looped (c .before .before .before)) .1)
+    (λ c. kept (looped (c .before .before .before)) .2) returns slice-aggregate-index-work index-work-requires slice-aggregate-replay replay-requires
+    add-k loop-less loop-again (λ c. ended-kept c .0) (λ c. ended-kept c .1) (λ c. ended-kept c .2) returns-2)

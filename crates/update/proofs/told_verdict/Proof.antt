@@ -45,12 +45,5 @@ returns-3 c B l =
 pub told-verdict-spec : {M : Type 1} → statement M
 told-verdict-spec =
     tie.close
-    (tie.spec
-    (λ c κs. search needs)
-    (λ c κs. search needs)
-    returns
-    (λ c κs. search needs)
-    (λ c κs. search needs)
-    returns-2
-    lent-verdict-requires
+    (tie.spec (λ c κs. search needs) (λ c κs. search needs) returns (λ c κs. search needs) (λ c κs. search needs) returns-2 lent-verdict-requires
     returns-3)

@@ -242,50 +242,10 @@ returns-6 c =
 pub update-mesh-spec : {M : Type 1} → statement M
 update-mesh-spec =
     tie.close
-    (tie.spec
-    (λ c κs. search needs)
-    (λ c. search needs)
-    returns
-    (λ c. search needs)
-    cell-count-requires
-    links-verdict-requires
-    (λ c. search needs)
-    (λ c. search needs)
-    (λ c. search needs)
-    returns-2
-    (λ c. search needs)
-    triangles-verdict-requires
-    (λ c. search needs)
-    (λ c. search needs)
-    (λ c. search needs)
-    (λ c. search needs)
-    returns-3
-    (λ c. search needs)
-    cast-entry-verdict
-    (λ c κs. search needs)
-    (λ c. search needs)
-    (λ c. search needs)
-    (λ c. search needs)
-    (λ c. search needs)
-    returns-4
-    (λ c. search needs)
-    (λ c. search needs)
-    (λ c. search needs)
-    (λ c κs. search needs)
-    slice-relend-prefix-run-log
-    slice-aggregate-run-log
-    run-log-requires
-    (λ c. search needs)
-    mend-patterns-requires
-    (λ c. search needs)
-    mend-patterns-requires-2
-    (λ c. search needs)
-    (λ c. search needs)
-    (λ c. search needs)
-    (λ c. search needs)
-    returns-5
-    (λ c. search needs)
-    (λ c. search needs)
-    (λ c. search needs)
-    (λ c. search needs)
-    returns-6)
+    (tie.spec (λ c κs. search needs) (λ c. search needs) returns (λ c. search needs) cell-count-requires links-verdict-requires (λ c. search needs)
+    (λ c. search needs) (λ c. search needs) returns-2 (λ c. search needs) triangles-verdict-requires (λ c. search needs) (λ c. search needs)
+    (λ c. search needs) (λ c. search needs) returns-3 (λ c. search needs) cast-entry-verdict (λ c κs. search needs) (λ c. search needs)
+    (λ c. search needs) (λ c. search needs) (λ c. search needs) returns-4 (λ c. search needs) (λ c. search needs) (λ c. search needs)
+    (λ c κs. search needs) slice-relend-prefix-run-log slice-aggregate-run-log run-log-requires (λ c. search needs) mend-patterns-requires
+    (λ c. search needs) mend-patterns-requires-2 (λ c. search needs) (λ c. search needs) (λ c. search needs) (λ c. search needs) returns-5
+    (λ c. search needs) (λ c. search needs) (λ c. search needs) (λ c. search needs) returns-6)
