@@ -1,5 +1,6 @@
 -- `working::build_cube` meets its contract: the cube call's, of the shape that the file tells. Assumes nothing.
 use mathlib.Core.Path.{_∙_}
+use native.Mathlib.Omega.{arith}
 use denote.Ref.{now}
 use Rattle.rules.specs.Calls.{generateVoxelMesh}
 use Rattle.voxel_mesh.specs.Outcome.{shapeOf}
@@ -12,7 +13,7 @@ slice-aggregate-texture-of : tie.Need-slice-aggregate-texture-of
 slice-aggregate-texture-of c = search needs
 
 texture-of-requires : tie.Need-texture-of-requires
-texture-of-requires c κs = search needs
+texture-of-requires c κs = let s = c .before .before .before in (s .pre .0, omega (arith, s .pre .1), search needs)
 
 shape-in-requires : tie.Need-shape-in-requires
 shape-in-requires c κs = search needs
