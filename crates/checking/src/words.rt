@@ -7,7 +7,8 @@ use floats::Triple;
 use quads::quad_word;
 use terms::Scene;
 use util::Coordinates;
-use util::three_d_cords;
+use util::cords_of;
+use util::inverted;
 use util::wide;
 use voxel_mesh::floats_of;
 ghost use mathlib.Core.Path.{_≡_};
@@ -69,6 +70,7 @@ pub fn first_wrong_quad(
     ensures { λ r. ⌜ r ≡ lowest count (otherQuad scene (floatsOf (scene .coloured)) (now (grid .entry)) (now (cubes .entry)) (now (vertices .entry)) (now (links .entry))) ⌝ }
 {
     let dims = scene.dims;
+    let inverse = inverted(dims);
     let floats = floats_of(scene.coloured);
     let words = 4 * floats;
     let span = 24 * floats;
@@ -77,7 +79,7 @@ pub fn first_wrong_quad(
         let link = links[quad];
         let cell = cell_of(link);
         let face = linked_face(link);
-        let at = three_d_cords(cell, dims);
+        let at = cords_of(cell, dims, inverse);
         let place = cell.0 as usize;
         let start = span * wide(grid[place]);
         let end = start + span;

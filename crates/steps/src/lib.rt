@@ -4,7 +4,8 @@ use face::Cell;
 use face::Face;
 use face::face_at;
 use terms::Scene;
-use util::three_d_cords;
+use util::Inverse;
+use util::cords_of;
 use vav::free_row;
 use voxel_mesh::floats_of;
 ghost use mathlib.Core.Path.{_≡_};
@@ -14,7 +15,7 @@ ghost use lib.ListN.{length};
 ghost use Rattle.rules.specs.Cells.{cells};
 ghost use Rattle.rules.specs.Calls.{world, span};
 ghost use Rattle.face.specs.Face.{number};
-ghost use Rattle.util.specs.Grid.{sizeOf, Within};
+ghost use Rattle.util.specs.Grid.{sizeOf, Within, Inverts};
 ghost use Rattle.terms.specs.Scenes.{sceneOf};
 ghost use Rattle.vav.specs.Rows.{put};
 ghost use Rattle.steps.specs.Rows.{Shaped};
@@ -58,17 +59,18 @@ fn draw_row(
     voxel: u8,
     cell: Cell,
     face: Face,
+    inverse: Inverse,
     q: usize,
 )
     requires { ⌜ Within (sizeOf (scene .dims)) × (cell .0 < cells (sizeOf (scene .dims))) × Shaped (sceneOf scene [] [] (now cubes)) voxel
-        × (span (sceneOf scene [] [] (now cubes)) * (q + 1) ≤ length (now vertices)) ⌝ }
+        × (span (sceneOf scene [] [] (now cubes)) * (q + 1) ≤ length (now vertices)) × Inverts (sizeOf (scene .dims)) inverse ⌝ }
     ensures { λ _. ⌜ now (vertices .exit) ≡ put (span (sceneOf scene [] [] (now (cubes .entry))) * q)
         ((world (sceneOf scene [] [] (now (cubes .entry)))) .wordsOf voxel (number face) (cell .0)) (now (vertices .entry)) ⌝ }
 {
     let floats = floats_of(scene.coloured);
     let start = 24 * floats * (voxel as usize);
     let end = start + 24 * floats;
-    let at = three_d_cords(cell, scene.dims);
+    let at = cords_of(cell, scene.dims, inverse);
     write_place(vertices, &cubes[start..end], floats, face, at, scene.d, q);
 }
 
@@ -77,10 +79,11 @@ pub fn replay_one(
     vertices: &mut [u32],
     scene: Scene,
     cubes: &[u32],
+    inverse: Inverse,
     step: Step,
     count: usize,
 ) -> usize
-    requires { ⌜ Stepping (sceneOf scene [] [] (now cubes)) (stepOf step) (shelf (now vertices) count) ⌝ }
+    requires { ⌜ Stepping (sceneOf scene [] [] (now cubes)) (stepOf step) (shelf (now vertices) count) × Inverts (sizeOf (scene .dims)) inverse ⌝ }
     ensures { λ r. ⌜ shelf (now (vertices .exit)) r
         ≡ replayOne (span (sceneOf scene [] [] (now (cubes .entry)))) (wordsBy (sceneOf scene [] [] (now (cubes .entry)))) (stepOf step) (shelf (now (vertices .entry)) count) ⌝ }
 {
@@ -90,7 +93,7 @@ pub fn replay_one(
             count - 1
         }
         Step::Draw(cell, face, voxel) => {
-            draw_row(vertices, scene, cubes, voxel, cell, face, count);
+            draw_row(vertices, scene, cubes, voxel, cell, face, inverse, count);
             count + 1
         }
     }
@@ -101,18 +104,20 @@ pub fn replay(
     vertices: &mut [u32],
     scene: Scene,
     cubes: &[u32],
+    inverse: Inverse,
     steps: &[u32],
     n: usize,
     count: usize,
 ) -> usize
-    requires { ⌜ (2 * n ≤ length (now steps)) × Replaying (sceneOf scene [] [] (now cubes)) (stepsIn n (now steps)) (shelf (now vertices) count) ⌝ }
+    requires { ⌜ (2 * n ≤ length (now steps)) × Replaying (sceneOf scene [] [] (now cubes)) (stepsIn n (now steps)) (shelf (now vertices) count)
+        × Inverts (sizeOf (scene .dims)) inverse ⌝ }
     ensures { λ r. ⌜ shelf (now (vertices .exit)) r
         ≡ replayed (span (sceneOf scene [] [] (now (cubes .entry)))) (wordsBy (sceneOf scene [] [] (now (cubes .entry)))) (stepsIn n (now (steps .entry))) (shelf (now (vertices .entry)) count) ⌝ }
 {
     let mut left = count;
     let mut i = 0;
     while i < n {
-        left = replay_one(vertices, scene, cubes, step_at(steps, i), left);
+        left = replay_one(vertices, scene, cubes, inverse, step_at(steps, i), left);
         i += 1;
     }
     left

@@ -21,6 +21,7 @@ use terms::Lengths;
 use terms::Scene;
 use terms::Tested;
 use types::types_verdict;
+use util::inverted;
 use vav::clear;
 use works::cells_beside;
 use works::work_of;
@@ -75,6 +76,7 @@ fn run_log(
 {
     let scene = task.scene;
     let tested = task.tested;
+    let inverse = inverted(scene.dims);
     let entries = log.len() / Entry::BYTES;
     let mut steps: [u32; 48] = [0; 48];
     let mut quads = task.quads;
@@ -84,7 +86,7 @@ fn run_log(
     while k < entries {
         let entry = read_entry(log, k);
         let work = work_of(kinds, covers, tested, entry);
-        let beside = cells_beside(scene.dims, entry.cell);
+        let beside = cells_beside(scene.dims, inverse, entry.cell);
         if !has_room(slots, entry.cell, beside, work, quads, task.room) {
             return Ran::Full(
                 k,
@@ -111,7 +113,7 @@ fn run_log(
                 steps: 0,
             },
         );
-        replay(vertices, scene, cubes, &steps, tally.steps, quads);
+        replay(vertices, scene, cubes, inverse, &steps, tally.steps, quads);
         quads = tally.quads;
         moved = tally.moved;
         highest = tally.top;

@@ -1,10 +1,11 @@
 -- The grid's declared types as those of the rules. Definitions only.
-use Prim.Native.Nat.{ℕ, _≤_, _<_}
+use Prim.Native.Nat.{ℕ, _+_, _/_, _≤_, _<_}
 use mathlib.Core.Path.{_≡_}
 use mathlib.Core.Option.{Option, none, some}
 use Rattle.rules.specs.Cells.{Size, Triple, cells, coordinates}
 use Rattle.util.specs.declared.Dimensions.{Dimensions}
 use Rattle.util.specs.declared.Coordinates.{Coordinates}
+use Rattle.util.specs.declared.Inverse.{Inverse}
 use Rattle.util.specs.declared.Neighbor.{Neighbor}
 use Rattle.util.specs.declared.Neighbor.the-variants.{At, Nothing}
 
@@ -39,3 +40,11 @@ pub record Within (s : Size) : Type 0 where
 pub record Starts (s : Size) (c y z : ℕ) : Type 0 where
   pub inside : c < cells s
   pub cords : cordsOf 0 y z ≡ coordinates s c
+
+-- 2³² over n, rounded up
+unfoldable pub inverseOf : ℕ → ℕ
+inverseOf n = (4294967295 + n) / n
+
+pub record Inverts (s : Size) (v : Inverse) : Type 0 where
+  pub width : v .width ≡ inverseOf (s .w)
+  pub length : v .length ≡ inverseOf (s .l)

@@ -3,12 +3,12 @@ use face::Cell;
 use face::Face;
 ghost use mathlib.Core.Path.{_≡_};
 ghost use mathlib.Core.Bool.{not, _&&_};
-ghost use Prim.Native.Nat.{_+_, _-_, _*_, _^_, _≤_, _<_};
+ghost use Prim.Native.Nat.{ℕ, _+_, _-_, _*_, _/_, _^_, _≤_, _<_};
 ghost use lib.Dec.{leb, ltb};
 ghost use Rattle.rules.specs.Cells.{cells, cellAt, coordinates, neighbour, onlyIf};
 ghost use Rattle.rules.specs.Answers.{badLimits, outOf};
 ghost use Rattle.face.specs.Face.{number};
-ghost use Rattle.util.specs.Grid.{sizeOf, tripleOf, cordsOf, cellIn, Sides, Within, Starts};
+ghost use Rattle.util.specs.Grid.{inverseOf, Inverts, sizeOf, tripleOf, cordsOf, cellIn, Sides, Within, Starts};
 
 // Width goes along x, height along y and length along z.
 pub struct Dimensions {
@@ -83,6 +83,51 @@ pub fn three_d_cords(cell: Cell, dims: Dimensions) -> Coordinates
         x: cell.0 % dims.width,
         y: row / dims.length,
         z: row % dims.length,
+    }
+}
+
+// 2³² over a width and a length, rounded up: what multiplies in place of a division.
+pub struct Inverse {
+    pub width: u64,
+    pub length: u64,
+}
+
+fn inverse_of(n: u32) -> u64
+    requires { ⌜ (1 ≤ n) × (n ≤ 1024) ⌝ }
+    ensures { λ r. ⌜ r ≡ inverseOf n ⌝ }
+{
+    (4_294_967_295 + n as u64) / (n as u64)
+}
+
+pub fn inverted(dims: Dimensions) -> Inverse
+    requires { ⌜ Sides (sizeOf dims) ⌝ }
+    ensures { λ r. ⌜ Inverts (sizeOf dims) r ⌝ }
+{
+    Inverse {
+        width: inverse_of(dims.width),
+        length: inverse_of(dims.length),
+    }
+}
+
+// How often what was inverted goes into a number of cells.
+fn goes_into(c: u32, inverse: u64) -> u32
+    requires { ⌜ (c < 1048576) × (inverse ≤ 8589934592) ⌝ }
+    ensures { λ r. ⌜ ((n : ℕ) → 1 ≤ n → n ≤ 1024 → inverse ≡ inverseOf n → r ≡ c / n) ⌝ }
+{
+    ((c as u64) * inverse / 4_294_967_296) as u32
+}
+
+// The coordinates of a cell, without a division.
+pub fn cords_of(cell: Cell, dims: Dimensions, inverse: Inverse) -> Coordinates
+    requires { ⌜ Within (sizeOf dims) × (cell .0 < cells (sizeOf dims)) × Inverts (sizeOf dims) inverse ⌝ }
+    ensures { λ r. ⌜ tripleOf r ≡ coordinates (sizeOf dims) (cell .0) ⌝ }
+{
+    let row = goes_into(cell.0, inverse.width);
+    let y = goes_into(row, inverse.length);
+    Coordinates {
+        x: cell.0 - row * dims.width,
+        y: y,
+        z: row - y * dims.length,
     }
 }
 

@@ -12,9 +12,10 @@ use steps::CUT;
 use terms::Tested;
 use util::Coordinates;
 use util::Dimensions;
+use util::Inverse;
 use util::Neighbor;
+use util::cords_of;
 use util::neighbor_at;
-use util::three_d_cords;
 ghost use mathlib.Core.Path.{_≡_};
 ghost use mathlib.Core.Bool.{cond};
 ghost use mathlib.Core.List.{[]};
@@ -25,7 +26,7 @@ ghost use Rattle.rules.specs.Cells as rule;
 ghost use Rattle.rules.specs.Cells.{cells, coordinates, neighbour, setOf};
 ghost use Rattle.rules.specs.Update.{givenAt, withGiven, isOpen};
 ghost use Rattle.face.specs.Face.{number};
-ghost use Rattle.util.specs.Grid.{sizeOf, tripleOf, Within};
+ghost use Rattle.util.specs.Grid.{sizeOf, tripleOf, Within, Inverts};
 ghost use Rattle.entries.specs.Log.{entryIn};
 ghost use Rattle.terms.specs.Modes.{testedBy};
 ghost use Rattle.works.specs.Sets.{typesBy, isShown, noWork, meant, setIn, cellOr, besideOf, spotIn, spotsBy, deedBy, act};
@@ -242,11 +243,11 @@ fn cell_beside(dims: Dimensions, cell: Cell, at: Coordinates, face: Face) -> u32
 }
 
 // The cells beside a cell, face by face; NONE where the grid has none.
-pub fn cells_beside(dims: Dimensions, cell: Cell) -> [u32; 6]
-    requires { ⌜ Within (sizeOf dims) × (cell .0 < cells (sizeOf dims)) ⌝ }
+pub fn cells_beside(dims: Dimensions, inverse: Inverse, cell: Cell) -> [u32; 6]
+    requires { ⌜ Within (sizeOf dims) × (cell .0 < cells (sizeOf dims)) × Inverts (sizeOf dims) inverse ⌝ }
     ensures { λ r. ⌜ r ≡ besideOf (sizeOf dims) (cell .0) ⌝ }
 {
-    let at = three_d_cords(cell, dims);
+    let at = cords_of(cell, dims, inverse);
     [
         cell_beside(dims, cell, at, Face::Top),
         cell_beside(dims, cell, at, Face::Bottom),

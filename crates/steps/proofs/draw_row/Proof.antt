@@ -42,7 +42,7 @@ write-place-requires c κs =
     let sized = placed .before in
     let t = sized .before .before .before in
     let a = t .args in (
-      lent-drawable (scene t) (a .voxel) (a .cell .0) _ _ (t .pre .0) (t .pre .1) (t .pre .2) (sized .floats-of .ensures) (placed .three-d-cords .ensures),
+      lent-drawable (scene t) (a .voxel) (a .cell .0) _ _ (t .pre .0) (t .pre .1) (t .pre .2) (sized .floats-of .ensures) (placed .cords-of .ensures),
       rw (sized .floats-of .ensures) (t .pre .3),
     )
 
@@ -54,7 +54,7 @@ returns c =
     let t = sized .before .before .before in
     let a = t .args in
     wrote .write-place .ensures
-    ∙ lent-put (scene t) (a .voxel) (a .cell .0) _ _ (t .pre .0) (t .pre .1) (t .pre .2) (sized .floats-of .ensures) (placed .three-d-cords .ensures) (a .q) (number (a .face)) (a .vertices .now)
+    ∙ lent-put (scene t) (a .voxel) (a .cell .0) _ _ (t .pre .0) (t .pre .1) (t .pre .2) (sized .floats-of .ensures) (placed .cords-of .ensures) (a .q) (number (a .face)) (a .vertices .now)
 
 pub draw-row-spec : {M : Type 1} → statement M
 draw-row-spec =

@@ -12,11 +12,11 @@ use Rattle.steps.proofs.replay.Statement.{statement}
 use Rattle.steps.proofs.replay.Tie as tie
 
 abbrev Inv-loop : tie.InvT-loop
-Inv-loop vertices₀ scene cubes steps n count left₀ i₀ vertices left i =
+Inv-loop vertices₀ scene cubes inverse steps n count left₀ i₀ vertices left i =
     Turning (sceneOf scene [] [] cubes) steps n i (shelf vertices₀ left₀) (shelf vertices left)
 
 abbrev μ-loop : tie.MeasureT-loop
-μ-loop vertices₀ scene cubes steps n count left₀ i₀ vertices left i = n - i
+μ-loop vertices₀ scene cubes inverse steps n count left₀ i₀ vertices left i = n - i
 
 loop-holds : tie.Need-loop-holds Inv-loop μ-loop
 loop-holds c = start (c .before .before .before .pre .1)
@@ -31,9 +31,11 @@ step-at-requires c κs =
 replay-one-requires : tie.Need-replay-one-requires Inv-loop μ-loop
 replay-one-requires c κs =
     let l = c .before .before .before .loop in
-    let t = c .before .before .before .before .before .before .before in
-    subst (λ (x : Step). Stepping (sceneOf (t .args .scene) [] [] (t .args .cubes .now)) x (shelf (l .vertices) (l .left))) (sym (c .step-at .ensures))
-    (this (l .inv) (c .before .before .loop-test .taken))
+    let t = c .before .before .before .before .before .before .before in (
+      subst (λ (x : Step). Stepping (sceneOf (t .args .scene) [] [] (t .args .cubes .now)) x (shelf (l .vertices) (l .left))) (sym (c .step-at .ensures))
+          (this (l .inv) (c .before .before .loop-test .taken)),
+      t .pre .2,
+    )
 
 loop-again : tie.Need-loop-again Inv-loop μ-loop
 loop-again c =

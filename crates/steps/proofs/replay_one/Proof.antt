@@ -25,7 +25,7 @@ abbrev there : tie.Start → Shelf
 there t = shelf (t .args .vertices .now) (t .args .count)
 
 known : (t : tie.Start) {x : Step} → stepOf (t .args .step) ≡ x → Stepping (scene t) x (there t)
-known t e = subst (λ (x : Step). Stepping (scene t) x (there t)) e (t .pre)
+known t e = subst (λ (x : Step). Stepping (scene t) x (there t)) e (t .pre .0)
 
 mul-free-row : tie.Need-mul-free-row
 mul-free-row c =
@@ -47,7 +47,8 @@ draw-row-requires : tie.Need-draw-row-requires
 draw-row-requires c κs =
     let t = c .before .before .before .before .before .before in
     let e = c .before .before .step2 .given in
-    drawable (number-below (e .0 .1 .0)) (known t (ap stepOf (e .1)))
+    let d = drawable (number-below (e .0 .1 .0)) (known t (ap stepOf (e .1))) in
+    (d .0, d .1, d .2, d .3, t .pre .1)
 
 add-result : tie.Need-add-result
 add-result c =

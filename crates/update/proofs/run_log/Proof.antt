@@ -24,12 +24,12 @@ use Rattle.update.proofs.run_log.Statement.{statement}
 use Rattle.update.proofs.run_log.Tie as tie
 
 abbrev Inv-loop : tie.InvT-loop
-Inv-loop vertices₀ links₀ slots₀ kinds covers cubes log task scene tested entries steps₀ quads₀ moved₀ highest₀ k₀ vertices links slots steps quads moved highest k =
+Inv-loop vertices₀ links₀ slots₀ kinds covers cubes log task scene tested inverse entries steps₀ quads₀ moved₀ highest₀ k₀ vertices links slots steps quads moved highest k =
     Running (testedBy (task .tested)) (sceneOf (task .scene) kinds covers cubes) (task .room) log vertices₀ links₀ (task .quads) k highest vertices links slots quads moved
     × (length steps ≡ 48)
 
 abbrev μ-loop : tie.MeasureT-loop
-μ-loop vertices₀ links₀ slots₀ kinds covers cubes log task scene tested entries steps₀ quads₀ moved₀ highest₀ k₀ vertices links slots steps quads moved highest k =
+μ-loop vertices₀ links₀ slots₀ kinds covers cubes log task scene tested inverse entries steps₀ quads₀ moved₀ highest₀ k₀ vertices links slots steps quads moved highest k =
     length log / 12 - k
 
 abbrev scene-of : tie.Start Inv-loop μ-loop → Scene
@@ -39,7 +39,7 @@ abbrev side : tie.Start Inv-loop μ-loop → Tested
 side t = testedBy (t .args .task .tested)
 
 abbrev begun : tie.In-loop Inv-loop μ-loop → tie.Start Inv-loop μ-loop
-begun i = i .before .before .before .before .before .before .before .before .before .before
+begun i = i .before .before .before .before .before .before .before .before .before .before .before
 
 -- ---- the entry at hand
 abbrev looped : tie.After-cells-beside Inv-loop μ-loop → tie.In-loop Inv-loop μ-loop
@@ -62,8 +62,11 @@ asked c =
     c .has-room .ensures
     ∙ ap (λ (n : ℕ). leb n (t .args .task .room)) (run-needed (side t) (t .pre) (i .before .loop .inv .0) (i .loop-test .taken) (b .before .before .read-entry .ensures) (sets b) (b .cells-beside .ensures))
 
+inverted-requires : tie.Need-inverted-requires Inv-loop μ-loop
+inverted-requires c κs = c .before .before .before .before .before .before .before .before .pre .within .sides
+
 loop-holds : tie.Need-loop-holds Inv-loop μ-loop
-loop-holds c = let t = c .before .before .before .before .before .before .before .before in (run-start (side t) (t .pre), refl)
+loop-holds c = let t = c .before .before .before .before .before .before .before .before .before in (run-start (side t) (t .pre), refl)
 
 read-entry-requires : tie.Need-read-entry-requires Inv-loop μ-loop
 read-entry-requires c κs = let h = c .loop-test .taken in omega arith
@@ -72,7 +75,7 @@ cells-beside-requires : tie.Need-cells-beside-requires Inv-loop μ-loop
 cells-beside-requires c κs =
     let i = c .before .before in
     let t = begun i in
-    (t .pre .within, run-inside (side t) (t .pre) (i .before .loop .inv .0) (i .loop-test .taken) (c .before .read-entry .ensures))
+    (t .pre .within, run-inside (side t) (t .pre) (i .before .loop .inv .0) (i .loop-test .taken) (c .before .read-entry .ensures), i .before .before .inverted .ensures)
 
 has-room-requires : tie.Need-has-room-requires Inv-loop μ-loop
 has-room-requires c κs =
@@ -143,6 +146,7 @@ replay-requires c κs =
       omega (arith, ap length is, n, few, long),
       subst (λ (xs : List Step). Replaying (bare (scene-of t)) xs (shelf (l .vertices) (l .quads))) (sym is)
           (run-replaying (side t) (t .pre) (l .inv .0) lt at (sets b) (b .cells-beside .ensures) (fits test) (l .steps)),
+      i .before .before .inverted .ensures,
     )
 
 add-k : tie.Need-add-k Inv-loop μ-loop
@@ -169,21 +173,21 @@ loop-again c =
     )
 
 ended-kept : (c : tie.After-loop Inv-loop μ-loop) →
-    let t = c .before .before .before .before .before .before .before .before .before .before in
+    let t = c .before .before .before .before .before .before .before .before .before .before .before in
     let l = c .before .loop in
     (length (l .vertices) ≡ length (t .args .vertices .now)) × (length (l .links) ≡ length (t .args .links .now)) × (length (l .slots) ≡ length (t .args .slots .now))
-ended-kept c = let t = c .before .before .before .before .before .before .before .before .before .before in run-kept (side t) (t .pre) (c .before .loop .inv .0)
+ended-kept c = let t = c .before .before .before .before .before .before .before .before .before .before .before in run-kept (side t) (t .pre) (c .before .loop .inv .0)
 
 returns-2 : tie.Need-returns-2 Inv-loop μ-loop
 returns-2 c =
-    let t = c .before .before .before .before .before .before .before .before .before .before in
+    let t = c .before .before .before .before .before .before .before .before .before .before .before in
     let r = c .before .loop .inv .0 in
     run-ended (side t) (t .pre) r (run-through (side t) (t .pre) r (let h = c .loop-test .left in omega arith))
 
 pub run-log-spec : {M : Type 1} → statement M
 run-log-spec =
     tie.close
-    (tie.spec Inv-loop μ-loop loop-holds read-entry-requires (λ c κs. search needs) cells-beside-requires has-room-requires
+    (tie.spec Inv-loop μ-loop inverted-requires loop-holds read-entry-requires (λ c κs. search needs) cells-beside-requires has-room-requires
     (λ c. kept (looped (c .before .before .before)) .0) (λ c. kept (looped (c .before .before .before)) .1)
     (λ c. kept (looped (c .before .before .before)) .2) returns slice-aggregate-index-work index-work-requires slice-aggregate-replay replay-requires
     add-k loop-less loop-again (λ c. ended-kept c .0) (λ c. ended-kept c .1) (λ c. ended-kept c .2) returns-2)

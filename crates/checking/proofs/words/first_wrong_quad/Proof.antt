@@ -26,49 +26,49 @@ use Rattle.checking.proofs.words.first_wrong_quad.Statement.{statement}
 use Rattle.checking.proofs.words.first_wrong_quad.Tie as tie
 
 abbrev Inv-loop2 : tie.InvT-loop2
-Inv-loop2 scene grid cubes vertices links count dims floats words span quad link face at place start end from to vertex float₀ float =
+Inv-loop2 scene grid cubes vertices links count dims inverse floats words span quad link face at place start end from to vertex float₀ float =
     (float ≤ floats) × Agreed (row (4 * floats) vertices quad) (quadAt scene floats grid cubes (getD links quad 0)) (floats * vertex + float)
 
 abbrev μ-loop2 : tie.MeasureT-loop2
-μ-loop2 scene grid cubes vertices links count dims floats words span quad link face at place start end from to vertex float₀ float = floats - float
+μ-loop2 scene grid cubes vertices links count dims inverse floats words span quad link face at place start end from to vertex float₀ float = floats - float
 
 abbrev Inv-loop : tie.InvT-loop
-Inv-loop scene grid cubes vertices links count dims floats words span quad link face at place start end from to vertex₀ vertex =
+Inv-loop scene grid cubes vertices links count dims inverse floats words span quad link face at place start end from to vertex₀ vertex =
     (vertex ≤ 4) × Agreed (row (4 * floats) vertices quad) (quadAt scene floats grid cubes (getD links quad 0)) (floats * vertex)
 
 abbrev μ-loop : tie.MeasureT-loop
-μ-loop scene grid cubes vertices links count dims floats words span quad link face at place start end from to vertex₀ vertex = 4 - vertex
+μ-loop scene grid cubes vertices links count dims inverse floats words span quad link face at place start end from to vertex₀ vertex = 4 - vertex
 
 abbrev Inv-quads : tie.InvT-quads
-Inv-quads scene grid cubes vertices links count dims floats words span quad₀ quad =
+Inv-quads scene grid cubes vertices links count dims inverse floats words span quad₀ quad =
     Searched count (otherQuad scene floats grid cubes vertices links) quad
 
 abbrev μ-quads : tie.MeasureT-quads
-μ-quads scene grid cubes vertices links count dims floats words span quad₀ quad = count - quad
+μ-quads scene grid cubes vertices links count dims inverse floats words span quad₀ quad = count - quad
 
 -- ---- before the quads: the words of a vertex
 
 few-words : (c : tie.After-floats-of Inv-loop2 μ-loop2 Inv-loop μ-loop Inv-quads μ-quads) → (8 ≤ c .floats-of .result) × (c .floats-of .result ≤ 12)
-few-words c = rw (c .floats-of .ensures) (few (c .before .before .before .before .before .before .args .scene .coloured))
+few-words c = rw (c .floats-of .ensures) (few (c .before .before .before .before .before .before .before .args .scene .coloured))
 
-ok : (c : tie.After-floats-of Inv-loop2 μ-loop2 Inv-loop μ-loop Inv-quads μ-quads) → let args = c .before .before .before .before .before .before .args in
+ok : (c : tie.After-floats-of Inv-loop2 μ-loop2 Inv-loop μ-loop Inv-quads μ-quads) → let args = c .before .before .before .before .before .before .before .args in
     Comparable (sizeOf (args .scene .dims)) (c .floats-of .result) (now (args .grid)) (now (args .cubes)) (now (args .vertices)) (now (args .links))
     (args .count)
-ok c = rw (c .floats-of .ensures) (c .before .before .before .before .before .before .pre .0)
+ok c = rw (c .floats-of .ensures) (c .before .before .before .before .before .before .before .pre .0)
 
 -- what is searched, for n words a vertex
 abbrev first : tie.After-floats-of Inv-loop2 μ-loop2 Inv-loop μ-loop Inv-quads μ-quads → ℕ → ℕ
 first c n =
-    let args = c .before .before .before .before .before .before .args in
+    let args = c .before .before .before .before .before .before .before .args in
     lowest (args .count) (otherQuad (args .scene) n (now (args .grid)) (now (args .cubes)) (now (args .vertices)) (now (args .links)))
 
-by-rule : (c : tie.After-floats-of Inv-loop2 μ-loop2 Inv-loop μ-loop Inv-quads μ-quads) → first c (c .floats-of .result) ≡ first c (floatsOf (c .before .before .before .before .before .before .args .scene .coloured))
+by-rule : (c : tie.After-floats-of Inv-loop2 μ-loop2 Inv-loop μ-loop Inv-quads μ-quads) → first c (c .floats-of .result) ≡ first c (floatsOf (c .before .before .before .before .before .before .before .args .scene .coloured))
 by-rule c = ap (first c) (c .floats-of .ensures)
 
 -- ---- the quad at hand
 
 abbrev start : tie.After-wide Inv-loop2 μ-loop2 Inv-loop μ-loop Inv-quads μ-quads → tie.Start Inv-loop2 μ-loop2 Inv-loop μ-loop Inv-quads μ-quads
-start c = c .before .before .before .before .before .before .before .before .before .before .before .before .before .before .before
+start c = c .before .before .before .before .before .before .before .before .before .before .before .before .before .before .before .before
 
 abbrev worded : tie.After-wide Inv-loop2 μ-loop2 Inv-loop μ-loop Inv-quads μ-quads → tie.After-floats-of Inv-loop2 μ-loop2 Inv-loop μ-loop Inv-quads μ-quads
 worded c = c .before .before .before .before .before .before .before .before .before
@@ -97,7 +97,7 @@ wanted c = let args = start c .args in quadAt (args .scene) (n c) (now (args .gr
 
 named : (c : tie.After-wide Inv-loop2 μ-loop2 Inv-loop μ-loop Inv-quads μ-quads) → let args = start c .args in
     Named (args .scene) (n c) (now (args .grid)) (now (args .cubes)) (link c) (c .wide .result) (number (c .before .before .before .before .linked-face .result))
-    (tripleOf (c .before .before .before .three-d-cords .result))
+    (tripleOf (c .before .before .before .cords-of .result))
 named c =
     let args = start c .args in
     let g = now (args .grid) in
@@ -106,7 +106,7 @@ named c =
     record {
       type = c .wide .ensures ∙ ap (λ (k : ℕ). getD g k 0) cell ∙ within g (cellIn (link c)) 0 255 (omega (arith, start c .pre .0 .whole));
       face = c .before .before .before .before .linked-face .ensures;
-      at = c .before .before .before .three-d-cords .ensures ∙ ap (coordinates (sizeOf (args .scene .dims))) cell;
+      at = c .before .before .before .cords-of .ensures ∙ ap (coordinates (sizeOf (args .scene .dims))) cell;
     }
 
 stretch : (c : tie.After-wide Inv-loop2 μ-loop2 Inv-loop μ-loop Inv-quads μ-quads) → 24 * n c * c .wide .result + 24 * n c ≤ length (now (start c .args .cubes))
@@ -129,9 +129,12 @@ told c =
     rw (
       lent-is (4 * n w * quad w) (4 * n w) (now (args .vertices)),
       named-word (args .scene) (n w) (now (args .grid)) (now (args .cubes)) (link w) (w .wide .result) (number (w .before .before .before .before .linked-face .result))
-          (tripleOf (w .before .before .before .three-d-cords .result)) (named w) (c .before .before .before .before .before .before .loop .vertex) (c .before .before .before .before .loop2 .float) (c .before .before .before .before .before .loop-test .taken)
+          (tripleOf (w .before .before .before .cords-of .result)) (named w) (c .before .before .before .before .before .before .loop .vertex) (c .before .before .before .before .loop2 .float) (c .before .before .before .before .before .loop-test .taken)
           (c .before .before .before .loop2-test .taken),
     ) at (c .is-other-word .ensures)
+
+inverted-requires : tie.Need-inverted-requires Inv-loop2 μ-loop2 Inv-loop μ-loop Inv-quads μ-quads
+inverted-requires c κs = c .before .before .before .before .before .pre .0 .within .sides
 
 floats-of-requires :
     tie.Need-floats-of-requires Inv-loop2 μ-loop2 Inv-loop μ-loop Inv-quads μ-quads
@@ -158,11 +161,13 @@ cell-of-requires c κs = search needs
 
 linked-face-requires :
     tie.Need-linked-face-requires Inv-loop2 μ-loop2 Inv-loop μ-loop Inv-quads μ-quads
-linked-face-requires c κs = c .before .before .before .before .before .before .before .before .before .before .pre .0 .code _ (c .before .before .quads-test .taken)
+linked-face-requires c κs = c .before .before .before .before .before .before .before .before .before .before .before .pre .0 .code _ (c .before .before .quads-test .taken)
 
-three-d-cords-requires :
-    tie.Need-three-d-cords-requires Inv-loop2 μ-loop2 Inv-loop μ-loop Inv-quads μ-quads
-three-d-cords-requires c κs = c .before .before .before .before .before .before .before .before .before .before .before .pre .0 .within
+cords-of-requires :
+    tie.Need-cords-of-requires Inv-loop2 μ-loop2 Inv-loop μ-loop Inv-quads μ-quads
+cords-of-requires c κs =
+    let ok = c .before .before .before .before .before .before .before .before .before .before .before .before .pre .0 in
+    (ok .within, rw (c .before .cell-of .ensures) (ok .inside (c .before .before .before .before .quads .quad) (c .before .before .before .quads-test .taken)), c .before .before .before .before .before .before .inverted .ensures)
 
 cast-place : tie.Need-cast-place Inv-loop2 μ-loop2 Inv-loop μ-loop Inv-quads μ-quads
 cast-place c = search needs
@@ -170,7 +175,7 @@ cast-place c = search needs
 shared-slice-read-wide :
     tie.Need-shared-slice-read-wide Inv-loop2 μ-loop2 Inv-loop μ-loop Inv-quads μ-quads
 shared-slice-read-wide c =
-    let ok = c .before .before .before .before .before .before .before .before .before .before .before .before .before .before .pre .0 in
+    let ok = c .before .before .before .before .before .before .before .before .before .before .before .before .before .before .before .pre .0 in
     omega (arith, c .before .before .before .before .cell-of .ensures, ok .whole, ok .inside (c .before .before .before .before .before .before .before .quads .quad) (c .before .before .before .before .before .before .quads-test .taken))
 
 wide-requires : tie.Need-wide-requires Inv-loop2 μ-loop2 Inv-loop μ-loop Inv-quads μ-quads
@@ -195,7 +200,7 @@ loop2-holds : tie.Need-loop2-holds Inv-loop2 μ-loop2 Inv-loop μ-loop Inv-quads
 loop2-holds c = (omega arith, λ k h. c .before .loop .inv .1 k (omega arith))
 
 mul-is-other-word : tie.Need-mul-is-other-word Inv-loop2 μ-loop2 Inv-loop μ-loop Inv-quads μ-quads
-mul-is-other-word c = omega (arith, words (c .before .before .before .before))
+mul-is-other-word c = let s = c .before .before .before .before .before .before .before .before .before .before .before .before .before .before .before .before in omega (arith, words (c .before .before .before .before))
 
 sub-is-other-word : tie.Need-sub-is-other-word Inv-loop2 μ-loop2 Inv-loop μ-loop Inv-quads μ-quads
 sub-is-other-word c = search needs
@@ -304,6 +309,7 @@ first-wrong-quad-spec =
     μ-loop
     Inv-quads
     μ-quads
+    inverted-requires
     floats-of-requires
     mul-words
     mul-span
@@ -312,7 +318,7 @@ first-wrong-quad-spec =
     shared-slice-read-link
     cell-of-requires
     linked-face-requires
-    three-d-cords-requires
+    cords-of-requires
     cast-place
     shared-slice-read-wide
     wide-requires
