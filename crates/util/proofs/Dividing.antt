@@ -14,7 +14,7 @@ module _ (n : ℕ) (low : 1 ≤ n) (high : n ≤ 1024) where
   times : n * inverseOf n ≡ 4294967296 + over
   unfolding inverseOf
   times =
-      mul-comm n ((4294967295 + n) / n) ∙ omega (arith, div-add-mod' (4294967295 + n) n, mod-lt (4294967295 + n) low)
+      mul-comm n (inverseOf n) ∙ omega (arith, div-add-mod' (4294967295 + n) n, mod-lt (4294967295 + n) low)
 
   pub inverse-le : inverseOf n ≤ 8589934592
   inverse-le = omega (arith, times, mul-le-mul-right (inverseOf n) low, high)
