@@ -1,3 +1,4 @@
 pub mod Patterns
 pub mod Turns
 pub mod Laid
+pub mod Sides

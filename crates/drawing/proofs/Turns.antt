@@ -81,13 +81,3 @@ named-then q (k ∷ a) b slots =
 pub kept-named : (q : ℕ) (keys slots : List ℕ) → length (named q keys slots) ≡ length slots
 kept-named q [] slots = refl
 kept-named q (k ∷ keys) slots = kept-named (suc q) keys (set slots k (firstVertex q)) ∙ length-set slots k (firstVertex q)
-
-pub named-next : (base i : ℕ) (keys slots : List ℕ) → i < length keys
-    → set (named base (take i keys) slots) (getD keys i 0) (firstVertex (base + i)) ≡ named base (take (i + 1) keys) slots
-named-next base i keys slots h =
-    let l = length-take-le i keys (omega arith) in
-    ap (λ (k : ℕ). set (named base (take i keys) slots) (getD keys i 0) (firstVertex (base + k))) (sym l)
-    ∙ named-then base (take i keys) (getD keys i 0 ∷ []) slots ∙ ap (λ (r : List ℕ). named base r slots) (sym (take-more i keys h))
-
-pub named-all : (base i : ℕ) (keys slots : List ℕ) → i ≡ length keys → named base (take i keys) slots ≡ named base keys slots
-named-all base i keys slots e = ap (λ (k : ℕ). named base (take k keys) slots) e ∙ ap (λ (r : List ℕ). named base r slots) (take-length keys)

@@ -1,5 +1,5 @@
 -- What is written for faces that are drawn one after the other, in each list by itself. A face goes by its key, 6 · cell + face. Definitions only.
-use Prim.Native.Nat.{ℕ, suc, _+_, _*_, _/_, _%_, _≤_, _<_}
+use Prim.Native.Nat.{ℕ, suc, _+_, _-_, _*_, _/_, _%_, _≤_, _<_}
 use mathlib.Core.List.{List, [], _∷_, _++_}
 use lib.ListN.{length, getD, set}
 use Rattle.rules.specs.Cells.{coordinates, linkOf, firstVertex}
@@ -25,14 +25,16 @@ abbrev pub named : ℕ → List ℕ → List ℕ → List ℕ
 named q [] slots = slots
 named q (k ∷ keys) slots = named (suc q) keys (set slots k (firstVertex q))
 
--- a face has its slot, and its cell's number fits a link
-abbrev pub Slotted : ℕ → ℕ → Type 0
-Slotted n k = (k < n) × (k < 6291456)
+-- a face of the row of cells that starts at c, as a word: its type, its face, and where along the row its cell is
+abbrev pub sideOf : List ℕ → ℕ → ℕ → ℕ
+sideOf g c k = 8192 * getD g (k / 6) 0 + (k / 6 - c) + 1024 * (k % 6)
 
--- a face of the row of cells that starts at c, with a cube of its type in the registry
-pub record Side (S : Scene) (g : List ℕ) (c k : ℕ) : Type 0 where
-  pub from : c ≤ k / 6
-  pub to : k / 6 < c + S .size .w
-  pub inside : k / 6 < length g
-  pub cube : 24 * floats (S .types) * getD g (k / 6) 0 + 24 * floats (S .types) ≤ length (S .types .cubes)
-  pub drawable : Drawable (cubeOf (S .types) (typeAt g (k / 6))) (floats (S .types)) (coordinates (S .size) (k / 6)) (S .d)
+abbrev pub sideRow : Scene → ℕ → ℕ → List ℕ
+sideRow S c w = wordsIn S (w / 8192) (w / 1024 % 8) (c + w % 1024)
+
+-- it is of the row, and its type has a cube in the registry
+pub record Side (S : Scene) (c w : ℕ) : Type 0 where
+  pub along : w % 1024 < S .size .w
+  pub face : w / 1024 % 8 < 6
+  pub cube : 24 * floats (S .types) * (w / 8192) + 24 * floats (S .types) ≤ length (S .types .cubes)
+  pub drawable : Drawable (cubeOf (S .types) (w / 8192)) (floats (S .types)) (coordinates (S .size) (c + w % 1024)) (S .d)

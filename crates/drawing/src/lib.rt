@@ -1,11 +1,8 @@
-// Quads written into each list by itself: a quad's words at its place, the patterns of a stretch of places, the index and the vertices of faces that
-// are drawn one after the other.
-use face::Cell;
+// Quads written into each list by itself: a quad's words at its place, the patterns of a stretch of places, the vertices of faces that are drawn one
+// after the other.
 use face::Face;
-use face::Quad;
 use face::face_at;
 use floats::Triple;
-use mesh_metadata::insert;
 use quads::write_quad;
 use terms::Scene;
 use util::Coordinates;
@@ -14,9 +11,8 @@ use voxel_mesh::floats_of;
 ghost use mathlib.Core.Path.{_≡_};
 ghost use mathlib.Core.List.{[]};
 ghost use Prim.Native.Nat.{ℕ, _+_, _-_, _*_, _≤_, _<_};
-ghost use lib.ListN.{length, getD, set};
+ghost use lib.ListN.{length, getD};
 ghost use Rattle.rules.specs.Lists.{each};
-ghost use Rattle.rules.specs.Cells.{linkOf, firstVertex};
 ghost use Rattle.rules.specs.Types.{quadWords};
 ghost use Rattle.rules.specs.Mesh.{NONE, pattern};
 ghost use Rattle.rules.specs.Calls.{span};
@@ -27,7 +23,7 @@ ghost use Rattle.floats.specs.Triples.{tripleOf};
 ghost use Rattle.terms.specs.Scenes.{sceneOf};
 ghost use Rattle.vav.specs.Rows.{put};
 ghost use Rattle.quads.specs.Quads.{Drawable};
-ghost use Rattle.drawing.specs.Written.{rowsOf, linkRow, wordRow, named, Slotted, Side};
+ghost use Rattle.drawing.specs.Written.{rowsOf, sideRow, Side};
 
 // Writes a quad at place q. With 8 floats a vertex the compiler has every length at hand.
 pub fn write_place(
@@ -82,65 +78,19 @@ pub fn write_patterns(triangles: &mut [u32], from: usize, to: usize)
     }
 }
 
-// A face's quad is at place q: its link, and its slot.
-fn insert_key(links: &mut [u32], slots: &mut [u32], key: u32, q: usize)
-    requires { ⌜ Slotted (length (now slots)) key × (q < length (now links)) × (4 * (q + 1) ≤ NONE) ⌝ }
-    ensures { λ _. ⌜ (now (links .exit) ≡ set (now (links .entry)) q (linkOf key))
-        × (now (slots .exit) ≡ set (now (slots .entry)) key (firstVertex q)) ⌝ }
-{
-    insert(
-        links,
-        slots,
-        face_at(key % 6),
-        Cell(key / 6),
-        Quad(q as u32),
-    );
-}
-
-// The index of faces whose quads are at the places from `base` on.
-pub fn index_row(links: &mut [u32], slots: &mut [u32], keys: &[u32], base: usize)
-    requires { ⌜ ((i : ℕ) → i < length (now keys) → Slotted (length (now slots)) (getD (now keys) i 0))
-        × (base + length (now keys) ≤ length (now links)) × (4 * (base + length (now keys)) ≤ NONE) ⌝ }
-    ensures { λ _. ⌜ (now (links .exit) ≡ put (1 * base) (rowsOf linkRow (now (keys .entry))) (now (links .entry)))
-        × (now (slots .exit) ≡ named base (now (keys .entry)) (now (slots .entry))) ⌝ }
-{
-    let mut i: usize = 0;
-    while i < keys.len() {
-        insert_key(links, slots, keys[i], base + i);
-        i += 1;
-    }
-}
-
-fn wide(x: u8) -> usize
-    ensures { λ r. ⌜ (r ≡ x) × (r < 256) ⌝ }
-{
-    x as usize
-}
-
-// Writes the quad of a face of a row's cell at place q, from the cube of the cell's type.
-fn write_side(
-    vertices: &mut [u32],
-    scene: Scene,
-    cubes: &[u32],
-    grid: &[u8],
-    row: Row,
-    key: u32,
-    q: usize,
-)
+// Writes the quad of a face of a row at place q, from the cube of its type.
+fn write_side(vertices: &mut [u32], scene: Scene, cubes: &[u32], row: Row, side: u32, q: usize)
     requires { ⌜ Within (sizeOf (scene .dims)) × Starts (sizeOf (scene .dims)) (row .first) (row .y) (row .z)
-        × Side (sceneOf scene [] [] (now cubes)) (now grid) (row .first) key
-        × (span (sceneOf scene [] [] (now cubes)) * (q + 1) ≤ length (now vertices)) ⌝ }
+        × Side (sceneOf scene [] [] (now cubes)) (row .first) side × (span (sceneOf scene [] [] (now cubes)) * (q + 1) ≤ length (now vertices)) ⌝ }
     ensures { λ _. ⌜ now (vertices .exit) ≡ put (span (sceneOf scene [] [] (now (cubes .entry))) * q)
-        (wordRow (sceneOf scene [] [] (now (cubes .entry))) (now (grid .entry)) key) (now (vertices .entry)) ⌝ }
+        (sideRow (sceneOf scene [] [] (now (cubes .entry))) (row .first) side) (now (vertices .entry)) ⌝ }
 {
-    let cell = key / 6;
-    let here = cell as usize;
     let floats = floats_of(scene.coloured);
     let words = 24 * floats;
-    let start = words * wide(grid[here]);
+    let start = words * (side / 8192) as usize;
     let end = start + words;
     let at = Coordinates {
-        x: cell - row.first,
+        x: side % 1024,
         y: row.y,
         z: row.z,
     };
@@ -148,7 +98,7 @@ fn write_side(
         vertices,
         &cubes[start..end],
         floats,
-        face_at(key % 6),
+        face_at(side / 1024 % 8),
         at,
         scene.d,
         q,
@@ -160,21 +110,20 @@ pub fn vertex_row(
     vertices: &mut [u32],
     scene: Scene,
     cubes: &[u32],
-    grid: &[u8],
-    keys: &[u32],
     row: Row,
+    sides: &[u32],
     base: usize,
 )
     requires { ⌜ Within (sizeOf (scene .dims)) × Starts (sizeOf (scene .dims)) (row .first) (row .y) (row .z)
-        × ((i : ℕ) → i < length (now keys) → Side (sceneOf scene [] [] (now cubes)) (now grid) (row .first) (getD (now keys) i 0))
-        × (span (sceneOf scene [] [] (now cubes)) * (base + length (now keys)) ≤ length (now vertices))
-        × (4 * (base + length (now keys)) ≤ NONE) ⌝ }
+        × ((i : ℕ) → i < length (now sides) → Side (sceneOf scene [] [] (now cubes)) (row .first) (getD (now sides) i 0))
+        × (span (sceneOf scene [] [] (now cubes)) * (base + length (now sides)) ≤ length (now vertices))
+        × (4 * (base + length (now sides)) ≤ NONE) ⌝ }
     ensures { λ _. ⌜ now (vertices .exit) ≡ put (span (sceneOf scene [] [] (now (cubes .entry))) * base)
-        (rowsOf (wordRow (sceneOf scene [] [] (now (cubes .entry))) (now (grid .entry))) (now (keys .entry))) (now (vertices .entry)) ⌝ }
+        (rowsOf (sideRow (sceneOf scene [] [] (now (cubes .entry))) (row .first)) (now (sides .entry))) (now (vertices .entry)) ⌝ }
 {
     let mut i: usize = 0;
-    while i < keys.len() {
-        write_side(vertices, scene, cubes, grid, row, keys[i], base + i);
+    while i < sides.len() {
+        write_side(vertices, scene, cubes, row, sides[i], base + i);
         i += 1;
     }
 }

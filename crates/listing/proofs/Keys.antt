@@ -1,7 +1,7 @@
 -- The faces that side sets draw, by their keys: how many, some cells and then others, and what holds of each. Assumes nothing.
 use mathlib.Core.Path.{_≡_, refl, sym, ap, _∙_}
 use mathlib.Core.Bool.{Bool, true, false, cond}
-use mathlib.Core.List.{List, [], _++_, append-nil}
+use mathlib.Core.List.{List, [], _∷_, _++_, map, append-nil}
 use Prim.Native.Nat.{ℕ, zero, suc, _+_, _-_, _≤_, _<_}
 use native.Mathlib.Omega.{arith}
 use lib.ListN.{length, take, length-append}
@@ -13,7 +13,7 @@ use Rattle.listing.specs.Fresh.{RowOf, setsFrom, asked, cellKeys, keysOf
 use Rattle.listing.proofs.Rows.{asked-moved}
 
 -- ---- how many
-count-keys : (set c k f : ℕ) → length (each k f (λ i. only (has set i) (keyOf c i))) + rank set f ≡ rank set (f + k)
+pub count-keys : (set c k f : ℕ) → length (each k f (λ i. only (has set i) (keyOf c i))) + rank set f ≡ rank set (f + k)
 unfolding each count
 count-keys set c zero f = let e : f + 0 ≡ f = omega arith in rw e (omega arith)
 count-keys set c (suc k) f =
@@ -83,8 +83,16 @@ module _ (P : ℕ → Type 0) where
   all-each (suc n) i p h =
       all-append P (p i) (each n (suc i) p) (h i (omega arith) (omega arith)) (all-each n (suc i) p (λ k a b. h k (omega arith) (omega arith)))
 
+  all-cell : (set c : ℕ) → ((f : ℕ) → f < 6 → has set f ≡ true → P (keyOf c f)) → All P (cellKeys set c)
+  all-cell set c h = all-each 6 0 (λ f. only (has set f) (keyOf c f)) (λ f u v. all-if (has set f) (keyOf c f) (h f (omega arith)))
+
   pub all-keys : (sets : ℕ → ℕ) (n c : ℕ) → ((k f : ℕ) → c ≤ k → k < c + n → f < 6 → has (sets k) f ≡ true → P (keyOf k f)) → All P (keysOf sets c n)
   unfolding keysOf
-  all-keys sets n c h =
-      all-each n c (λ k. cellKeys (sets k) k)
-      (λ k a b. all-each 6 0 (λ f. only (has (sets k) f) (keyOf k f)) (λ f u v. all-if (has (sets k) f) (keyOf k f) (h k f a b (omega arith))))
+  all-keys sets n c h = all-each n c (λ k. cellKeys (sets k) k) (λ k a b. all-cell (sets k) k (λ f. h k f a b))
+
+map-like : (f g : ℕ → ℕ) (ks : List ℕ) → All (λ k. f k ≡ g k) ks → map f ks ≡ map g ks
+map-like f g [] h = refl
+map-like f g (k ∷ ks) h = let a = h .0 in let b = map-like f g ks (h .1) in λ i. a i ∷ b i
+
+pub map-cell : (f g : ℕ → ℕ) (set c : ℕ) → ((i : ℕ) → i < 6 → f (keyOf c i) ≡ g (keyOf c i)) → map f (cellKeys set c) ≡ map g (cellKeys set c)
+map-cell f g set c e = map-like f g (cellKeys set c) (all-cell (λ k. f k ≡ g k) set c (λ i l h. e i l))

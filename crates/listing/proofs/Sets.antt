@@ -1,14 +1,15 @@
 -- The side sets of a fresh mesh, by the outer list and by its set, and how many quads a set asks for. Assumes nothing.
-use mathlib.Core.Path.{_≡_, refl, sym, _∙_}
+use mathlib.Core.Path.{_≡_, refl, sym, ap, _∙_}
 use mathlib.Core.Logic.{_≢_}
 use mathlib.Core.Bool.{Bool, true, false, cond}
 use mathlib.Core.List.{List}
 use mathlib.Core.Option.{Option, none, some}
 use Prim.Native.Nat.{ℕ, zero, suc, _+_, _-_, _≤_, _<_}
+use native.Mathlib.Nat.{le-refl, add-zero, add-suc}
 use native.Mathlib.Omega.{arith}
 use borrow.Author.Tests.{eq-eqb, ne-eqb}
 use Rattle.rules.specs.Lists.{only, member, count}
-use Rattle.rules.specs.Cells.{has, quadsOf, neighbour}
+use Rattle.rules.specs.Cells.{has, rank, quadsOf, neighbour}
 use Rattle.rules.specs.Mesh.{World, isNormalCube, typeAt, shown}
 use Rattle.rules.proofs.ListLaws.{members, read-one, split}
 use Rattle.rules.proofs.Sets.{has-setOf, set-is, setOf-lt}
@@ -70,3 +71,21 @@ few-below p (suc n) =
 
 pub quads-le : (set : ℕ) → quadsOf set ≤ 6
 quads-le set = few-below (has set) 6
+
+-- a face of the set is one of its quads
+count-more : (p : ℕ → Bool) (k n : ℕ) → count k p ≤ count (k + n) p
+unfolding count
+count-more p k zero = rw add-zero (le-refl (count k p))
+count-more p k (suc n) = rw add-suc (omega (arith, count-more p k n))
+
+pub count-next : (p : ℕ → Bool) (k : ℕ) → p k ≡ true → count (suc k) p ≡ count k p + 1
+unfolding count
+count-next p k e = ap (λ (b : Bool). count k p + cond b 1 0) e
+
+pub rank-most : (set f : ℕ) → f ≤ 6 → rank set f ≤ quadsOf set
+rank-most set f h =
+    let all : f + (6 - f) ≡ 6 = omega arith in
+    omega (arith, count-more (has set) f (6 - f), ap (λ (k : ℕ). count k (has set)) all)
+
+pub rank-below : (set f : ℕ) → has set f ≡ true → f < 6 → rank set f + 1 ≤ quadsOf set
+rank-below set f e h = omega (arith, count-next (has set) f e, rank-most set (suc f) h)

@@ -1,12 +1,11 @@
-// The faces of a fresh mesh: the side sets of a row by either algorithm, how many quads they ask for, and their faces listed by key.
+// The faces of a fresh mesh: the side sets of a row by either algorithm, how many quads they ask for, and their faces in the index and in a list.
 use face::Cell;
-use face::Face;
+use face::Quad;
 use face::bit_if;
 use face::face_at;
-use face::has;
-use face::key;
 use face::quads_of;
 use face::rank;
+use mesh_metadata::insert;
 use row_sets::Look;
 use row_sets::drawn_row;
 use util::Dimensions;
@@ -14,15 +13,16 @@ use util::Row;
 use util::wide;
 ghost use mathlib.Core.Path.{_≡_};
 ghost use mathlib.Core.Bool.{false};
-ghost use mathlib.Core.List.{List, _++_};
-ghost use Prim.Native.Nat.{ℕ, _+_, _*_, _≤_, _<_};
-ghost use lib.ListN.{length, getD, take};
+ghost use mathlib.Core.List.{List};
+ghost use Prim.Native.Nat.{ℕ, _+_, _*_, _%_, _≤_, _<_};
+ghost use lib.ListN.{length, getD};
 ghost use Rattle.rules.specs.Cells.{cells, quadsOf};
 ghost use Rattle.face.specs.Face.{Ranked};
+ghost use Rattle.drawing.specs.Written.{sideOf};
 ghost use Rattle.util.specs.Grid.{sizeOf, Starts};
 ghost use Rattle.culling.specs.Culling.{worldOf, Whole};
 ghost use Rattle.row_sets.specs.Rows.{Along, Seen};
-ghost use Rattle.listing.specs.Fresh.{setAt, facesOf, RowOf, setsFrom, asked, cellKeys, keysOf};
+ghost use Rattle.listing.specs.Fresh.{setAt, facesOf, RowOf, setsFrom, asked, cellKeys, keysOf, Roomy, Entered};
 
 // All six sides of each NormalCube of a row.
 fn cube_row(sets: &mut [u8], dims: Dimensions, grid: &[u8], kinds: &[u8], first: u32)
@@ -130,36 +130,69 @@ pub fn count_quads(
     n
 }
 
-// Lists the faces of a cell that are in its set, by their keys, from the n-th key on, and answers how many keys there are then. All six are written, each at
-// its rank: one that is not in the set is written over by the next that is.
-fn key_cell(keys: &mut [u32], ranks: &[u8; 384], cell: Cell, set: u8, n: usize) -> usize
-    requires { ⌜ (n + 6 ≤ length (now keys)) × (cell .0 < 1048576) × (set < 64) × Ranked (now ranks) ⌝ }
-    ensures { λ r. ⌜ (r ≡ n + quadsOf set) × (take r (now (keys .exit)) ≡ take n (now (keys .entry)) ++ cellKeys set (cell .0)) ⌝ }
+// The faces of a cell that are in its set, from the lowest on. Each goes at its rank past the first n of the row: into the index, where the row starts at
+// `base`, and into the list of the row's faces, as a word that adds the face to `side`. Answers how many of the row there are then.
+fn index_cell(
+    links: &mut [u32],
+    slots: &mut [u32],
+    sides: &mut [u32],
+    ranks: &[u8; 384],
+    cell: Cell,
+    set: u8,
+    side: u32,
+    base: usize,
+    n: usize,
+) -> usize
+    requires { ⌜ (cell .0 < 1048576) × (6 * cell .0 + 6 ≤ length (now slots)) × (base + n + quadsOf set ≤ length (now links)) × (base + n + quadsOf set ≤ 6291456)
+        × (n + quadsOf set ≤ length (now sides)) × (set < 64) × (side < 2097152) × Ranked (now ranks) ⌝ }
+    ensures { λ r. ⌜ (r ≡ n + quadsOf set) × Entered base (λ k. side + 1024 * (k % 6)) (cellKeys set (cell .0))
+        (now (links .entry)) (now (slots .entry)) (now (sides .entry)) (now (links .exit)) (now (slots .exit)) (now (sides .exit)) n r ⌝ }
 {
-    if set == 0 {
-        return n;
-    }
-    let mut f: u32 = 0;
-    while f < 6 {
+    let mut next = n;
+    let mut rest = set;
+    while rest != 0 {
+        let f = u8::trailing_zeros(rest);
         let face = face_at(f);
         let at = n + rank(ranks, set, face) as usize;
-        keys[at] = key(cell, face);
-        f += 1;
+        insert(links, slots, face, cell, Quad((base + at) as u32));
+        sides[at] = side + 1024 * f;
+        next = at + 1;
+        rest = rest & (rest - 1);
     }
-    let last = has(set, Face::Forward) as usize;
-    n + rank(ranks, set, Face::Forward) as usize + last
+    next
 }
 
-// Lists the faces of a row's cells that are in their sets, and answers how many there are.
-pub fn key_row(keys: &mut [u32], ranks: &[u8; 384], sets: &[u8], first: u32) -> usize
-    requires { ⌜ (6 * length (now sets) ≤ length (now keys)) × (first + length (now sets) ≤ 1048576) × ((x : ℕ) → x < length (now sets) → getD (now sets) x 0 < 64) × Ranked (now ranks) ⌝ }
-    ensures { λ r. ⌜ (r ≡ asked (setsFrom first (now (sets .entry))) first (length (now (sets .entry))))
-        × (take r (now (keys .exit)) ≡ keysOf (setsFrom first (now (sets .entry))) first (length (now (sets .entry)))) ⌝ }
+// The word of a cell's first face in the list of its row's faces: its type, and where along the row it is.
+fn side_at(code: u8, x: usize) -> u32
+    requires { ⌜ x < 1024 ⌝ }
+    ensures { λ r. ⌜ (r ≡ 8192 * code + x) × (r < 2097152) ⌝ }
 {
+    8192 * code as u32 + x as u32
+}
+
+// The faces of a row's cells that are in their sets, into the index from place `base` on, and into the list of the row's faces. Answers how many there are.
+pub fn index_row(
+    links: &mut [u32],
+    slots: &mut [u32],
+    sides: &mut [u32],
+    ranks: &[u8; 384],
+    sets: &[u8],
+    grid: &[u8],
+    first: u32,
+    base: usize,
+) -> usize
+    requires { ⌜ Roomy first base (now sets) (length (now links)) (length (now slots)) (length (now sides)) × (first + length (now sets) ≤ length (now grid)) × Ranked (now ranks) ⌝ }
+    ensures { λ r. ⌜ (r ≡ asked (setsFrom first (now (sets .entry))) first (length (now (sets .entry))))
+        × Entered base (sideOf (now (grid .entry)) first) (keysOf (setsFrom first (now (sets .entry))) first (length (now (sets .entry))))
+        (now (links .entry)) (now (slots .entry)) (now (sides .entry)) (now (links .exit)) (now (slots .exit)) (now (sides .exit)) 0 r ⌝ }
+{
+    let start = first as usize;
     let mut n: usize = 0;
     let mut x: usize = 0;
     while x < sets.len() {
-        n = key_cell(keys, ranks, Cell(first + x as u32), sets[x], n);
+        let side = side_at(grid[start + x], x);
+        let cell = Cell(first + x as u32);
+        n = index_cell(links, slots, sides, ranks, cell, sets[x], side, base, n);
         x += 1;
     }
     n

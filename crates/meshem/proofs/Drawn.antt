@@ -4,20 +4,22 @@ use mathlib.Core.Bool.{Bool}
 use mathlib.Core.List.{List, _∷_, [], _++_, map}
 use Prim.Native.Nat.{ℕ, _+_, _-_, _*_, _/_, _%_, _≤_}
 use native.Mathlib.Omega.{arith}
-use lib.ListN.{length, drop, replicate, length-map}
+use lib.ListN.{length, take, drop, replicate, length-map}
 use Rattle.rules.specs.Lists.{each}
 use Rattle.rules.specs.Cells.{cells, linkOf}
 use Rattle.rules.specs.Mesh.{Quad, Lists, NONE, pattern, typeAt, laid, slotted, layout, listsOf}
 use Rattle.rules.specs.Calls.{Scene, world, span, faces, freshMesh}
+use Rattle.rules.proofs.ListLaws.{All}
 use Rattle.rules.proofs.Demands.{words-sized}
 use Rattle.vav.specs.Rows.{put}
 use Rattle.vav.proofs.Laws.{put-none}
 use Rattle.culling.specs.Culling.{worldOf, outerSet}
-use Rattle.drawing.specs.Written.{rowsOf, linkRow, wordRow, named}
+use Rattle.drawing.specs.Written.{rowsOf, linkRow, wordRow, named, sideOf, sideRow}
+use Rattle.drawing.proofs.Sides.{InRow, side-rows}
 use Rattle.drawing.proofs.Patterns.{length-patterns}
 use Rattle.drawing.proofs.Turns.{rows-then, kept-rows, named-then, kept-named}
 use Rattle.drawing.proofs.Laid.{rows-laid, places-laid, slots-named}
-use Rattle.listing.specs.Fresh.{setAt, facesOf, asked, keysOf}
+use Rattle.listing.specs.Fresh.{setAt, facesOf, asked, keysOf, Entered}
 use Rattle.listing.proofs.Sets.{named-set}
 use Rattle.listing.proofs.Rows.{asked-moved, asked-on}
 use Rattle.listing.proofs.Keys.{length-keys, keys-none, keys-on, keys-like}
@@ -48,25 +50,25 @@ module _ (S : Scene) (g : List ℕ) (sets : ℕ → ℕ) where
         }
 
     -- a row more: its faces, in each list from `base` on
-    pub row-more : {c base n : ℕ} (w : ℕ) {vs ls ss vs₁ ls₁ ss₁ keys : List ℕ} → Drawn c base vs ls ss → n ≡ asked sets c w → keys ≡ keysOf sets c w
-        → vs₁ ≡ put (span S * base) (rowsOf (wordRow S g) keys) vs → ls₁ ≡ put (1 * base) (rowsOf linkRow keys) ls → ss₁ ≡ named base keys ss
-        → Drawn (c + w) (base + n) vs₁ ls₁ ss₁
-    row-more {c} {base} {n} w {vs} {ls} {ss} {vs₁} {ls₁} {ss₁} {keys} d e k v l s =
+    pub row-more : {c base n : ℕ} (w : ℕ) {vs ls ss ts vs₁ ls₁ ss₁ ts₁ keys : List ℕ} → Drawn c base vs ls ss → n ≡ asked sets c w → keys ≡ keysOf sets c w → All (InRow g c) keys
+        → Entered base (sideOf g c) keys ls ss ts ls₁ ss₁ ts₁ 0 n → vs₁ ≡ put (span S * base) (rowsOf (sideRow S c) (take n ts₁)) vs → Drawn (c + w) (base + n) vs₁ ls₁ ss₁
+    row-more {c} {base} {n} w {vs} {ls} {ss} {ts} {vs₁} {ls₁} {ss₁} {ts₁} {keys} d e k inside t v =
         let before = keysOf sets 0 c in
         let at : base ≡ 0 + length before = omega (arith, d .count, length-keys sets c 0) in
+        let on : base + 0 ≡ base = omega arith in
         let z : 0 + c ≡ c = omega arith in
         let all : before ++ keys ≡ keysOf sets 0 (c + w) =
         ap (λ (r : List ℕ). before ++ r) k ∙ ap (λ (i : ℕ). before ++ keysOf sets i w) (sym z) ∙ sym (keys-on sets c w 0) in
         record {
           count = omega (arith, d .count, e, asked-on sets c w);
-          vertices-are = v ∙ ap (put (span S * base) (rowsOf (wordRow S g) keys)) (d .vertices-are)
+          vertices-are = v ∙ ap (λ (r : List ℕ). put (span S * base) (rowsOf (sideRow S c) r) vs) (t .sides)
+              ∙ (λ i. put (span S * base) (side-rows S g c keys inside i) (d .vertices-are i))
               ∙ rows-then (span S) (wordRow S g) words-wide 0 base before keys vs₀ at (let y : span S * 0 ≡ 0 = omega arith in omega arith)
               ∙ ap (λ (r : List ℕ). put (span S * 0) (rowsOf (wordRow S g) r) vs₀) all;
-          links-are = l ∙ ap (put (1 * base) (rowsOf linkRow keys)) (d .links-are)
+          links-are = t .links ∙ (λ i. put (1 * on i) (rowsOf linkRow keys) (d .links-are i))
               ∙ rows-then 1 linkRow (λ i. refl) 0 base before keys ls₀ at (omega arith)
               ∙ ap (λ (r : List ℕ). put (1 * 0) (rowsOf linkRow r) ls₀) all;
-          slots-are = s ∙ ap (named base keys) (d .slots-are) ∙ ap (λ (i : ℕ). named i keys (named 0 before ss₀)) at
-              ∙ named-then 0 before keys ss₀ ∙ ap (λ (r : List ℕ). named 0 r ss₀) all;
+          slots-are = t .slots ∙ (λ i. named ((on ∙ at) i) keys (d .slots-are i)) ∙ named-then 0 before keys ss₀ ∙ ap (λ (r : List ℕ). named 0 r ss₀) all;
         }
 
     -- the lists keep their lengths

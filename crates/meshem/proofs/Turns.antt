@@ -1,7 +1,7 @@
 -- A face that is drawn has its cube. Assumes nothing.
 use mathlib.Core.Path.{_≡_, refl, sym, ap, subst}
 use mathlib.Core.Bool.{Bool, true, false, cond}
-use mathlib.Core.List.{List, []}
+use mathlib.Core.List.{List, [], _∷_, map}
 use Prim.Native.Nat.{ℕ, zero, suc, _+_, _-_, _*_, _/_, _≤_, _<_}
 use native.Mathlib.Nat.{le-refl, add-zero, add-suc}
 use native.Mathlib.Omega.{arith}
@@ -25,9 +25,11 @@ use Rattle.culling.specs.Culling.{Whole}
 use Rattle.rules.proofs.ListLaws.{within}
 use Rattle.culling.proofs.Sides.{setOf-cong, drawn-by}
 use Rattle.vav.proofs.Laws.{length-part}
-use Rattle.drawing.specs.Written.{Slotted, Side}
+use Rattle.drawing.specs.Written.{sideOf, Side}
+use Rattle.drawing.proofs.Sides.{InRow, side-type, side-face, side-cell}
 use Rattle.quads.specs.Quads.{Drawable}
 use Rattle.listing.specs.Fresh.{setAt, facesOf, keysOf}
+use Rattle.listing.proofs.Sets.{rank-below}
 use Rattle.listing.proofs.Keys.{all-keys, keys-like}
 
 -- the sets ask nothing of the words of quads
@@ -49,21 +51,6 @@ cube-asked culling W outer g c h =
     split (λ t. isNormalCube W (typeAt g c) ≡ t → getD (W .kinds) (typeAt g c) 0 ≡ 1) (isNormalCube W (typeAt g c))
     (λ s e. eqb-true _ 1 e) (λ s e. let z = none-asked culling W outer g c e in absurd (omega arith)) refl
 
--- a face of the set is one of its quads
-count-more : (p : ℕ → Bool) (k n : ℕ) → count k p ≤ count (k + n) p
-unfolding count
-count-more p k zero = rw add-zero (le-refl (count k p))
-count-more p k (suc n) = rw add-suc (omega (arith, count-more p k n))
-
-count-next : (p : ℕ → Bool) (k : ℕ) → p k ≡ true → count (suc k) p ≡ count k p + 1
-unfolding count
-count-next p k e = ap (λ (b : Bool). count k p + cond b 1 0) e
-
-rank-below : (set f : ℕ) → has set f ≡ true → f < 6 → rank set f + 1 ≤ quadsOf set
-rank-below set f e h =
-    let all : suc f + (5 - f) ≡ 6 = omega arith in
-    omega (arith, count-next (has set) f e, count-more (has set) (suc f) (5 - f), ap (λ (k : ℕ). count k (has set)) all)
-
 module _ (S : Scene) (culling : Bool) (outer : ℕ) (g : List ℕ) where
   abbrev pub setIn : ℕ → ℕ
   setIn = setAt culling (world S) (facesOf outer) g
@@ -81,9 +68,6 @@ module _ (S : Scene) (culling : Bool) (outer : ℕ) (g : List ℕ) where
 
     cube-ends : 24 * floats (S .types) * typeAt g c + 24 * floats (S .types) ≤ length (S .types .cubes)
     cube-ends = rw (types .counted .whole) (row-within (24 * floats (S .types)) (typeAt g c) (length (S .types .kinds)) type-listed)
-
-    pub cube-part : 24 * floats (S .types) * getD g c 0 + 24 * floats (S .types) ≤ length (S .types .cubes)
-    cube-part = rw (sym type-is) cube-ends
 
     pub drawable : 0 < quadsOf (setIn c) → Drawable (cubeOf (S .types) (typeAt g c)) (floats (S .types)) (coordinates (S .size) c) (S .d)
     unfolding notACube
@@ -104,39 +88,46 @@ module _ (S : Scene) (culling : Bool) (outer : ℕ) (g : List ℕ) where
         not-refused : getD (S .types .kinds) (typeAt g c) 0 ≡ 1 → notACube (S .types) (S .centre) (typeAt g c) ≡ false
         not-refused k = rw (eq-eqb (getD (S .types .kinds) (typeAt g c) 0) 1 k, types .cube (typeAt g c) type-listed k)
 
-  -- LAW: each face of a row that its side sets draw can be drawn
+  -- LAW: each face of a row that its side sets draw is in the row and can be drawn
   pub row-sides : Whole (S .size) g (length (S .types .kinds)) → Typed S → (c w : ℕ) → w ≡ S .size .w → c + w ≤ cells (S .size)
-      → All (Side S g c) (keysOf setIn c w)
+      → All (λ k. InRow g c k × Side S c (sideOf g c k)) (keysOf setIn c w)
   row-sides whole types c w e h =
-      all-keys (Side S g c) setIn w c
+      all-keys (λ k. InRow g c k × Side S c (sideOf g c k)) setIn w c
       (λ k f a b l shows.
-      let here : keyOf k f / 6 ≡ k = omega arith in
+      let key = keyOf k f in
+      let here : key / 6 ≡ k = omega arith in
       let some = rank-below (setIn k) f shows l in
       let inside : k < cells (S .size) = omega arith in
       let at = whole .whole in
-      record {
-        from = rw here a;
-        to = rw here (omega arith);
-        inside = rw here (omega arith);
-        cube = rw here (cube-part whole types k inside);
-        drawable = rw here (drawable whole types k inside (omega arith));
-      })
+      let r : InRow g c key = record { from = omega arith; to = omega (arith, whole .within .sides .widest); inside = omega arith } in
+      let y = side-cell r in
+      let z = side-face r in (
+        r,
+        record {
+          along = omega arith;
+          face = omega arith;
+          cube = rw (side-type r, here) (cube-ends whole types k inside);
+          drawable = rw (side-type r, y, here) (drawable whole types k inside (omega arith));
+        },
+      ))
 
   -- and by the sets that the code finds
   pub found-sides : Whole (S .size) g (length (S .types .kinds)) → Typed S → (c w : ℕ) → w ≡ S .size .w → c + w ≤ cells (S .size)
-      → All (Side S g c) (keysOf (setAt culling (worldOf (S .size) (S .types .kinds) (S .types .covers)) (facesOf outer) g) c w)
+      → All (λ k. InRow g c k × Side S c (sideOf g c k)) (keysOf (setAt culling (worldOf (S .size) (S .types .kinds) (S .types .covers)) (facesOf outer) g) c w)
   found-sides whole types c w e h =
-      subst (All (Side S g c))
+      subst (All (λ k. InRow g c k × Side S c (sideOf g c k)))
       (keys-like setIn (setAt culling (worldOf (S .size) (S .types .kinds) (S .types .covers)) (facesOf outer) g) w c
       (λ k a b. sym (set-world S culling (facesOf outer) g k)))
       (row-sides whole types c w e h)
 
--- a face is drawn from the cubes alone
-pub from-cubes : (scene : declared.Scene) (kinds covers cubes g : List ℕ) (c k : ℕ) → Side (sceneOf scene kinds covers cubes) g c k
-    → Side (sceneOf scene [] [] cubes) g c k
-from-cubes scene kinds covers cubes g c k h =
-    record { from = h .from; to = h .to; inside = h .inside; cube = h .cube; drawable = h .drawable }
+pub all-in-row : (S : Scene) (g : List ℕ) (c : ℕ) (keys : List ℕ) → All (λ k. InRow g c k × Side S c (sideOf g c k)) keys → All (InRow g c) keys
+all-in-row S g c [] h = tt
+all-in-row S g c (k ∷ keys) h = (h .0 .0, all-in-row S g c keys (h .1))
 
--- LAW: and each has its slot
-pub row-slots : (sets : ℕ → ℕ) (c w n : ℕ) → 6 * (c + w) ≤ n → c + w ≤ 1048576 → All (Slotted n) (keysOf sets c w)
-row-slots sets c w n h l = all-keys (Slotted n) sets w c (λ k f a b u shows. (omega arith, omega arith))
+-- the words of faces are drawn from the cubes alone
+pub all-sides : (scene : declared.Scene) (kinds covers cubes g : List ℕ) (c : ℕ) (keys : List ℕ)
+    → All (λ k. InRow g c k × Side (sceneOf scene kinds covers cubes) c (sideOf g c k)) keys → All (Side (sceneOf scene [] [] cubes) c) (map (sideOf g c) keys)
+all-sides scene kinds covers cubes g c [] h = tt
+all-sides scene kinds covers cubes g c (k ∷ keys) h =
+    let s = h .0 .1 in
+    (record { along = s .along; face = s .face; cube = s .cube; drawable = s .drawable }, all-sides scene kinds covers cubes g c keys (h .1))

@@ -1,15 +1,14 @@
-// Fresh meshing: the quads are counted, then the faces of each row listed and written.
+// Fresh meshing: the quads are counted, then the faces of each row entered into the index and written.
 use answers::Refusal;
 use answers::Verdict;
 use culling::outer_set;
-use drawing::index_row;
 use drawing::vertex_row;
 use drawing::write_patterns;
 use face::ranks;
 use lent::input_verdict;
 use lent::room_of;
 use listing::count_quads;
-use listing::key_row;
+use listing::index_row;
 use listing::side_row;
 use mesh_metadata::new;
 use row_sets::look_of;
@@ -29,7 +28,7 @@ pub enum Meshed {
     Refused(Refusal, usize),
 }
 
-// Meshes a grid into the lent lists, or refuses and writes nothing. A row's faces are listed first, then written into each list by itself.
+// Meshes a grid into the lent lists, or refuses and writes nothing. A row's faces go into the index and a list of their own, and by that list into the vertices.
 pub fn mesh_grid(
     scene: Scene,
     outer: &[u8],
@@ -73,7 +72,7 @@ pub fn mesh_grid(
     new(&mut slots[..six]);
     write_patterns(triangles, 0, quads);
     let ranks = ranks();
-    let mut keys: [u32; 6144] = [0; 6144];
+    let mut sides: [u32; 6144] = [0; 6144];
     let mut base: usize = 0;
     let mut row = Row {
         first: 0,
@@ -92,9 +91,17 @@ pub fn mesh_grid(
             covers,
             row,
         );
-        let n = key_row(&mut keys, &ranks, &sets[..width], row.first);
-        index_row(links, slots, &keys[..n], base);
-        vertex_row(vertices, scene, cubes, grid, &keys[..n], row, base);
+        let n = index_row(
+            links,
+            slots,
+            &mut sides,
+            &ranks,
+            &sets[..width],
+            grid,
+            row.first,
+            base,
+        );
+        vertex_row(vertices, scene, cubes, row, &sides[..n], base);
         base += n;
         row = row.next(dims);
     }

@@ -1,6 +1,6 @@
 -- `meshem::mesh_grid` meets its contract: the refusals in their order, then row after row in each list. Assumes nothing.
 use mathlib.Core.Path.{_≡_, refl, sym, ap, _∙_, subst}
-use mathlib.Core.List.{List, _++_}
+use mathlib.Core.List.{List, [], _++_}
 use Prim.Native.Nat.{ℕ, _+_, _-_, _*_, _≤_, _<_}
 use borrow.Author.Needs.{needs}
 use native.Mathlib.Omega.{arith}
@@ -21,29 +21,30 @@ use Rattle.util.proofs.Rows.{first, row-end}
 use Rattle.terms.specs.Scenes.{sceneOf}
 use Rattle.terms.specs.Modes.{isCulling}
 use Rattle.culling.specs.Culling.{worldOf, outerSet}
-use Rattle.drawing.specs.Written.{Slotted, Side}
+use Rattle.drawing.specs.Written.{sideOf, Side}
+use Rattle.drawing.proofs.Sides.{InRow}
 use Rattle.lent.specs.Scenes.{inputVerdict, Admitted}
 use Rattle.lent.proofs.Admitted.{admitted}
 use Rattle.row_sets.specs.Rows.{Seen}
-use Rattle.listing.specs.Fresh.{setAt, facesOf, asked, keysOf}
+use Rattle.listing.specs.Fresh.{setAt, facesOf, setsFrom, asked, keysOf}
 use Rattle.listing.proofs.Sets.{set-below}
 use Rattle.listing.proofs.Rows.{asked-le, asked-few, asked-on}
 use Rattle.listing.proofs.Keys.{row-keys, row-asked}
-use Rattle.meshem.proofs.Turns.{found-sides, from-cubes, row-slots}
+use Rattle.meshem.proofs.Turns.{found-sides, all-in-row, all-sides}
 use Rattle.meshem.proofs.Drawn.{Drawn, begun, row-more, kept-vertices, kept-links, kept-slots, found-asked, drawn-all}
 use Rattle.meshem.proofs.Whole.{refusing, no-room, done}
 use Rattle.meshem.proofs.mesh_grid.Statement.{statement}
 use Rattle.meshem.proofs.mesh_grid.Tie as tie
 
 abbrev Inv-loop : tie.InvT-loop
-Inv-loop scene outer grid kinds covers cubes vertices₀ triangles links₀ slots₀ dims culling look along sets₀ quads room width end six ranks keys₀ base₀ row₀ vertices links slots sets keys base row =
+Inv-loop scene outer grid kinds covers cubes vertices₀ triangles links₀ slots₀ dims culling look along sets₀ quads room width end six ranks sides₀ base₀ row₀ vertices links slots sets sides base row =
     let S = sceneOf scene kinds covers cubes in
     (row .first ≤ cells (S .size)) × (cordsOf 0 (row .y) (row .z) ≡ coordinates (S .size) (row .first))
     × Drawn S grid (setAt culling (worldOf (S .size) kinds covers) (facesOf (look .outer)) grid) vertices₀ links₀ slots₀ (row .first) base vertices links slots
-    × (length sets ≡ 1024) × (length keys ≡ 6144)
+    × (length sets ≡ 1024) × (length sides ≡ 6144)
 
 abbrev μ-loop : tie.MeasureT-loop
-μ-loop scene outer grid kinds covers cubes vertices₀ triangles links₀ slots₀ dims culling look along sets₀ quads room width end six ranks keys₀ base₀ row₀ vertices links slots sets keys base row =
+μ-loop scene outer grid kinds covers cubes vertices₀ triangles links₀ slots₀ dims culling look along sets₀ quads room width end six ranks sides₀ base₀ row₀ vertices links slots sets sides base row =
     cells (sizeOf (scene .dims)) - row .first
 
 abbrev start : tie.After-input-verdict Inv-loop μ-loop → tie.Start Inv-loop μ-loop
@@ -274,85 +275,52 @@ long-enough r =
     let i = r .before .before .before in
     omega (arith, r .side-row .kept .0, i .before .before .loop .inv .3, known (typed (counting (done-with i))) .within .sides .widest)
 
-slice-aggregate-key-row : tie.Need-slice-aggregate-key-row Inv-loop μ-loop
-slice-aggregate-key-row c = sym (c .before .before .before .before .before .before .before .loop .inv .4)
-
-array-share-prefix-sets : tie.Need-array-share-prefix-sets Inv-loop μ-loop
-array-share-prefix-sets c = long-enough (c .before .before .before)
-
-slice-aggregate-key-row-2 : tie.Need-slice-aggregate-key-row-2 Inv-loop μ-loop
-slice-aggregate-key-row-2 c =
-    let r = c .before .before .before .before in
-    sym (length-take-le _ (r .side-row .last .0) (long-enough r))
-
-key-row-requires : tie.Need-key-row-requires Inv-loop μ-loop
-key-row-requires c κs =
-    let r = c .before .before .before .before in
-    let i = r .before .before .before in
-    let k = known (typed (counting (done-with i))) in
-    let w = begin (done-with i) .args .scene .dims .width in
-    let list = r .side-row .last .0 in
-    let l = length-take-le w list (long-enough r) in (
-      omega (arith, i .before .before .loop .inv .4, k .within .sides .widest),
-      omega (arith, ends i, k .within .most),
-      λ x h. let b : x < w = omega arith in rw (getD-take w list x 0 b, r .side-row .ensures x b) (set-below _ _ _ _ _),
-      c .before .before .before .before .before .before .before .before .before .before .ranks .ensures,
-    )
-
 -- ---- the faces of a row
 
-abbrev turn : tie.After-key-row Inv-loop μ-loop → tie.Then2 Inv-loop μ-loop
-turn k = k .before .before .before .before .before .before .before .before
+abbrev turn : tie.After-side-row Inv-loop μ-loop → tie.Then2 Inv-loop μ-loop
+turn r = r .before .before .before
 
-abbrev width : tie.After-key-row Inv-loop μ-loop → ℕ
-width k = begin (done-with (turn k)) .args .scene .dims .width
+abbrev width : tie.After-side-row Inv-loop μ-loop → ℕ
+width r = begin (done-with (turn r)) .args .scene .dims .width
 
-abbrev from : tie.After-key-row Inv-loop μ-loop → ℕ
-from k = turn k .before .before .loop .row .first
+abbrev from : tie.After-side-row Inv-loop μ-loop → ℕ
+from r = turn r .before .before .loop .row .first
 
-abbrev listed : tie.After-key-row Inv-loop μ-loop → List ℕ
-listed k = take (k .key-row .result) (k .key-row .last .0)
+abbrev row-sets : tie.After-side-row Inv-loop μ-loop → List ℕ
+row-sets r = take (width r) (r .side-row .last .0)
 
-keys-are : (k : tie.After-key-row Inv-loop μ-loop) → listed k ≡ keysOf (sets (done-with (turn k))) (from k) (width k)
-keys-are k =
-    let r = k .before .before .before .before .before in
-    k .key-row .ensures .1 ∙ row-keys (sets (done-with (turn k))) (from k) (width k) (r .side-row .last .0) (long-enough r) (r .side-row .ensures)
+abbrev row-faces : tie.After-side-row Inv-loop μ-loop → List ℕ
+row-faces r = keysOf (setsFrom (from r) (row-sets r)) (from r) (length (row-sets r))
 
-count-is : (k : tie.After-key-row Inv-loop μ-loop) → k .key-row .result ≡ asked (sets (done-with (turn k))) (from k) (width k)
-count-is k =
-    let r = k .before .before .before .before .before in
-    k .key-row .ensures .0 ∙ row-asked (sets (done-with (turn k))) (from k) (width k) (r .side-row .last .0) (long-enough r) (r .side-row .ensures)
+count-is : (r : tie.After-side-row Inv-loop μ-loop) → asked (setsFrom (from r) (row-sets r)) (from r) (length (row-sets r)) ≡ asked (sets (done-with (turn r))) (from r) (width r)
+count-is r = row-asked (sets (done-with (turn r))) (from r) (width r) (r .side-row .last .0) (long-enough r) (r .side-row .ensures)
 
-within-keys : (k : tie.After-key-row Inv-loop μ-loop) → k .key-row .result ≤ length (k .key-row .last .0)
-within-keys k =
-    let i = turn k in
-    omega (
-      arith,
-      count-is k,
-      asked-few (sets (done-with i)) (width k) (from k),
-      k .key-row .kept .0,
-      i .before .before .loop .inv .4,
-      known (typed (counting (done-with i))) .within .sides .widest,
-    )
-
-length-listed : (k : tie.After-key-row Inv-loop μ-loop) → length (listed k) ≡ k .key-row .result
-length-listed k = length-take-le (k .key-row .result) (k .key-row .last .0) (within-keys k)
+keys-are : (r : tie.After-side-row Inv-loop μ-loop) → row-faces r ≡ keysOf (sets (done-with (turn r))) (from r) (width r)
+keys-are r = row-keys (sets (done-with (turn r))) (from r) (width r) (r .side-row .last .0) (long-enough r) (r .side-row .ensures)
 
 -- the place after them
-after-is : (k : tie.After-key-row Inv-loop μ-loop) →
-    turn k .before .before .loop .base + k .key-row .result ≡ asked (sets (done-with (turn k))) 0 (from k + width k)
-after-is k = omega (arith, turn k .before .before .loop .inv .2 .count, count-is k, asked-on (sets (done-with (turn k))) (from k) (width k))
+after-is : (r : tie.After-side-row Inv-loop μ-loop) →
+    let q = done-with (turn r) in turn r .before .before .loop .base + asked (sets q) (from r) (width r) ≡ asked (sets q) 0 (from r + width r)
+after-is r = omega (arith, turn r .before .before .loop .inv .2 .count, asked-on (sets (done-with (turn r))) (from r) (width r))
 
-few-after : (k : tie.After-key-row Inv-loop μ-loop) → turn k .before .before .loop .base + k .key-row .result ≤ 6291456
-few-after k =
-    let i = turn k in
-    omega (arith, after-is k, below (roomy i) (from k + width k) (ends i), few-quads (done-with i))
+few-after : (r : tie.After-side-row Inv-loop μ-loop) → turn r .before .before .loop .base + asked (sets (done-with (turn r))) (from r) (width r) ≤ 6291456
+few-after r =
+    let i = turn r in
+    omega (arith, after-is r, below (roomy i) (from r + width r) (ends i), few-quads (done-with i))
 
-array-share-prefix-keys : tie.Need-array-share-prefix-keys Inv-loop μ-loop
-array-share-prefix-keys c = within-keys (c .before .before .before)
-
-slice-aggregate-index-row : tie.Need-slice-aggregate-index-row Inv-loop μ-loop
-slice-aggregate-index-row c = sym (length-listed (c .before .before .before .before))
+-- each is in the row, and can be drawn
+sides-are : (r : tie.After-side-row Inv-loop μ-loop) →
+    let s = begin (done-with (turn r)) in
+    let g = now (s .args .grid) in
+    All (λ k. InRow g (from r) k × Side (scene s) (from r) (sideOf g (from r) k)) (row-faces r)
+sides-are r =
+    let q = done-with (turn r) in
+    let s = begin q in
+    let g = now (s .args .grid) in
+    let wide = known (typed (counting q)) in
+    subst (All (λ k. InRow g (from r) k × Side (scene s) (from r) (sideOf g (from r) k))) (sym (keys-are r))
+    (found-sides (scene s) (by q .before .is-culling .result) (counting q .look-of .result .outer) g
+    (record { within = wide .within; whole = wide .whole; typed = wide .type }) (wide .typed) (from r) (width r) refl (ends (turn r)))
 
 -- slots that hold no quad
 bare-slots : (w : tie.After-new Inv-loop μ-loop) →
@@ -377,73 +345,92 @@ slots-kept w =
 
 index-row-requires : tie.Need-index-row-requires Inv-loop μ-loop
 index-row-requires c κs =
-    let k = c .before .before .before .before in
-    let i = turn k in
+    let r = c .before .before .before .before .before .before in
+    let i = turn r in
     let q = done-with i in
     let l = i .before .before .loop in
-    let kept = kept-slots _ _ _ _ _ _ (l .inv .2) ∙ slots-kept (i .before .before .before .before .before .before .before .before .before .before) in
     let wide = known (typed (counting q)) in
-    let n = length (l .slots) in
+    let list = r .side-row .last .0 in
+    let n = length-take-le (width r) list (long-enough r) in
     let e = ends i in
-    let far : 6 * (from k + width k) ≤ n = omega (arith, e, kept, wide .slotted) in
-    let all = subst (All (Slotted n)) (sym (keys-are k)) (row-slots (sets q) (from k) (width k) n far (omega (arith, e, wide .within .most))) in
-    let links = kept-links _ _ _ _ _ _ (l .inv .2) (links-room (roomy i) (from k) (omega (arith, e))) in (
-      λ j h. all-at (Slotted n) (listed k) j 0 all h,
-      omega (arith, length-listed k, after-is k, links-room (roomy i) (from k + width k) e, links),
-      omega (arith, length-listed k, few-after k),
+    let slots = kept-slots _ _ _ _ _ _ (l .inv .2) ∙ slots-kept (i .before .before .before .before .before .before .before .before .before .before) in
+    let links = kept-links _ _ _ _ _ _ (l .inv .2) (links-room (roomy i) (from r) (omega (arith, e))) in (
+      record {
+        cells = omega (arith, n, e, wide .within .most);
+        width = omega (arith, n, wide .within .sides .widest);
+        set = λ x h. let b : x < width r = omega (arith, n) in rw (getD-take (width r) list x 0 b, r .side-row .ensures x b) (set-below _ _ _ _ _);
+        links = omega (arith, count-is r, after-is r, links-room (roomy i) (from r + width r) e, links);
+        few = omega (arith, count-is r, few-after r);
+        slots = omega (arith, n, e, slots, wide .slotted);
+        sides = omega (arith, n, l .inv .4, wide .within .sides .widest);
+      },
+      omega (arith, n, e, wide .whole),
+      i .before .before .before .ranks .ensures,
     )
 
-array-share-prefix-keys-2 : tie.Need-array-share-prefix-keys-2 Inv-loop μ-loop
-array-share-prefix-keys-2 c = within-keys (c .before .before .before .before .before .before .before .before .before .before)
+-- ---- their words
 
-slice-aggregate-vertex-row : tie.Need-slice-aggregate-vertex-row Inv-loop μ-loop
-slice-aggregate-vertex-row c = sym (length-listed (c .before .before .before .before .before .before .before .before .before .before .before))
+abbrev told : tie.After-index-row Inv-loop μ-loop → tie.After-side-row Inv-loop μ-loop
+told k = k .before .before .before .before .before .before .before
+
+abbrev listed : tie.After-index-row Inv-loop μ-loop → List ℕ
+listed k = take (k .index-row .result) (k .index-row .last .1 .1 .0)
+
+result-is : (k : tie.After-index-row Inv-loop μ-loop) → k .index-row .result ≡ asked (sets (done-with (turn (told k)))) (from (told k)) (width (told k))
+result-is k = k .index-row .ensures .0 ∙ count-is (told k)
+
+kept-list : (k : tie.After-index-row Inv-loop μ-loop) → length (k .index-row .last .1 .1 .0) ≡ 6144
+kept-list k = k .index-row .ensures .1 .kept ∙ turn (told k) .before .before .loop .inv .4
+
+within-list : (k : tie.After-index-row Inv-loop μ-loop) → k .index-row .result ≤ length (k .index-row .last .1 .1 .0)
+within-list k =
+    let r = told k in
+    let q = done-with (turn r) in
+    omega (arith, result-is k, asked-few (sets q) (width r) (from r), kept-list k, known (typed (counting q)) .within .sides .widest)
+
+length-listed : (k : tie.After-index-row Inv-loop μ-loop) → length (listed k) ≡ k .index-row .result
+length-listed k = length-take-le (k .index-row .result) (k .index-row .last .1 .1 .0) (within-list k)
 
 vertex-row-requires : tie.Need-vertex-row-requires Inv-loop μ-loop
 vertex-row-requires c κs =
-    let k = c .before .before .before .before .before .before .before .before .before .before .before in
-    let i = turn k in
+    let k = c .before .before .before .before .before .before .before in
+    let r = told k in
+    let i = turn r in
     let q = done-with i in
     let s = begin q in
     let a = s .args in
     let l = i .before .before .loop in
-    let wide = known (typed (counting q)) in
+    let g = now (a .grid) in
     let e = ends i in
-    let sides = found-sides (scene s) (by q .before .is-culling .result) (counting q .look-of .result .outer) (now (a .grid))
-    (record { within = wide .within; whole = wide .whole; typed = wide .type }) (wide .typed) (from k) (width k) refl e in
-    let all = subst (All (Side (scene s) (now (a .grid)) (from k))) (sym (keys-are k)) sides in
-    let kept = kept-vertices _ _ _ _ _ _ (l .inv .2) (vertices-room (roomy i) (from k) (omega (arith, e))) in
-    let n : l .base + length (listed k) ≡ asked (sets q) 0 (from k + width k) = omega (arith, length-listed k, after-is k) in (
-      wide .within,
+    let all = subst (All (Side (sceneOf (a .scene) [] [] (now (a .cubes))) (from r))) (sym (k .index-row .ensures .1 .sides))
+    (all-sides (a .scene) (now (a .kinds)) (now (a .covers)) (now (a .cubes)) g (from r) (row-faces r) (sides-are r)) in
+    let kept = kept-vertices _ _ _ _ _ _ (l .inv .2) (vertices-room (roomy i) (from r) (omega (arith, e))) in
+    let n : l .base + length (listed k) ≡ asked (sets q) 0 (from r + width r) = omega (arith, length-listed k, result-is k, after-is r) in (
+      known (typed (counting q)) .within,
       row i,
-      λ j h. from-cubes (a .scene) (now (a .kinds)) (now (a .covers)) (now (a .cubes)) (now (a .grid)) (from k) _
-          (all-at (Side (scene s) (now (a .grid)) (from k)) (listed k) j 0 all h),
-      subst (λ (m : ℕ). span (scene s) * m ≤ length (l .vertices)) (sym n) (omega (arith, vertices-room (roomy i) (from k + width k) e, kept)),
-      omega (arith, n, after-is k, few-after k),
+      λ j h. all-at (Side (sceneOf (a .scene) [] [] (now (a .cubes))) (from r)) (listed k) j 0 all h,
+      subst (λ (m : ℕ). span (scene s) * m ≤ length (l .vertices)) (sym n) (omega (arith, vertices-room (roomy i) (from r + width r) e, kept)),
+      omega (arith, length-listed k, result-is k, few-after r),
     )
-
-add-base : tie.Need-add-base Inv-loop μ-loop
-add-base c = omega (arith, few-after (c .before .before .before .before .before .before .before .before .before .before .before .before .before .before))
-
-next-requires : tie.Need-next-requires Inv-loop μ-loop
-next-requires c κs = let i = turn (c .before .before .before .before .before .before .before .before .before .before .before .before .before .before) in (known (typed (counting (done-with i))) .within, row i)
 
 loop-less : tie.Need-loop-less Inv-loop μ-loop
 loop-less c =
-    let i = turn (c .before .before .before .before .before .before .before .before .before .before .before .before .before .before .before) in
+    let i = turn (told (c .before .before .before .before .before .before .before .before .before .before .before)) in
     omega (arith, c .next .ensures .0, row i .inside, known (typed (counting (done-with i))) .within .sides .wide)
 
 loop-again : tie.Need-loop-again Inv-loop μ-loop
 loop-again c =
-    let k = c .before .before .before .before .before .before .before .before .before .before .before .before .before .before .before in
-    let i = turn k in
+    let k = c .before .before .before .before .before .before .before .before .before .before .before in
+    let r = told k in
+    let i = turn r in
+    let s = begin (done-with i) in
     let l = i .before .before .loop in
     let e = c .next .ensures .0 in (
       omega (arith, e, ends i),
       c .next .ensures .1,
-      rw e (row-more _ _ _ _ _ _ (width k) (l .inv .2) (count-is k) (keys-are k) (c .before .before .before .vertex-row .ensures) (c .before .before .before .before .before .before .before .before .before .before .index-row .ensures .0) (c .before .before .before .before .before .before .before .before .before .before .index-row .ensures .1)),
-      k .before .before .before .before .before .side-row .kept .0 ∙ l .inv .3,
-      k .key-row .kept .0 ∙ l .inv .4,
+      rw e (row-more _ _ _ _ _ _ (width r) (l .inv .2) (result-is k) (keys-are r) (all-in-row (scene s) (now (s .args .grid)) (from r) (row-faces r) (sides-are r)) (k .index-row .ensures .1) (c .before .before .before .vertex-row .ensures)),
+      r .side-row .kept .0 ∙ l .inv .3,
+      kept-list k,
     )
 
 same-length : tie.Need-same-length Inv-loop μ-loop
@@ -512,18 +499,15 @@ mesh-grid-spec =
     slice-aggregate-side-row
     slice-aggregate-side-row-2
     side-row-requires
-    slice-aggregate-key-row
-    array-share-prefix-sets
-    slice-aggregate-key-row-2
-    key-row-requires
-    array-share-prefix-keys
-    slice-aggregate-index-row
+    (λ c. sym (c .before .before .before .before .before .before .before .before .before .loop .inv .4))
+    (λ c. long-enough (c .before .before .before .before .before))
+    (λ c. let r = c .before .before .before .before .before .before in sym (length-take-le _ (r .side-row .last .0) (long-enough r)))
     index-row-requires
-    array-share-prefix-keys-2
-    slice-aggregate-vertex-row
+    (λ c. within-list (c .before .before .before .before .before .before))
+    (λ c. sym (length-listed (c .before .before .before .before .before .before .before)))
     vertex-row-requires
-    add-base
-    next-requires
+    (λ c. let k = c .before .before .before .before .before .before .before .before .before .before in omega (arith, result-is k, few-after (told k)))
+    (λ c κs. let i = turn (told (c .before .before .before .before .before .before .before .before .before .before)) in (known (typed (counting (done-with i))) .within, row i))
     loop-less
     loop-again
     same-length

@@ -1,0 +1,41 @@
+-- A face of a row as a word, and back. Assumes nothing.
+use mathlib.Core.Path.{_≡_, refl, sym}
+use mathlib.Core.List.{List, [], _∷_, _++_, map}
+use Prim.Native.Nat.{ℕ, _+_, _*_, _/_, _%_, _≤_, _<_}
+use native.Mathlib.Omega.{arith}
+use lib.ListN.{length, getD}
+use Rattle.rules.specs.Mesh.{typeAt}
+use Rattle.rules.specs.Calls.{Scene, wordsIn}
+use Rattle.rules.proofs.ListLaws.{All, within}
+use Rattle.drawing.specs.Written.{rowsOf, wordRow, sideOf, sideRow}
+
+-- a face of the row of cells that starts at c
+pub record InRow (g : List ℕ) (c k : ℕ) : Type 0 where
+  pub from : c ≤ k / 6
+  pub to : k / 6 < c + 1024
+  pub inside : k / 6 < length g
+
+module _ {g : List ℕ} {c k : ℕ} (r : InRow g c k) where
+  pub side-type : sideOf g c k / 8192 ≡ typeAt g (k / 6)
+  side-type =
+      let a = r .from in
+      let b = r .to in
+      let t = within g (k / 6) 255 0 (r .inside) in
+      omega arith
+
+  pub side-face : sideOf g c k / 1024 % 8 ≡ k % 6
+  side-face = let a = r .from in let b = r .to in omega arith
+
+  pub side-cell : c + sideOf g c k % 1024 ≡ k / 6
+  side-cell = let a = r .from in let b = r .to in omega arith
+
+-- LAW: the rows of the words are those of the faces
+pub side-rows : (S : Scene) (g : List ℕ) (c : ℕ) (keys : List ℕ) → All (InRow g c) keys → rowsOf (sideRow S c) (map (sideOf g c) keys) ≡ rowsOf (wordRow S g) keys
+side-rows S g c [] h = refl
+side-rows S g c (k ∷ keys) h =
+    let r = h .0 in
+    let t = side-type r in
+    let f = side-face r in
+    let at = side-cell r in
+    let rest = side-rows S g c keys (h .1) in
+    λ i. wordsIn S (t i) (f i) (at i) ++ rest i
