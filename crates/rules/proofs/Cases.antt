@@ -74,7 +74,7 @@ UNIT-WORDS =
     []
 
 unit-words : cubeWords unit ≡ UNIT-WORDS
-unfolding cubeWords each cube.cubeWord cube.cornerWord cube.uvWord cube.uvOf cube.lastNaming cube.corners cube.uvEnds cube.axes ieee.toBits ieee.sub ieee.div ieee.ofBits ieee.mul ieee.ofInt
+unfolding cubeWords each cube.cubeWord cube.cornerWord cube.uvWord cube.uvOf cube.uvIn cube.lastNaming cube.corners cube.uvEnds cube.axes ieee.toBits ieee.sub ieee.div ieee.ofBits ieee.mul ieee.ofInt
 unit-words = refl
 
 -- types: 0 Null covering nothing, 1 a cube covering all, 2 Null covering all, 3 a cube covering only Bottom, 4 only Top
@@ -278,5 +278,5 @@ output =
     ++ line 0 1 5 ++ line 1 1 4 ++ line 2 1 0 ++ line 3 1 1 ++ line 4 1 2 ++ line 5 1 3
 
 pub program-example : printed file ≡ output
-unfolding file answers._then_ answers.refuseIf printed badFile digits buildFrom cubeWords cube.cubeWord cube.cornerWord cube.uvWord cube.uvOf cube.lastNaming cube.corners cube.uvEnds cube.axes ieee.toBits ieee.sub ieee.div ieee.mul ieee.ofInt answers.badAtlas answers.BAD-TEXTURE types.quadWords types.quadWord types.order types.movedWord answers.badLimits answers.BAD-TYPES answers.badCounts lowestFrom answers.badType answers.BAD-NUMBER answers.notACube types.isCube every count types.classed types.classOf types.classAt types.classOn ieee.eq ieee.ofBits ieee.lt answers.roomOf meshBy each neighbour laid slotted answers.badLink answers.BAD-LINKS same answers.badEntry answers.BAD-ENTRY courseFrom entryAt needed ops remove removeAt
+unfolding file answers._then_ answers.refuseIf printed badFile digits buildFrom cubeWords cube.cubeWord cube.cornerWord cube.uvWord cube.uvOf cube.uvIn cube.lastNaming cube.corners cube.uvEnds cube.axes ieee.toBits ieee.sub ieee.div ieee.mul ieee.ofInt answers.badAtlas answers.BAD-TEXTURE types.quadWords types.quadWord types.order types.movedWord answers.badLimits answers.BAD-TYPES answers.badCounts lowestFrom answers.badType answers.BAD-NUMBER answers.notACube types.isCube every count types.classed types.classOf types.classAt types.classOn ieee.eq ieee.ofBits ieee.lt answers.roomOf meshBy each neighbour laid slotted answers.badLink answers.BAD-LINKS same answers.badEntry answers.BAD-ENTRY courseFrom entryAt needed ops remove removeAt
 program-example = refl

@@ -1,6 +1,7 @@
 -- 01, "The types": the words of a cube's 24 vertices. Definitions only.
 use Prim.Native.Nat.{ℕ, zero, suc, _+_, _-_, _*_, _/_, _%_}
-use mathlib.Core.Bool.{Bool, cond}
+use mathlib.Core.Option.{Option, none, some}
+use mathlib.Core.Bool.{Bool, true, false, cond}
 use mathlib.Core.List.{List, [], _∷_}
 use lib.ListN.{getD}
 use lib.Dec.{eqb, ltb}
@@ -89,18 +90,21 @@ uvEnds =
 abbrev pub isEnd : ℕ → ℕ → Bool
 isEnd vertex axis = eqb (getD uvEnds (8 * (vertex / 4 % 2) + 2 * (vertex % 4) + axis) 0) 1
 
--- Six (face, tile) entries are given; the last for a face wins: its number, or 6 where none names the face
-unfoldable pub lastNaming : List ℕ → ℕ → ℕ → ℕ
-lastNaming texture face zero = 6
-lastNaming texture face (suc n) = cond (eqb (getD texture (3 * n) 0) face) n (lastNaming texture face n)
+-- Six (face, tile) entries are given; the last for a face wins: its number
+unfoldable pub lastNaming : List ℕ → ℕ → ℕ → Option ℕ
+lastNaming texture face zero = none
+lastNaming texture face (suc n) = cond (eqb (getD texture (3 * n) 0) face) (some n) (lastNaming texture face n)
 
 abbrev pub atlasAlong : Shape → ℕ → ℕ
 atlasAlong q axis = cond (eqb axis 0) (q .atlasWidth) (q .atlasHeight)
 
+-- where the tile of an entry starts or ends, and that of an unnamed face
+unfoldable pub uvIn : Shape → Option ℕ → Bool → ℕ → ℕ
+uvIn q none end axis = uvWord end false 0 (atlasAlong q axis) (q .padding)
+uvIn q (some n) end axis = uvWord end true (getD (q .texture) (3 * n + 1 + axis) 0) (atlasAlong q axis) (q .padding)
+
 unfoldable pub uvOf : Shape → ℕ → ℕ → ℕ
-uvOf q vertex axis =
-    let n = lastNaming (q .texture) (vertex / 4) 6 in
-    uvWord (isEnd vertex axis) (ltb n 6) (getD (q .texture) (3 * n + 1 + axis) 0) (atlasAlong q axis) (q .padding)
+uvOf q vertex axis = uvIn q (lastNaming (q .texture) (vertex / 4) 6) (isEnd vertex axis) axis
 
 -- The normal is the face's unit axis with +0.0 elsewhere
 unfoldable pub axes : List ℕ

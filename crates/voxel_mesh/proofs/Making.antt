@@ -13,7 +13,7 @@ use Rattle.rules.specs.Lists.{each, table}
 use Rattle.rules.specs.Cells as cells
 use Rattle.rules.specs.Cells.{along}
 use Rattle.rules.specs.Cube as rules
-use Rattle.rules.specs.Cube.{isHigh, isEnd, cornerWord, uvOf, cubeWord}
+use Rattle.rules.specs.Cube.{isHigh, isEnd, cornerWord, uvIn, uvOf, cubeWord}
 use Rattle.rules.proofs.ListLaws.{each-split}
 use Rattle.floats.specs.declared.Triple.{Triple}
 use Rattle.floats.specs.Triples.{tripleOf}
@@ -22,7 +22,7 @@ use Rattle.vav.proofs.Laws.{put-next, put-whole}
 use Rattle.voxel_mesh.specs.declared.Shape.{Shape}
 use Rattle.voxel_mesh.specs.declared.Tile.{Tile}
 use Rattle.voxel_mesh.specs.Outcome.{shapeOf}
-use Rattle.voxel_mesh.specs.Parts.{uvIn, cornerIn, Cornered, Tiled, tileWord, partWord}
+use Rattle.voxel_mesh.specs.Parts.{cornerIn, Cornered, Tiled, tileWord, partWord}
 
 -- ---- a word by its parts
 
@@ -48,7 +48,7 @@ module _ (s : Shape) (texture : List ℕ) (low high : Triple) (t : Tile) (vertex
       go false = ap (λ (v : cells.Triple). along v k) (c .low-is) ∙ corner-along q false k
 
   uv : Tiled q (vertex / 4) t → (axis : ℕ) → axis < 2 → tileWord t (isEnd vertex axis) axis ≡ uvOf q vertex axis
-  unfolding uvOf uvIn
+  unfolding uvOf
   uv w zero h = go (isEnd vertex 0)
     where
       go : (b : Bool) → cond b (t .right) (t .left) ≡ uvIn q (rules.lastNaming texture (vertex / 4) 6) b 0

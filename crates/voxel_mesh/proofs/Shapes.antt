@@ -1,6 +1,8 @@
 -- What an accepted shape says of each word. Assumes nothing.
 use mathlib.Core.Path.{_≡_, sym, subst}
 use mathlib.Core.Bool.{Bool, true, false, not, _&&_, _||_, cond}
+use mathlib.Core.List.{List}
+use mathlib.Core.Option.{some}
 use Prim.Native.Nat.{ℕ, zero, suc, _+_, _*_, _≤_, _<_}
 use native.Mathlib.Nat.{mul-le-mul-left, mul-suc}
 use native.Mathlib.Omega.{arith}
@@ -12,10 +14,10 @@ use borrow.Author.Tests.{ltb-false, eqb-true, not-false}
 use Rattle.rules.specs.Lists.{every}
 use Rattle.rules.specs.Floats.{finite, finite3}
 use Rattle.rules.specs.Cells.{Triple, along}
-use Rattle.rules.specs.Cube.{Shape, floatsOf, atlasAlong}
+use Rattle.rules.specs.Cube.{Shape, floatsOf, lastNaming, atlasAlong}
 use Rattle.rules.specs.Answers.{fine, _then_, refuseIf, refuseLowest, outOf, entries, badTile, badAtlas, BAD-NUMBER, BAD-TEXTURE}
 use Rattle.voxel_mesh.specs.Outcome.{Accepted, verdictIn}
-use Rattle.rules.proofs.ListLaws.{or-false}
+use Rattle.rules.proofs.ListLaws.{split, or-false}
 use Rattle.rules.proofs.Checking.{then-fine, if-fine}
 use Rattle.rules.proofs.Searches.{every-at}
 
@@ -117,3 +119,11 @@ accepted q room r =
       },
       ltb-false _ _ (if-fine _ 9 0 (c .1)),
     )
+
+-- an entry that names a face is among those looked at
+pub named-below : (texture : List ℕ) (face k n : ℕ) → lastNaming texture face k ≡ some n → n < k
+unfolding lastNaming
+named-below texture face zero n e = absurd (let z : _≡_ {A = ℕ} 0 1 = cc in omega arith)
+named-below texture face (suc k) n e =
+    split (λ b. cond b (some k) (lastNaming texture face k) ≡ some n → n < suc k) (eqb (getD texture (3 * k) 0) face)
+    (λ t h. let z : k ≡ n = cc in omega arith) (λ t h. let l = named-below texture face k n h in omega arith) e

@@ -1,21 +1,24 @@
 -- What the vertices of a cube are made of: two corners, and a tile a face. Definitions only.
-use Prim.Native.Nat.{ℕ, _+_, _-_, _*_, _/_}
+use Prim.Native.Nat.{ℕ, _-_, _/_}
 use mathlib.Core.Path.{_≡_}
+use mathlib.Core.Option.{Option, none, some}
 use mathlib.Core.Bool.{Bool, true, false, cond}
-use lib.ListN.{getD}
 use lib.Dec.{eqb, ltb}
 use Rattle.rules.specs.Cells as cells
 use Rattle.rules.specs.Cells.{along}
 use Rattle.rules.specs.Cube as rules
-use Rattle.rules.specs.Cube.{isHigh, isEnd, cornerWord, lastNaming, atlasAlong, uvWord, normalOf}
+use Rattle.rules.specs.Cube.{isHigh, isEnd, cornerWord, lastNaming, uvIn, normalOf}
 use Rattle.floats.specs.declared.Triple.{Triple}
 use Rattle.floats.specs.Triples.{tripleOf}
 use Rattle.voxel_mesh.specs.declared.Shape.{Shape}
+use Rattle.voxel_mesh.specs.declared.Naming.{Naming}
+use Rattle.voxel_mesh.specs.declared.Naming.the-variants.{Entry, Nothing}
 use Rattle.voxel_mesh.specs.declared.Tile.{Tile}
 
--- where the tile of texture entry n starts or ends along u (0) or v (1)
-unfoldable pub uvIn : rules.Shape → ℕ → Bool → ℕ → ℕ
-uvIn q n end axis = uvWord end (ltb n 6) (getD (q .texture) (3 * n + 1 + axis) 0) (atlasAlong q axis) (q .padding)
+-- the entry that names a face, if any
+abbrev pub namingIn : Naming → Option ℕ
+namingIn (Entry n) = some n
+namingIn Nothing = none
 
 -- the corner on the low or on the high side of all three axes
 abbrev pub cornerIn : rules.Shape → Bool → cells.Triple

@@ -7,16 +7,17 @@ use vav::write_four;
 ghost use mathlib.Core.Path.{_≡_};
 ghost use mathlib.Core.Bool.{cond, not, _&&_};
 ghost use mathlib.Core.List.{[], _++_};
-ghost use Prim.Native.Nat.{_+_, _-_, _*_, _/_, _<_, _≤_};
+ghost use mathlib.Core.Option.{some};
+ghost use Prim.Native.Nat.{ℕ, _+_, _-_, _*_, _/_, _<_, _≤_};
 ghost use lib.ListN.{length, getD, drop};
 ghost use lib.Dec.{T, ltb};
 ghost use Rattle.rules.specs.Lists.{each, every, lowest, table};
 ghost use Rattle.rules.specs.Floats.{finite, finite3};
-ghost use Rattle.rules.specs.Cube.{floatsOf, isHigh, isEnd, lastNaming, atlasAlong, axes, normalOf, cubeWord, cubeWords, cubeTriangles};
+ghost use Rattle.rules.specs.Cube.{floatsOf, isHigh, isEnd, lastNaming, uvIn, atlasAlong, axes, normalOf, cubeWord, cubeWords, cubeTriangles};
 ghost use Rattle.rules.specs.Answers.{entries, badTile, badAtlas};
 ghost use Rattle.floats.specs.Triples.{tripleOf};
 ghost use Rattle.voxel_mesh.specs.Outcome.{shapeOf, verdictOf, verdictIn, Cubes, Accepted};
-ghost use Rattle.voxel_mesh.specs.Parts.{uvIn, cornerIn, Tiled, Cornered, partWord};
+ghost use Rattle.voxel_mesh.specs.Parts.{namingIn, cornerIn, Tiled, Cornered, partWord};
 
 // What a cube is made from; each float is its bits.
 pub struct Shape {
@@ -223,32 +224,37 @@ fn verdict(shape: Shape, texture: &[u32], room: usize) -> Cubed
     Cubed::Done
 }
 
-// The last entry that names the face, or 6.
-fn last_naming(texture: &[u32], face: usize) -> usize
+// Which entry of a texture names a face.
+enum Naming {
+    Entry(usize),
+    Nothing,
+}
+
+// The last entry that names the face.
+fn last_naming(texture: &[u32], face: usize) -> Naming
     requires { ⌜ (length (now texture) ≡ 18) × (face < 6) ⌝ }
-    ensures { λ r. ⌜ r ≡ lastNaming (now (texture .entry)) face 6 ⌝ }
+    ensures { λ r. ⌜ namingIn r ≡ lastNaming (now (texture .entry)) face 6 ⌝ }
 {
     let mut i: usize = 0;
     while i < 6 {
         let n = 5 - i;
         if texture[3 * n] == face as u32 {
-            return n;
+            return Naming::Entry(n);
         }
         i += 1;
     }
-    6
+    Naming::Nothing
 }
 
-// Where the tile of texture entry n starts or ends, along u (0) or v (1); 6 is no entry.
-fn uv_at(shape: Shape, texture: &[u32], n: usize, end: bool, axis: usize) -> u32
-    requires { ⌜ Accepted (shapeOf shape (now texture)) × (axis < 2) ⌝ }
-    ensures { λ r. ⌜ r ≡ uvIn (shapeOf shape (now (texture .entry))) n end axis ⌝ }
+// Where the tile of an entry, or of an unnamed face, starts or ends, along u (0) or v (1).
+fn uv_at(shape: Shape, texture: &[u32], naming: Naming, end: bool, axis: usize) -> u32
+    requires { ⌜ Accepted (shapeOf shape (now texture)) × (axis < 2) × ((n : ℕ) → namingIn naming ≡ some n → n < 6) ⌝ }
+    ensures { λ r. ⌜ r ≡ uvIn (shapeOf shape (now (texture .entry))) (namingIn naming) end axis ⌝ }
 {
     let atlas = shape.atlas_along(axis);
-    if n < 6 {
-        uv_word(end, true, texture[3 * n + 1 + axis], atlas, shape.padding)
-    } else {
-        uv_word(end, false, 0, atlas, shape.padding)
+    match naming {
+        Naming::Entry(n) => uv_word(end, true, texture[3 * n + 1 + axis], atlas, shape.padding),
+        Naming::Nothing => uv_word(end, false, 0, atlas, shape.padding),
     }
 }
 
@@ -264,12 +270,12 @@ fn tile_of(shape: Shape, texture: &[u32], face: usize) -> Tile
     requires { ⌜ Accepted (shapeOf shape (now texture)) × (face < 6) ⌝ }
     ensures { λ r. ⌜ Tiled (shapeOf shape (now (texture .entry))) face r ⌝ }
 {
-    let n = last_naming(texture, face);
+    let naming = last_naming(texture, face);
     Tile {
-        left: uv_at(shape, texture, n, false, 0),
-        right: uv_at(shape, texture, n, true, 0),
-        top: uv_at(shape, texture, n, false, 1),
-        bottom: uv_at(shape, texture, n, true, 1),
+        left: uv_at(shape, texture, naming, false, 0),
+        right: uv_at(shape, texture, naming, true, 0),
+        top: uv_at(shape, texture, naming, false, 1),
+        bottom: uv_at(shape, texture, naming, true, 1),
     }
 }
 
