@@ -1,12 +1,13 @@
 -- 01, "The types": kinds, covering sets and the registry's floats; which cubes are cubes. Definitions only.
 use Prim.Native.Nat.{ℕ, _+_, _*_, _/_, _%_}
-use mathlib.Core.Bool.{Bool, cond, _&&_}
+use mathlib.Core.Bool.{Bool, false, cond, _&&_}
 use mathlib.Core.List.{List, [], _∷_}
+use mathlib.Core.Option.{Option, none, some}
 use lib.ListN.{getD}
 use lib.Dec.{eqb, ltb}
 use lib.Ieee.{eq, lt, binary32, add, mul, toBits}
 use Rattle.rules.specs.Lists.{each, table, part, every}
-use Rattle.rules.specs.Cells.{Triple, along}
+use Rattle.rules.specs.Cells.{Triple, along, onlyIf}
 use Rattle.rules.specs.Floats.{f32, whole, finite}
 use Rattle.rules.specs.Cube.{floatsOf}
 
@@ -26,31 +27,36 @@ cubeOf T t = part (24 * floats T * t) (24 * floats T) (T .cubes)
 
 -- ---- a triangle's class
 
--- on one axis: the low face if centre > the three corners' one coordinate, else the high one; 6 where they are not equal
-unfoldable pub classOn : ℕ → ℕ → ℕ → ℕ → ℕ → ℕ → ℕ
+-- on one axis, where the three corners' coordinates are equal: the low face if centre > that one, else the high one
+unfoldable pub classOn : ℕ → ℕ → ℕ → ℕ → ℕ → ℕ → Option ℕ
 classOn low high centre a b c =
-    cond (eq (f32 a) (f32 b) && eq (f32 b) (f32 c) && eq (f32 a) (f32 c)) (cond (lt (f32 a) (f32 centre)) low high) 6
+    onlyIf (eq (f32 a) (f32 b) && eq (f32 b) (f32 c) && eq (f32 a) (f32 c)) (cond (lt (f32 a) (f32 centre)) low high)
 
 -- the coordinate of vertex i of a cube
 abbrev pub positionOf : List ℕ → ℕ → ℕ → ℕ → ℕ
 positionOf cube n i axis = getD cube (n * i + axis) 0
 
-unfoldable pub classAt : List ℕ → ℕ → Triple → ℕ → ℕ → ℕ → ℕ → ℕ → ℕ → ℕ
+unfoldable pub classAt : List ℕ → ℕ → Triple → ℕ → ℕ → ℕ → ℕ → ℕ → ℕ → Option ℕ
 classAt cube n centre axis low high i j k =
     classOn low high (along centre axis) (positionOf cube n i axis) (positionOf cube n j axis) (positionOf cube n k axis)
 
-abbrev pub orElse : ℕ → ℕ → ℕ
-orElse x y = cond (eqb x 6) y x
+abbrev pub orElse : Option ℕ → Option ℕ → Option ℕ
+orElse none y = y
+orElse (some x) y = some x
 
 -- the first axis on which its three corners are equal
-unfoldable pub classOf : List ℕ → ℕ → Triple → ℕ → ℕ → ℕ → ℕ
+unfoldable pub classOf : List ℕ → ℕ → Triple → ℕ → ℕ → ℕ → Option ℕ
 classOf cube n centre i j k =
     orElse (classAt cube n centre 0 3 2 i j k) (orElse (classAt cube n centre 1 1 0 i j k) (classAt cube n centre 2 5 4 i j k))
+
+abbrev pub isOf : Option ℕ → ℕ → Bool
+isOf none f = false
+isOf (some k) f = eqb k f
 
 -- both triangles of face f, 4f + 0,1,3 and 2,3,1, are classed to it
 unfoldable pub classed : List ℕ → ℕ → Triple → ℕ → Bool
 classed cube n centre f =
-    eqb (classOf cube n centre (4 * f) (4 * f + 1) (4 * f + 3)) f && eqb (classOf cube n centre (4 * f + 2) (4 * f + 3) (4 * f + 1)) f
+    isOf (classOf cube n centre (4 * f) (4 * f + 1) (4 * f + 3)) f && isOf (classOf cube n centre (4 * f + 2) (4 * f + 3) (4 * f + 1)) f
 
 -- every position is finite, and every triangle is classed to its own face
 unfoldable pub isCube : List ℕ → ℕ → Triple → Bool

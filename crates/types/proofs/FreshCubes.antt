@@ -1,5 +1,6 @@
 -- A fresh cube passes the class test exactly where it surrounds its centre: on each axis both sides are finite and low < centre ≤ high.
 -- Assumes nothing.
+use mathlib.Core.Option.{Option, some}
 use mathlib.Core.Path.{_≡_, refl, sym, _∙_, subst}
 use mathlib.Core.Bool.{Bool, true, false, not, _&&_, cond}
 use mathlib.Core.List.{List}
@@ -14,9 +15,9 @@ use lib.Ieee.Scale as scale
 use borrow.Author.Tests.{lt-ltb}
 use Rattle.rules.specs.Lists.{every, table}
 use Rattle.rules.specs.Floats.{f32, finite, finite3}
-use Rattle.rules.specs.Cells.{along}
+use Rattle.rules.specs.Cells.{along, onlyIf}
 use Rattle.rules.specs.Cube.{Shape, floatsOf, corners, isHigh, cornerWord, cubeWord, cubeWords}
-use Rattle.rules.specs.Types.{positionOf, orElse, classOn, classAt, classOf, classed, isCube}
+use Rattle.rules.specs.Types.{positionOf, orElse, isOf, classOn, classAt, classOf, classed, isCube}
 use Rattle.floats.proofs.Numbers.{Finite, tells, bits-finite, finite-bits}
 use Rattle.types.specs.Tests.{Placed}
 use Rattle.types.specs.Fresh.{sideAt, around, surrounds}
@@ -32,18 +33,18 @@ holds e = subst T (sym e) tt
 
 -- ---- the class test on floats: P has each side on each axis, and c the centre
 
-abbrev cls : ℕ → ℕ → Float → Float → Float → Float → ℕ
-cls low high c x y z = cond (eq x y && eq y z && eq x z) (cond (lt x c) low high) 6
+abbrev cls : ℕ → ℕ → Float → Float → Float → Float → Option ℕ
+cls low high c x y z = onlyIf (eq x y && eq y z && eq x z) (cond (lt x c) low high)
 
 module _ (P : Bool → ℕ → Float) (c : ℕ → Float) where
-  abbrev on : ℕ → ℕ → ℕ → ℕ → ℕ → ℕ → ℕ
+  abbrev on : ℕ → ℕ → ℕ → ℕ → ℕ → ℕ → Option ℕ
   on axis low high i j k = cls low high (c axis) (P (isHigh i axis) axis) (P (isHigh j axis) axis) (P (isHigh k axis) axis)
 
-  abbrev face : ℕ → ℕ → ℕ → ℕ
+  abbrev face : ℕ → ℕ → ℕ → Option ℕ
   face i j k = orElse (on 0 3 2 i j k) (orElse (on 1 1 0 i j k) (on 2 5 4 i j k))
 
   abbrev both : ℕ → Bool
-  both n = eqb (face (4 * n) (4 * n + 1) (4 * n + 3)) n && eqb (face (4 * n + 2) (4 * n + 3) (4 * n + 1)) n
+  both n = isOf (face (4 * n) (4 * n + 1) (4 * n + 3)) n && isOf (face (4 * n + 2) (4 * n + 3) (4 * n + 1)) n
 
   abbrev all : Bool
   all = true && both 0 && both 1 && both 2 && both 3 && both 4 && both 5
@@ -65,27 +66,27 @@ module _ (P : Bool → ℕ → Float) (c : ℕ → Float) (x : Axis (P true 0) (
 
 -- ---- and back: what a face's class says of the centre
 
-right-is : (t : Bool) (r : ℕ) → T (eqb (orElse (cond t 3 2) r) 2) → t ≡ false
-right-is true r h = absurd h
-right-is false r h = refl
+right-is : (t : Bool) → T (isOf (some (cond t 3 2)) 2) → t ≡ false
+right-is true h = absurd h
+right-is false h = refl
 
-left-is : (t : Bool) (r : ℕ) → T (eqb (orElse (cond t 3 2) r) 3) → t ≡ true
-left-is true r h = refl
-left-is false r h = absurd h
+left-is : (t : Bool) → T (isOf (some (cond t 3 2)) 3) → t ≡ true
+left-is true h = refl
+left-is false h = absurd h
 
-top-is : (e q t : Bool) (r : ℕ) → T (eqb (orElse (cond e (cond q 3 2) 6) (orElse (cond t 1 0) r)) 0) → t ≡ false
-top-is true true t r h = absurd h
-top-is true false t r h = absurd h
-top-is false q true r h = absurd h
-top-is false q false r h = refl
+top-is : (e q t : Bool) → T (isOf (orElse (onlyIf e (cond q 3 2)) (some (cond t 1 0))) 0) → t ≡ false
+top-is true true t h = absurd h
+top-is true false t h = absurd h
+top-is false q true h = absurd h
+top-is false q false h = refl
 
-bottom-is : (e q t : Bool) (r : ℕ) → T (eqb (orElse (cond e (cond q 3 2) 6) (orElse (cond t 1 0) r)) 1) → (e ≡ false) × (t ≡ true)
-bottom-is true true t r h = absurd h
-bottom-is true false t r h = absurd h
-bottom-is false q true r h = (refl, refl)
-bottom-is false q false r h = absurd h
+bottom-is : (e q t : Bool) → T (isOf (orElse (onlyIf e (cond q 3 2)) (some (cond t 1 0))) 1) → (e ≡ false) × (t ≡ true)
+bottom-is true true t h = absurd h
+bottom-is true false t h = absurd h
+bottom-is false q true h = (refl, refl)
+bottom-is false q false h = absurd h
 
-back-is : (e q g p t : Bool) → T (eqb (orElse (cond e (cond q 3 2) 6) (orElse (cond g (cond p 1 0) 6) (cond t 5 4))) 4) → t ≡ false
+back-is : (e q g p t : Bool) → T (isOf (orElse (onlyIf e (cond q 3 2)) (orElse (onlyIf g (cond p 1 0)) (some (cond t 5 4)))) 4) → t ≡ false
 back-is true true g p t h = absurd h
 back-is true false g p t h = absurd h
 back-is false q true true t h = absurd h
@@ -93,7 +94,7 @@ back-is false q true false t h = absurd h
 back-is false q false p true h = absurd h
 back-is false q false p false h = refl
 
-forward-is : (e q g p t : Bool) → T (eqb (orElse (cond e (cond q 3 2) 6) (orElse (cond g (cond p 1 0) 6) (cond t 5 4))) 5)
+forward-is : (e q g p t : Bool) → T (isOf (orElse (onlyIf e (cond q 3 2)) (orElse (onlyIf g (cond p 1 0)) (some (cond t 5 4)))) 5)
     → (g ≡ false) × (t ≡ true)
 forward-is true true g p t h = absurd h
 forward-is true false g p t h = absurd h
@@ -124,16 +125,16 @@ module _ (P : Bool → ℕ → Float) (c : ℕ → Float) (hh : (axis : ℕ) →
         and-r a5 (both P c 5) pass,
       )
 
-  one : (n : ℕ) → T (both P c n) → T (eqb (face P c (4 * n) (4 * n + 1) (4 * n + 3)) n)
-  one n h = and-l (eqb (face P c (4 * n) (4 * n + 1) (4 * n + 3)) n) (eqb (face P c (4 * n + 2) (4 * n + 3) (4 * n + 1)) n) h
+  one : (n : ℕ) → T (both P c n) → T (isOf (face P c (4 * n) (4 * n + 1) (4 * n + 3)) n)
+  one n h = and-l (isOf (face P c (4 * n) (4 * n + 1) (4 * n + 3)) n) (isOf (face P c (4 * n + 2) (4 * n + 3) (4 * n + 1)) n) h
 
   x-axis : Axis (P true 0) (P false 0) (c 0)
   unfolding corners
   x-axis = record {
     hh = hh 0 (lit< tt);
     ll = ll 0 (lit< tt);
-    lc = left-is (lt (P false 0) (c 0)) _ (simp (ll 0 (lit< tt)) at (one 3 (firsts .3)));
-    hc = right-is (lt (P true 0) (c 0)) _ (simp (hh 0 (lit< tt)) at (one 2 (firsts .2)));
+    lc = left-is (lt (P false 0) (c 0)) (simp (ll 0 (lit< tt)) at (one 3 (firsts .3)));
+    hc = right-is (lt (P true 0) (c 0)) (simp (hh 0 (lit< tt)) at (one 2 (firsts .2)));
   }
 
   -- the corners of a triangle of Bottom are low, high and low on x, and those of one of Forward low, low and high on y
@@ -141,7 +142,7 @@ module _ (P : Bool → ℕ → Float) (c : ℕ → Float) (hh : (axis : ℕ) →
   unfolding corners
   bottom =
       bottom-is (eq (P false 0) (P true 0) && eq (P true 0) (P false 0) && eq (P false 0) (P false 0)) (lt (P false 0) (c 0))
-      (lt (P false 1) (c 1)) _ (simp (ll 1 (lit< tt)) at (one 1 (firsts .1)))
+      (lt (P false 1) (c 1)) (simp (ll 1 (lit< tt)) at (one 1 (firsts .1)))
 
   forward : (eq (P false 1) (P false 1) && eq (P false 1) (P true 1) && eq (P false 1) (P true 1) ≡ false) × (lt (P false 2) (c 2) ≡ true)
   unfolding corners
@@ -157,7 +158,7 @@ module _ (P : Bool → ℕ → Float) (c : ℕ → Float) (hh : (axis : ℕ) →
     ll = ll 1 (lit< tt);
     lc = bottom .1;
     hc = top-is (eq (P false 0) (P true 0) && eq (P true 0) (P false 0) && eq (P false 0) (P false 0)) (lt (P false 0) (c 0))
-        (lt (P true 1) (c 1)) _ (simp (hh 1 (lit< tt)) at (one 0 (firsts .0)));
+        (lt (P true 1) (c 1)) (simp (hh 1 (lit< tt)) at (one 0 (firsts .0)));
   }
 
   z-axis : Axis (P true 2) (P false 2) (c 2)

@@ -2,7 +2,8 @@
 use Prim.Native.Nat.{ℕ, _*_, _<_, _≤_}
 use mathlib.Core.Path.{_≡_}
 use lib.ListN.{length}
-use mathlib.Core.Bool.{Bool}
+use mathlib.Core.Bool.{Bool, true, false}
+use mathlib.Core.Option.{Option, none, some}
 use lib.Dec as Dec
 use Rattle.rules.specs.Floats.{finite}
 use mathlib.Core.List.{List}
@@ -10,6 +11,8 @@ use Rattle.rules.specs.Cells.{Triple}
 use Rattle.rules.specs.Cube.{floatsOf}
 use Rattle.rules.specs.Types.{Types, positionOf}
 use Rattle.rules.specs.Answers.{Verdict, _then_, BAD-TYPES, BAD-NUMBER, NOT-A-CUBE}
+use Rattle.types.specs.declared.Class.{Class}
+use Rattle.types.specs.declared.Class.the-variants.{Of, Nothing}
 
 abbrev pub typesOf : Bool → List ℕ → List ℕ → List ℕ → Types
 typesOf coloured kinds covers cubes = record { coloured = coloured; kinds = kinds; covers = covers; cubes = cubes }
@@ -32,3 +35,12 @@ Placed cube floats = (i axis : ℕ) → i < 24 → axis < 3 → Dec.T (finite (p
 pub record Counted (coloured : Bool) (kinds cubes : List ℕ) : Type 0 where
   pub few : length kinds ≤ 255
   pub whole : length cubes ≡ 24 * floatsOf coloured * length kinds
+
+-- what the code tells of a triangle's class
+abbrev pub classIn : Class → Option ℕ
+classIn (Of face) = some face
+classIn Nothing = none
+
+abbrev pub isSome : Option ℕ → Bool
+isSome none = false
+isSome (some n) = true

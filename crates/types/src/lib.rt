@@ -5,6 +5,7 @@ use floats::Triple;
 use floats::is_finite_bits;
 use voxel_mesh::corner_of;
 use voxel_mesh::floats_of;
+use voxel_mesh::triangle_words;
 ghost use mathlib.Core.Path.{_≡_};
 ghost use mathlib.Core.Bool.{Bool};
 ghost use mathlib.Core.List.{List};
@@ -13,11 +14,12 @@ ghost use lib.ListN.{length};
 ghost use lib.Dec.{T};
 ghost use Rattle.rules.specs.Lists.{every, lowest};
 ghost use Rattle.rules.specs.Floats.{finite, finite3};
-ghost use Rattle.rules.specs.Types.{positionOf, classOn, classAt, classOf, classed, isCube};
+ghost use Rattle.rules.specs.Cube.{cubeTriangles};
+ghost use Rattle.rules.specs.Types.{positionOf, classOn, classAt, classOf, isOf, classed, isCube};
 ghost use Rattle.rules.specs.Answers.{badCounts, badType, notACube};
 ghost use Rattle.answers.specs.Verdicts.{verdictOf};
 ghost use Rattle.floats.specs.Triples.{tripleOf};
-ghost use Rattle.types.specs.Tests.{typesOf, typesVerdict, Words, Placed, Counted};
+ghost use Rattle.types.specs.Tests.{typesOf, classIn, isSome, typesVerdict, Words, Placed, Counted};
 
 fn has_bad_counts(kinds: &[u8], covers: &[u8], cubes: &[u32], coloured: bool) -> bool
     ensures { λ r. ⌜ r ≡ badCounts (typesOf coloured (now (kinds .entry)) (now (covers .entry)) (now (cubes .entry))) ⌝ }
@@ -45,10 +47,34 @@ fn lowest_bad_type(kinds: &[u8], covers: &[u8]) -> usize
     t
 }
 
-// A triangle's class on one axis: its low face or its high one, or 6 where its corners differ.
-fn class_on(low: usize, high: usize, centre: u32, a: u32, b: u32, c: u32) -> usize
+// The face that a triangle is classed to, if any.
+enum Class {
+    Of(usize),
+    Nothing,
+}
+
+fn is_class(class: Class) -> bool
+    ensures { λ r. ⌜ r ≡ isSome (classIn class) ⌝ }
+{
+    match class {
+        Class::Of(_) => true,
+        Class::Nothing => false,
+    }
+}
+
+fn is_of(class: Class, face: usize) -> bool
+    ensures { λ r. ⌜ r ≡ isOf (classIn class) face ⌝ }
+{
+    match class {
+        Class::Of(own) => own == face,
+        Class::Nothing => false,
+    }
+}
+
+// A triangle's class on one axis, on which its corners are equal: its low face or its high one.
+fn class_on(low: usize, high: usize, centre: u32, a: u32, b: u32, c: u32) -> Class
     requires { ⌜ T (finite centre) × T (finite a) × T (finite b) × T (finite c) ⌝ }
-    ensures { λ r. ⌜ r ≡ classOn low high centre a b c ⌝ }
+    ensures { λ r. ⌜ classIn r ≡ classOn low high centre a b c ⌝ }
 {
     let x = f32::from_bits(a);
     let y = f32::from_bits(b);
@@ -56,11 +82,11 @@ fn class_on(low: usize, high: usize, centre: u32, a: u32, b: u32, c: u32) -> usi
     let middle = f32::from_bits(centre);
     if (x == y) & (y == z) & (x == z) {
         if x < middle {
-            return low;
+            return Class::Of(low);
         }
-        return high;
+        return Class::Of(high);
     }
-    6
+    Class::Nothing
 }
 
 // A coordinate of vertex i.
@@ -82,10 +108,10 @@ fn class_at(
     i: usize,
     j: usize,
     k: usize,
-) -> usize
+) -> Class
     requires { ⌜ Words (now cube) floats × Placed (now cube) floats × T (finite3 (tripleOf centre)) ⌝ }
     requires { ⌜ (axis < 3) × (i < 24) × (j < 24) × (k < 24) ⌝ }
-    ensures { λ r. ⌜ r ≡ classAt (now (cube .entry)) floats (tripleOf centre) axis low high i j k ⌝ }
+    ensures { λ r. ⌜ classIn r ≡ classAt (now (cube .entry)) floats (tripleOf centre) axis low high i j k ⌝ }
 {
     class_on(
         low,
@@ -98,45 +124,51 @@ fn class_at(
 }
 
 // The class of a triangle: by the first axis on which its corners are equal.
-fn class_of(cube: &[u32], floats: usize, centre: Triple, i: usize, j: usize, k: usize) -> usize
+fn class_of(cube: &[u32], floats: usize, centre: Triple, i: usize, j: usize, k: usize) -> Class
     requires { ⌜ Words (now cube) floats × Placed (now cube) floats × T (finite3 (tripleOf centre)) ⌝ }
     requires { ⌜ (i < 24) × (j < 24) × (k < 24) ⌝ }
-    ensures { λ r. ⌜ r ≡ classOf (now (cube .entry)) floats (tripleOf centre) i j k ⌝ }
+    ensures { λ r. ⌜ classIn r ≡ classOf (now (cube .entry)) floats (tripleOf centre) i j k ⌝ }
 {
     let by_x = class_at(cube, floats, centre, 0, 3, 2, i, j, k);
-    if by_x != 6 {
+    if is_class(by_x) {
         return by_x;
     }
     let by_y = class_at(cube, floats, centre, 1, 1, 0, i, j, k);
-    if by_y != 6 {
+    if is_class(by_y) {
         return by_y;
     }
     class_at(cube, floats, centre, 2, 5, 4, i, j, k)
 }
 
 // Whether both triangles of a face are classed to it.
-fn is_classed(cube: &[u32], floats: usize, centre: Triple, face: usize) -> bool
+fn is_classed(
+    cube: &[u32],
+    triangles: &[usize; 36],
+    floats: usize,
+    centre: Triple,
+    face: usize,
+) -> bool
     requires { ⌜ Words (now cube) floats × Placed (now cube) floats × T (finite3 (tripleOf centre)) ⌝ }
-    requires { ⌜ face < 6 ⌝ }
+    requires { ⌜ (face < 6) × (now triangles ≡ cubeTriangles) ⌝ }
     ensures { λ r. ⌜ r ≡ classed (now (cube .entry)) floats (tripleOf centre) face ⌝ }
 {
     let first = class_of(
         cube,
         floats,
         centre,
-        corner_of(face, 0),
-        corner_of(face, 1),
-        corner_of(face, 2),
+        corner_of(triangles, face, 0),
+        corner_of(triangles, face, 1),
+        corner_of(triangles, face, 2),
     );
     let second = class_of(
         cube,
         floats,
         centre,
-        corner_of(face, 3),
-        corner_of(face, 4),
-        corner_of(face, 5),
+        corner_of(triangles, face, 3),
+        corner_of(triangles, face, 4),
+        corner_of(triangles, face, 5),
     );
-    (first == face) & (second == face)
+    is_of(first, face) & is_of(second, face)
 }
 
 // Whether every position is finite.
@@ -161,10 +193,11 @@ pub fn is_cube(cube: &[u32], floats: usize, centre: Triple) -> bool
     if !is_placed(cube, floats) {
         return false;
     }
+    let triangles = triangle_words();
     let mut ok = true;
     let mut face: usize = 0;
     while face < 6 {
-        ok = ok & is_classed(cube, floats, centre, face);
+        ok = ok & is_classed(cube, &triangles, floats, centre, face);
         face += 1;
     }
     ok

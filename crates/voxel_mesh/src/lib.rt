@@ -86,12 +86,19 @@ const TRIANGLES: [usize; 36] = [
     21,
 ];
 
+// Them, to be lent: a constant that is read at an index is written out anew at each read.
+pub fn triangle_words() -> [usize; 36]
+    ensures { λ r. ⌜ r ≡ cubeTriangles ⌝ }
+{
+    TRIANGLES
+}
+
 // Corner i of a face's two triangles, three a triangle.
-pub fn corner_of(face: usize, i: usize) -> usize
-    requires { ⌜ (face < 6) × (i < 6) ⌝ }
+pub fn corner_of(triangles: &[usize; 36], face: usize, i: usize) -> usize
+    requires { ⌜ (face < 6) × (i < 6) × (now triangles ≡ cubeTriangles) ⌝ }
     ensures { λ r. ⌜ (r ≡ getD cubeTriangles (6 * face + i) 0) × (r < 24) ⌝ }
 {
-    TRIANGLES[6 * face + i]
+    triangles[6 * face + i]
 }
 
 // The words of a vertex.

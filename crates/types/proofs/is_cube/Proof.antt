@@ -18,10 +18,10 @@ use Rattle.types.proofs.is_cube.Statement.{statement}
 use Rattle.types.proofs.is_cube.Tie as tie
 
 abbrev Inv-loop : tie.InvT-loop
-Inv-loop cube floats centre ok₀ face₀ ok face = (face ≤ 6) × (ok ≡ every face (classed cube floats (tripleOf centre)))
+Inv-loop cube floats centre triangles ok₀ face₀ ok face = (face ≤ 6) × (ok ≡ every face (classed cube floats (tripleOf centre)))
 
 abbrev μ-loop : tie.MeasureT-loop
-μ-loop cube floats centre ok₀ face₀ ok face = 6 - face
+μ-loop cube floats centre triangles ok₀ face₀ ok face = 6 - face
 
 -- the first test was passed
 all-placed : (c : tie.Else1 Inv-loop μ-loop) →
@@ -42,9 +42,10 @@ loop-holds c = (omega arith, refl)
 
 is-classed-requires : tie.Need-is-classed-requires Inv-loop μ-loop
 is-classed-requires c κs =
-    let start = c .before .before .before .before .before in
-    let all = placed (now (start .args .cube)) (start .args .floats) (subst T (sym (all-placed (c .before .before))) tt) in
-    ((start .pre .0, all, start .pre .1), omega arith)
+    let made = c .before .before .before in
+    let start = made .before .before .before .before in
+    let all = placed (now (start .args .cube)) (start .args .floats) (subst T (sym (all-placed (made .before))) tt) in
+    ((start .pre .0, all, start .pre .1), (omega arith, made .triangle-words .ensures))
 
 add-face : tie.Need-add-face Inv-loop μ-loop
 add-face c = omega arith
@@ -54,11 +55,11 @@ loop-less c = omega arith
 
 loop-again : tie.Need-loop-again Inv-loop μ-loop
 unfolding every
-loop-again c = (omega arith, simp (add-one, ← c .before .before .loop .inv .1, c .is-classed .ensures))
+loop-again c = (omega arith, simp (add-one, ← c .before .before .before .loop .inv .1, c .is-classed .ensures))
 
 returns-2 : tie.Need-returns-2 Inv-loop μ-loop
 unfolding isCube
-returns-2 c = let e : c .before .loop .face ≡ 6 = omega arith in rw (all-placed (c .before .before)) (rw e at (c .before .loop .inv .1))
+returns-2 c = let e : c .before .loop .face ≡ 6 = omega arith in rw (all-placed (c .before .before .before)) (rw e at (c .before .loop .inv .1))
 
 pub is-cube-spec : {M : Type 1} → statement M
 is-cube-spec =
@@ -68,6 +69,7 @@ is-cube-spec =
     μ-loop
     is-placed-requires
     returns
+    (λ c κs. search needs)
     loop-holds
     is-classed-requires
     add-face

@@ -1,28 +1,20 @@
--- `voxel_mesh::corner_of` meets its contract: the table is the rule's constant. Assumes nothing.
-use mathlib.Core.Path.{refl}
+-- `voxel_mesh::corner_of` meets its contract. Assumes nothing.
+use mathlib.Core.Path.{_≡_, sym, ap, _∙_, subst}
+use mathlib.Core.List.{List}
+use Prim.Native.Nat.{ℕ, _+_, _*_, _<_}
 use native.Mathlib.Omega.{arith}
-use Prim.Native.Nat.{_+_, _*_}
-use Rattle.rules.specs.Lists.{each}
+use lib.ListN.{getD}
 use borrow.Author.Needs.{needs}
 use Rattle.voxel_mesh.proofs.Triangles.{word-below}
 use Rattle.voxel_mesh.proofs.corner_of.Statement.{statement}
 use Rattle.voxel_mesh.proofs.corner_of.Tie as tie
 
-mul-result : tie.Need-mul-result
-mul-result c = search needs
-
-add-result : tie.Need-add-result
-add-result c = search needs
-
-mul-result-2 : tie.Need-mul-result-2
-mul-result-2 c = search needs
-
-array-read-result : tie.Need-array-read-result
-array-read-result c = search needs
-
 returns : tie.Need-returns
-unfolding each
-returns c = (refl, word-below (6 * c .args .face + c .args .i) (omega (arith, c .pre .0, c .pre .1)))
+returns c =
+    let s = c .before in
+    let k = 6 * s .args .face + s .args .i in
+    let e = ap (λ (xs : List ℕ). getD xs k 0) (s .pre .2) in
+    (e, subst (λ (n : ℕ). n < 24) (sym e) (word-below k (omega (arith, s .pre .0, s .pre .1))))
 
 pub corner-of-spec : {M : Type 1} → statement M
-corner-of-spec = tie.close (tie.spec mul-result add-result mul-result-2 array-read-result returns)
+corner-of-spec = tie.close (tie.spec (λ c. search needs) (λ c. search needs) (λ c. search needs) (λ c. search needs) returns)
