@@ -1,5 +1,5 @@
 #!/usr/bin/env python3
-"""Writes what the program damage_run reads and must print: crates/damage_run/stdin and stdout.
+"""Writes a set that the program trials_run reads, crates/trials_run/data/damages, and what it must print for it.
 
 Good meshes are damaged, most of them one word at a time, and checked; every expected answer comes from trials.py's check, from document 01's
 sentences, and what 01 says of a kind of damage stands here as `sure`. Run it at the repository's root; stored.py says where it writes.
@@ -182,4 +182,4 @@ sure(set(answers) == {0, 2, 3, 4, 6, 7, 8, 9, 10, 11, 12, 15, 16})
 
 if __name__ == "__main__":
     print(sorted(answers.items()))
-    trials.write("damage_run", "damages")
+    trials.write("damages")

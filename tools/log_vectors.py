@@ -1,5 +1,5 @@
 #!/usr/bin/env python3
-"""Writes what the program log_run reads and must print: crates/log_run/stdin and stdout.
+"""Writes a set that the program trials_run reads, crates/trials_run/data/logs, and what it must print for it.
 
 Every expected word comes from trials.py, from document 01's sentences; where 01 itself works a case, its figures stand here, held by `sure`.
 Run it at the repository's root; stored.py says where it writes.
@@ -323,4 +323,4 @@ for outer in ((), (0,), (5, 3, 3)):
 sure(add(CULLING, 0, outer=(1, 6)) == (7, 1, 0, 0) and add(CULLING, 0, links=9) == (14, 0, 0, 0) and add(CULLING, 0, grid=1) == (2, 0, 0, 0))
 
 if __name__ == "__main__":
-    trials.write("log_run", "logs")
+    trials.write("logs")

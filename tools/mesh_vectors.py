@@ -1,5 +1,5 @@
 #!/usr/bin/env python3
-"""Writes what the program mesh_run reads and must print: crates/mesh_run/stdin and stdout.
+"""Writes a set that the program trials_run reads, crates/trials_run/data/meshes, and what it must print for it.
 
 Each case is a fresh mesh, into lists full of other words, and where it is made the check of it. Every expected word comes from plain_mesh.py and
 trials.py, from document 01's sentences; how many quads there are, or why there are none, stands here, held by `sure`.
@@ -206,4 +206,4 @@ for turn in range(32):
         sure(add(dict(m, lent=fit(m, quads - 1))) == (14, 0))
 
 if __name__ == "__main__":
-    trials.write("mesh_run", "meshes")
+    trials.write("meshes")

@@ -1,5 +1,5 @@
 #!/usr/bin/env python3
-"""Writes what the program rust_run reads and must print: crates/rust_run/stdin and stdout.
+"""Writes a set that the program trials_run reads, crates/trials_run/data/rust_answers, and what it must print for it.
 
 For each grid of oracle/vectors/rust_answers.bin two trials: `mesh_grid` by the algorithm the Rust used, into lists full of other words, and
 `update_mesh` with the Rust's log on what that left.
@@ -46,4 +46,4 @@ for m, log, fresh, updated in answers()[1]:
     sure(are_left(updated))
 
 if __name__ == "__main__":
-    trials.write("rust_run", "rust answers")
+    trials.write("rust answers")

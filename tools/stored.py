@@ -1,7 +1,7 @@
 """Where the makers of stored files write, and how the counts of the programs that read them are said.
 
-A maker that is run plainly writes crates/PROGRAM/stdin and stdout. With `--to DIR` it writes DIR/PROGRAM/stdin and stdout instead, so that
-what is stored can be held to what the maker makes today.
+A maker that is run plainly writes crates/PROGRAM/stdin and stdout, or one of several sets that a program reads: crates/PROGRAM/data/SET and its
+line of stdout. With `--to DIR` it writes below DIR/PROGRAM instead, so that what is stored can be held to what the maker makes today.
 """
 import argparse
 import os
@@ -23,17 +23,30 @@ def spoiled(words, at):
 
 def folder():
     options = argparse.ArgumentParser(description="Makes what a program reads and must print.")
-    options.add_argument("--to", metavar="DIR", default="crates", help="writes DIR/PROGRAM/stdin and stdout instead of crates/PROGRAM/..")
+    options.add_argument("--to", metavar="DIR", default="crates", help="writes DIR/PROGRAM/.. instead of crates/PROGRAM/..")
     return options.parse_args().to
+
+
+def put(program, name, data):
+    if len(data) > MOST_BYTES:
+        sys.exit("%s would read %d bytes" % (program, len(data)))
+    path = os.path.join(folder(), program, name)
+    os.makedirs(os.path.dirname(path), exist_ok=True)
+    with open(path, "wb") as out:
+        out.write(data)
 
 
 def keep(program, stdin, stdout=None):
     """Stores what a program reads, and what it must print where that is given."""
-    if len(stdin) > MOST_BYTES:
-        sys.exit("%s would read %d bytes" % (program, len(stdin)))
-    home = os.path.join(folder(), program)
-    os.makedirs(home, exist_ok=True)
-    for name, data in (("stdin", stdin), ("stdout", stdout)):
-        if data is not None:
-            with open(os.path.join(home, name), "wb") as out:
-                out.write(data if name == "stdin" else data.encode())
+    put(program, "stdin", stdin)
+    if stdout is not None:
+        put(program, "stdout", stdout.encode())
+
+
+def keep_set(program, name, data, line):
+    """Stores one of the sets that a program reads, and the line that it must print for it; the lines are in order."""
+    put(program, "data/" + name.replace(" ", "_"), data)
+    path = os.path.join(folder(), program, "stdout")
+    old = open(path, encoding="utf-8").readlines() if os.path.exists(path) else []
+    others = [said for said in old if not said.startswith(name + " ")]
+    put(program, "stdout", "".join(sorted(others + [line])).encode())

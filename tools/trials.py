@@ -1,15 +1,15 @@
-"""Document 01's update, in both modes of document 02's Q-2, and check in plain Python, and the records that crates/trials reads.
+"""Document 01's update, in both modes of document 02's Q-2, and check in plain Python, and the records that crates/trials_run reads.
 
 A mesh is four lists of words. An update takes them for a list of quads (cell, face, words), works on that as 01's sentences say, and lays it
 out again. No code of the crates is used; cubes, fresh meshing and the types' tests are those of cube_vectors.py and plain_mesh.py.
-The record format stands at the head of crates/trials/src/lib.rt.
+The record format stands at the head of crates/trials_run/src/main.rt.
 """
 import struct
 
 import plain_mesh
 from cube_vectors import types_answer
 from plain_mesh import NONE, PLENTY, STEPS, call, faces, floats, mesh
-from stored import counted, keep, spoiled
+from stored import counted, keep_set, spoiled
 from sure import sure
 
 NAIVE, CULLING, UPDATE, CHECK, UPDATE_ITSELF = range(5)
@@ -230,7 +230,7 @@ def patches(old, new):
 
 
 class Trials:
-    """Records for one program. After a trial `image` is what it left, and `told` its answer."""
+    """Records of one set. After a trial `image` is what it left, and `told` its answer."""
 
     def __init__(self):
         self.records, self.tried = [], 0
@@ -295,11 +295,11 @@ class Trials:
         self.tried -= 1
         return self.records.pop()
 
-    def write(self, program, name):
+    def write(self, name):
         purposely_wrong = add_wrong(self)
         data = b"".join(struct.pack("<%dI" % (len(r) + 1), len(r), *r) for r in self.records)
         told = counted(name, self.tried, purposely_wrong)
-        keep(program, data, told)
+        keep_set("trials_run", name, data, told)
         print(len(data), "bytes;", told, end="")
 
 

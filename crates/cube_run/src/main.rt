@@ -1,6 +1,7 @@
 // Runs the vectors that tools/cube_vectors.py wrote: cubes, the types' tests and moved positions, each held to its expected words.
 use answers::Verdict;
 use floats::Triple;
+use libc::STDIN_FILENO;
 use types::types_verdict;
 use vectors::Count;
 use vectors::empty;
@@ -255,7 +256,7 @@ fn run(
     };
     let mut turn: usize = 0;
     while turn < 4096 {
-        let n = read_record(bytes, words);
+        let n = read_record(STDIN_FILENO, bytes, words);
         if n == 0 {
             return tally;
         }

@@ -1,5 +1,4 @@
-// What the programs share that read records of words from standard input and print how many were right.
-use libc::STDIN_FILENO;
+// What the programs share that read records of words and print how many were right.
 use libc::STDOUT_FILENO;
 use std::num::wrapping_add_u64;
 ghost use mathlib.Core.Path.{_≡_};
@@ -54,21 +53,21 @@ fn decode(bytes: &[u8], words: &mut [u32])
     }
 }
 
-fn read_words(bytes: &mut [u8], words: &mut [u32]) -> bool
+fn read_words(file: i32, bytes: &mut [u8], words: &mut [u32]) -> bool
     requires { ⌜ length (now bytes) ≡ 4 * length (now words) ⌝ }
 {
-    let got = io::read_full(STDIN_FILENO, bytes);
+    let got = io::read_full(file, bytes);
     decode(bytes, words);
     got == bytes.len()
 }
 
-// Reads the next record, and answers how many words it has: none at the end.
-pub fn read_record(bytes: &mut [u8], words: &mut [u32]) -> usize
+// Reads the next record of a file, and answers how many words it has: none at the end.
+pub fn read_record(file: i32, bytes: &mut [u8], words: &mut [u32]) -> usize
     requires { ⌜ length (now bytes) ≡ 4 * length (now words) ⌝ }
     ensures { λ r. ⌜ r ≤ length (now (words .entry)) ⌝ }
 {
     let mut head = [0u8; 4];
-    if io::read_full(STDIN_FILENO, &mut head) != 4 {
+    if io::read_full(file, &mut head) != 4 {
         return 0;
     }
     let count = size(word_at(&head, 0));
@@ -76,7 +75,7 @@ pub fn read_record(bytes: &mut [u8], words: &mut [u32]) -> usize
         return 0;
     }
     let whole = 4 * count;
-    if read_words(&mut bytes[..whole], &mut words[..count]) {
+    if read_words(file, &mut bytes[..whole], &mut words[..count]) {
         return count;
     }
     0
@@ -105,12 +104,11 @@ pub fn empty(room: &mut [u32]) {
     }
 }
 
-// The lowest bytes of the words.
-pub fn narrow(words: &[u32], bytes: &mut [u8])
-    requires { ⌜ length (now bytes) ≤ length (now words) ⌝ }
-{
+// The lowest bytes of the words, as many as there is room for.
+pub fn narrow(words: &[u32], bytes: &mut [u8]) {
+    let n = least(words.len(), bytes.len());
     let mut i: usize = 0;
-    while i < bytes.len() {
+    while i < n {
         bytes[i] = (words[i] % 256) as u8;
         i += 1;
     }

@@ -13,6 +13,7 @@ use Rattle.lines.proofs.Writing.{wrote-as, end-inside}
 use Rattle.lines.proofs.Lining.{faces-room}
 use Rattle.working.specs.Steps.{sceneWith, workedOn}
 use Rattle.chunk.proofs.Rooms.{first-filled, first-wrote}
+use lib.Dec.{lit≤}
 use borrow.Author.Needs.{needs}
 use Rattle.chunk.proofs.answer_built.Statement.{statement}
 use Rattle.chunk.proofs.answer_built.Tie as tie
@@ -27,25 +28,25 @@ few-covers : (c : tie.After-covers-of) → c .before .before .before .before .be
 few-covers c = omega (arith, few-types (c .before .before .before .before .before), c .covers-of .kept .1 .0)
 
 read-work-requires : tie.Need-read-work-requires
-read-work-requires c κs = search needs
+read-work-requires c κs = c .before .before .before .pre .0
 
 slice-aggregate-kinds-of : tie.Need-slice-aggregate-kinds-of
 slice-aggregate-kinds-of c = search needs
 
 kinds-of-requires : tie.Need-kinds-of-requires
-kinds-of-requires c κs = search needs
+kinds-of-requires c κs = let start = c .before .before .before .before .before in (start .pre .0, start .pre .0 .types)
 
 slice-aggregate-covers-of : tie.Need-slice-aggregate-covers-of
 slice-aggregate-covers-of c = search needs
 
 covers-of-requires : tie.Need-covers-of-requires
-covers-of-requires c κs = search needs
+covers-of-requires c κs = let start = c .before .before .before .before .before .before .before .before in (start .pre .0, start .pre .0 .types)
 
 slice-aggregate-outer-of : tie.Need-slice-aggregate-outer-of
 slice-aggregate-outer-of c = search needs
 
 outer-of-requires : tie.Need-outer-of-requires
-outer-of-requires c κs = search needs
+outer-of-requires c κs = lit≤ tt
 
 array-share-prefix-outer : tie.Need-array-share-prefix-outer
 array-share-prefix-outer c = end-inside (c .before .outer-of .ensures) (faces-room _ 6 _ (omega arith) (omega arith))
@@ -67,7 +68,7 @@ slice-aggregate-answer-typed-3 : tie.Need-slice-aggregate-answer-typed-3
 slice-aggregate-answer-typed-3 c = sym (length-take-le _ _ (few-covers (c .before .before .before .before .before .before .before)))
 
 answer-typed-requires : tie.Need-answer-typed-requires
-answer-typed-requires c κs = search needs
+answer-typed-requires c κs = c .before .before .before .before .before .before .before .before .before .before .before .before .before .before .before .before .before .pre
 
 same-length : tie.Need-same-length
 same-length c = search needs

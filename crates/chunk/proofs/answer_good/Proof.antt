@@ -31,7 +31,7 @@ empty-room-requires : tie.Need-empty-room-requires
 empty-room-requires c κs = search needs
 
 registry-words-requires : tie.Need-registry-words-requires
-registry-words-requires c κs = search needs
+registry-words-requires c κs = c .before .before .before .pre .0
 
 array-borrow-prefix-registry : tie.Need-array-borrow-prefix-registry
 array-borrow-prefix-registry c = search needs
@@ -65,7 +65,7 @@ slice-aggregate-answer-built : tie.Need-slice-aggregate-answer-built
 slice-aggregate-answer-built c = let made = c .before .before .before .before in sym (ap length (back-first made) ∙ back made)
 
 answer-built-requires : tie.Need-answer-built-requires
-answer-built-requires c κs = search needs
+answer-built-requires c κs = c .before .before .before .before .before .before .before .before .before .before .before .pre
 
 same-length-2 : tie.Need-same-length-2
 same-length-2 c = search needs

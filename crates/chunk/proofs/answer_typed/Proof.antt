@@ -82,10 +82,10 @@ empty-room-requires-4 : tie.Need-empty-room-requires-4
 empty-room-requires-4 c κs = search needs
 
 vertex-words-requires : tie.Need-vertex-words-requires
-vertex-words-requires c κs = search needs
+vertex-words-requires c κs = c .before .before .before .before .before .before .before .before .before .before .pre .0
 
 slot-count-requires : tie.Need-slot-count-requires
-slot-count-requires c κs = search needs
+slot-count-requires c κs = c .before .before .before .before .before .before .before .before .before .before .before .pre .0
 
 array-borrow-prefix-vertices : tie.Need-array-borrow-prefix-vertices
 array-borrow-prefix-vertices c = search needs
@@ -107,14 +107,14 @@ slice-aggregate-work-lists-3 : tie.Need-slice-aggregate-work-lists-3
 slice-aggregate-work-lists-3 c = room-lent (c .before .before .before .before .before .before .empty-room3 .ensures) _ (omega arith)
 
 array-borrow-prefix-slots : tie.Need-array-borrow-prefix-slots
-array-borrow-prefix-slots c = search needs
+array-borrow-prefix-slots c = omega (arith, c .before .before .before .slot-count .ensures .1)
 
 slice-aggregate-work-lists-4 : tie.Need-slice-aggregate-work-lists-4
 slice-aggregate-work-lists-4 c =
     let six = c .before .before .before .before in room-lent (six .before .before .empty-room4 .ensures) _ (omega (arith, six .slot-count .ensures .1))
 
 work-lists-requires : tie.Need-work-lists-requires
-work-lists-requires c κs = search needs
+work-lists-requires c κs = c .before .before .before .before .before .before .before .before .before .before .before .before .before .before .before .before .pre .0
 
 array-share-prefix-links : tie.Need-array-share-prefix-links
 array-share-prefix-links c = part-inside ((exit (worked c)) .links) _ (back (worked c))

@@ -1,12 +1,11 @@
 -- `chunk::slot_count` meets its contract. Assumes nothing.
 use native.Mathlib.Omega.{arith}
 use Rattle.chunk.proofs.Rooms.{slots-are}
-use borrow.Author.Needs.{needs}
 use Rattle.chunk.proofs.slot_count.Statement.{statement}
 use Rattle.chunk.proofs.slot_count.Tie as tie
 
 grid-of-requires : tie.Need-grid-of-requires
-grid-of-requires c κs = search needs
+grid-of-requires c κs = c .before .pre
 
 mul-result : tie.Need-mul-result
 mul-result c = omega (arith, slots-are _ (c .before .before .pre) (c .grid-of .ensures) .1)

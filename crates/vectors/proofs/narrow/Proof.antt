@@ -8,13 +8,16 @@ use Rattle.vectors.proofs.narrow.Statement.{statement}
 use Rattle.vectors.proofs.narrow.Tie as tie
 
 abbrev Inv-loop : tie.InvT-loop
-Inv-loop words bytes₀ i₀ bytes i = (length bytes ≡ length bytes₀) × (i ≤ length bytes)
+Inv-loop words bytes₀ n i₀ bytes i = (length bytes ≡ length bytes₀) × (i ≤ n) × (n ≤ length words) × (n ≤ length bytes₀)
 
 abbrev μ-loop : tie.MeasureT-loop
-μ-loop words bytes₀ i₀ bytes i = length bytes - i
+μ-loop words bytes₀ n i₀ bytes i = n - i
+
+least-requires : tie.Need-least-requires Inv-loop μ-loop
+least-requires c κs = search needs
 
 loop-holds : tie.Need-loop-holds Inv-loop μ-loop
-loop-holds c = (refl, omega arith)
+loop-holds c = search needs
 
 mul-bytes : tie.Need-mul-bytes Inv-loop μ-loop
 mul-bytes c = omega arith
@@ -32,10 +35,10 @@ add-i : tie.Need-add-i Inv-loop μ-loop
 add-i c = omega arith
 
 loop-less : tie.Need-loop-less Inv-loop μ-loop
-loop-less c = simp length-set (omega arith)
+loop-less c = omega arith
 
 loop-again : tie.Need-loop-again Inv-loop μ-loop
-loop-again c = (simp length-set (c .before .before .loop .inv .0), simp length-set (omega arith))
+loop-again c = simp length-set (search needs)
 
 same-length : tie.Need-same-length Inv-loop μ-loop
 same-length c = c .before .loop .inv .0
@@ -49,6 +52,7 @@ narrow-spec =
     (tie.spec
     Inv-loop
     μ-loop
+    least-requires
     loop-holds
     mul-bytes
     shared-slice-read-bytes

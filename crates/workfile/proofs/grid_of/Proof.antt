@@ -1,12 +1,11 @@
 -- `workfile::grid_of` meets its contract. Assumes nothing.
-use borrow.Author.Needs.{needs}
 use denote.Ref.{now}
 use Rattle.workfile.proofs.Files.{grid-first, log-inside, grid-part}
 use Rattle.workfile.proofs.grid_of.Statement.{statement}
 use Rattle.workfile.proofs.grid_of.Tie as tie
 
 read-work-requires : tie.Need-read-work-requires
-read-work-requires c κs = search needs
+read-work-requires c κs = c .before .pre
 
 sub-result : tie.Need-sub-result
 sub-result c = grid-first (now (c .before .before .args .file)) (c .before .before .pre) (c .read-work .ensures)

@@ -6,7 +6,7 @@ use Rattle.workfile.proofs.log_of.Statement.{statement}
 use Rattle.workfile.proofs.log_of.Tie as tie
 
 read-work-requires : tie.Need-read-work-requires
-read-work-requires c κs = search needs
+read-work-requires c κs = c .before .pre
 
 sub-end : tie.Need-sub-end
 sub-end c = search needs

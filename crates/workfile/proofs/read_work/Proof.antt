@@ -1,61 +1,62 @@
 -- `workfile::read_work` meets its contract. Assumes nothing.
 use denote.Ref.{now}
 use native.Mathlib.Omega.{arith}
+use lib.Dec.{lit<}
 use Rattle.workfile.proofs.Files.{work-read}
 use borrow.Author.Needs.{needs}
 use Rattle.workfile.proofs.read_work.Statement.{statement}
 use Rattle.workfile.proofs.read_work.Tie as tie
 
 word-requires : tie.Need-word-requires
-word-requires c κs = search needs
+word-requires c κs = (c .before .pre .least, lit< tt)
 
 cast-types : tie.Need-cast-types
 cast-types c = search needs
 
 cell-count-requires : tie.Need-cell-count-requires
-cell-count-requires c κs = search needs
+cell-count-requires c κs = c .before .before .pre .least
 
 dims-of-requires : tie.Need-dims-of-requires
-dims-of-requires c κs = search needs
+dims-of-requires c κs = c .before .before .before .pre .least
 
 triple-at-requires : tie.Need-triple-at-requires
-triple-at-requires c κs = search needs
+triple-at-requires c κs = (c .before .before .before .before .pre .least, lit< tt)
 
 triple-at-requires-2 : tie.Need-triple-at-requires-2
-triple-at-requires-2 c κs = search needs
+triple-at-requires-2 c κs = (c .before .before .before .before .before .pre .least, lit< tt)
 
 mul-grid-start : tie.Need-mul-grid-start
 mul-grid-start c = search needs
 
 word-requires-2 : tie.Need-word-requires-2
-word-requires-2 c κs = search needs
+word-requires-2 c κs = (c .before .before .before .before .before .before .pre .least, lit< tt)
 
 word-requires-3 : tie.Need-word-requires-3
-word-requires-3 c κs = search needs
+word-requires-3 c κs = (c .before .before .before .before .before .before .before .pre .least, lit< tt)
 
 cast-t11 : tie.Need-cast-t11
 cast-t11 c = search needs
 
 word-requires-4 : tie.Need-word-requires-4
-word-requires-4 c κs = search needs
+word-requires-4 c κs = (c .before .before .before .before .before .before .before .before .pre .least, lit< tt)
 
 word-requires-5 : tie.Need-word-requires-5
-word-requires-5 c κs = search needs
+word-requires-5 c κs = (c .before .before .before .before .before .before .before .before .before .pre .least, lit< tt)
 
 word-requires-6 : tie.Need-word-requires-6
-word-requires-6 c κs = search needs
+word-requires-6 c κs = (c .before .before .before .before .before .before .before .before .before .before .pre .least, lit< tt)
 
 word-requires-7 : tie.Need-word-requires-7
-word-requires-7 c κs = search needs
+word-requires-7 c κs = (c .before .before .before .before .before .before .before .before .before .before .before .pre .least, lit< tt)
 
 word-requires-8 : tie.Need-word-requires-8
-word-requires-8 c κs = search needs
+word-requires-8 c κs = (c .before .before .before .before .before .before .before .before .before .before .before .before .pre .least, lit< tt)
 
 word-requires-9 : tie.Need-word-requires-9
-word-requires-9 c κs = search needs
+word-requires-9 c κs = (c .before .before .before .before .before .before .before .before .before .before .before .before .before .pre .least, lit< tt)
 
 word-requires-10 : tie.Need-word-requires-10
-word-requires-10 c κs = search needs
+word-requires-10 c κs = (c .before .before .before .before .before .before .before .before .before .before .before .before .before .before .pre .least, lit< tt)
 
 add-t21 : tie.Need-add-t21
 add-t21 c = omega (arith, c .before .before .before .before .before .before .before .before .before .before .before .before .cell-count .ensures .1)

@@ -19,7 +19,7 @@ word-requires-3 : tie.Need-word-requires-3
 word-requires-3 c κs = search needs
 
 returns : tie.Need-returns
-returns c = cc
+returns c = λ i. record { x = c .before .before .word .ensures i; y = c .before .word2 .ensures i; z = c .word3 .ensures i }
 
 pub triple-at-spec : {M : Type 1} → statement M
 triple-at-spec =

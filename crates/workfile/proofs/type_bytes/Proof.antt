@@ -4,7 +4,6 @@ use Prim.Native.Nat.{_+_, _*_, _-_, _≤_, _<_}
 use denote.Ref.{now}
 use native.Mathlib.Omega.{arith}
 use lib.ListN.{length}
-use borrow.Author.Needs.{needs}
 use native.Mathlib.Nat.{le-trans, lt-of-lt-of-le}
 use Rattle.rules.specs.Program.{typeCount, typeByte}
 use Rattle.rules.specs.Lists.{filled}
@@ -32,7 +31,7 @@ below : (c : tie.In-loop Inv-loop μ-loop) → c .before .loop .t < length (now 
 below c = lt-of-lt-of-le (c .loop-test .taken) (rw (types-in (c .before)) (c .before .before .before .before .before .pre .2))
 
 read-work-requires : tie.Need-read-work-requires Inv-loop μ-loop
-read-work-requires c κs = search needs
+read-work-requires c κs = c .before .before .pre .0
 
 loop-holds : tie.Need-loop-holds Inv-loop μ-loop
 loop-holds c = (omega arith, filled-none _ _)

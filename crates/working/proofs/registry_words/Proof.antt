@@ -2,15 +2,14 @@
 use native.Mathlib.Omega.{arith}
 use Rattle.workfile.proofs.Files.{types-are}
 use Rattle.working.proofs.Words.{registry-is}
-use borrow.Author.Needs.{needs}
 use Rattle.working.proofs.registry_words.Statement.{statement}
 use Rattle.working.proofs.registry_words.Tie as tie
 
 cube-words-requires : tie.Need-cube-words-requires
-cube-words-requires c κs = search needs
+cube-words-requires c κs = c .before .pre
 
 read-work-requires : tie.Need-read-work-requires
-read-work-requires c κs = search needs
+read-work-requires c κs = c .before .before .pre
 
 mul-result : tie.Need-mul-result
 mul-result c =

@@ -1,12 +1,11 @@
 -- `working::shape_in` meets its contract. Assumes nothing.
 use mathlib.Core.Path.{ap}
 use Rattle.working.specs.Steps.{shapeBy}
-use borrow.Author.Needs.{needs}
 use Rattle.working.proofs.shape_in.Statement.{statement}
 use Rattle.working.proofs.shape_in.Tie as tie
 
 read-work-requires : tie.Need-read-work-requires
-read-work-requires c κs = search needs
+read-work-requires c κs = c .before .pre
 
 returns : tie.Need-returns
 returns c = ap shapeBy (c .before .before .read-work .ensures)

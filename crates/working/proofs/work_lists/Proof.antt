@@ -50,16 +50,16 @@ meshed-so c =
     ∙ (λ i. meshGrid (sceneOf (scened m .scene-in .ensures i) (now (a .kinds)) (now (a .covers)) (now (a .cubes))) (now (a .outer)) (grid .grid-of .ensures i) (culling i) (lists t)))
 
 scene-in-requires : tie.Need-scene-in-requires
-scene-in-requires c κs = search needs
+scene-in-requires c κs = c .before .before .before .before .before .before .before .before .before .pre
 
 read-work-requires : tie.Need-read-work-requires
-read-work-requires c κs = search needs
+read-work-requires c κs = c .before .before .before .before .before .before .before .before .before .before .pre
 
 algorithm-of-requires : tie.Need-algorithm-of-requires
 algorithm-of-requires c κs = search needs
 
 grid-of-requires : tie.Need-grid-of-requires
-grid-of-requires c κs = search needs
+grid-of-requires c κs = c .before .before .before .before .before .before .before .before .before .before .before .before .pre
 
 mesh-grid-requires : tie.Need-mesh-grid-requires
 mesh-grid-requires c κs = search needs
