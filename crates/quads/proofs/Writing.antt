@@ -23,7 +23,7 @@ use Rattle.face.proofs.Laws.{number-below}
 use Rattle.vav.specs.Rows.{put}
 use Rattle.vav.proofs.Laws.{length-put, put-before, put-within, put-past, put-none}
 pub use Rattle.vav.proofs.Laws.{put-next, put-whole, stored}
-use Rattle.quads.specs.Quads.{four, wordAt, vertexWord, vertexWords, HasFour, Drawable}
+use Rattle.quads.specs.Quads.{four, wordAt, vertexWord, vertexWords, HasFour, StandsTo, Drawable}
 
 -- ---- corners
 
@@ -192,15 +192,21 @@ module _ (cube : List ℕ) (n : ℕ) (d a : Triple) (v : ℕ) where
         let start : from + 0 ≡ from = omega arith in
         among Right 0 j (omega arith) u (ap (λ (i : ℕ). getD xs i 0) start ∙ x) y z w
 
-    pub vertex-right : 8 ≤ n → n ≤ 12 → getD xs from 0 ≡ moved 0 → getD xs (from + 1) 0 ≡ moved 1 → getD xs (from + 2) 0 ≡ moved 2
-        → getD xs (from + 3) 0 ≡ wordAt cube n v 3 → HasFour xs from (wordAt cube n v) 4 → HasFour xs from (wordAt cube n v) (n - 4)
-        → (k : ℕ) → k < n → Right k
-    vertex-right least most x y z w next last k h = go (decLt k 4) (decLt k 8)
+    pub eight-right : getD xs from 0 ≡ moved 0 → getD xs (from + 1) 0 ≡ moved 1 → getD xs (from + 2) 0 ≡ moved 2
+        → getD xs (from + 3) 0 ≡ wordAt cube n v 3 → HasFour xs from (wordAt cube n v) 4 → StandsTo 8 xs from (vertexWord cube n d a v)
+    eight-right x y z w next k h = go (decLt k 4)
       where
-        go : Dec (k < 4) → Dec (k < 8) → Right k
-        go (yes p) q = head-right x y z w k p
-        go (no p) (yes q) = four-right 4 (omega arith) next k (omega arith) (omega arith)
-        go (no p) (no q) = four-right (n - 4) (omega arith) last k (omega arith) (omega arith)
+        go : Dec (k < 4) → Right k
+        go (yes p) = head-right x y z w k p
+        go (no p) = four-right 4 (omega arith) next k (omega arith) (omega arith)
+
+    pub vertex-right : 8 ≤ n → n ≤ 12 → StandsTo 8 xs from (vertexWord cube n d a v) → HasFour xs from (wordAt cube n v) (n - 4)
+        → StandsTo n xs from (vertexWord cube n d a v)
+    vertex-right least most eight last k h = go (decLt k 8)
+      where
+        go : Dec (k < 8) → Right k
+        go (yes p) = eight k p
+        go (no p) = four-right (n - 4) (omega arith) last k (omega arith) (omega arith)
 
 -- ---- a quad
 
@@ -268,7 +274,7 @@ module _ (cube : List ℕ) (n : ℕ) (d : Triple) (f : ℕ) (a : Triple) where
   -- four vertices that stand in a list one after the other
   module _ (xs : List ℕ) where
     abbrev Stands : ℕ → ℕ → Type 0
-    Stands at v = (k : ℕ) → k < n → getD xs (at + k) 0 ≡ vertexWord cube n d a v k
+    Stands at v = StandsTo n xs at (vertexWord cube n d a v)
 
     abbrev Same : ℕ → Type 0
     Same k = getD xs k 0 ≡ getD (quadWords cube n d f a) k 0

@@ -16,7 +16,7 @@ ghost use Rattle.util.specs.Grid as grid;
 ghost use Rattle.floats.specs.Triples.{tripleOf};
 ghost use Rattle.types.specs.Tests.{Words};
 ghost use Rattle.vav.specs.Rows.{put};
-ghost use Rattle.quads.specs.Quads.{four, wordAt, vertexWord, vertexWords, HasFour, Drawable};
+ghost use Rattle.quads.specs.Quads.{four, wordAt, vertexWord, vertexWords, HasFour, StandsTo, Drawable};
 
 // The order in which a quad takes the four vertices of its face.
 const ORDER: [usize; 4] = [0, 1, 3, 2];
@@ -125,8 +125,8 @@ fn has_four(quad: &[u32], from: usize, cube: &[u32], floats: usize, vertex: usiz
         & (quad[at + 3] == word_of(cube, floats, vertex, k + 3))
 }
 
-// Whether a vertex of a cube stands at `from`, its position moved. No test leaves early, so that four words are compared at once.
-fn has_vertex(
+// Whether the first eight words of a vertex of a cube stand at `from`, its position moved.
+fn has_eight(
     quad: &[u32],
     from: usize,
     cube: &[u32],
@@ -136,7 +136,7 @@ fn has_vertex(
     d: Triple,
 ) -> bool
     requires { ⌜ Drawable (now cube) floats (grid.tripleOf at) (tripleOf d) × (vertex < 24) × (from + floats ≤ length (now quad)) ⌝ }
-    ensures { λ r. ⌜ (r ≡ true → (k : ℕ) → k < floats → getD (now (quad .entry)) (from + k) 0 ≡ vertexWord (now (cube .entry)) floats (tripleOf d) (grid.tripleOf at) vertex k) ⌝ }
+    ensures { λ r. ⌜ (r ≡ true → StandsTo 8 (now (quad .entry)) from (vertexWord (now (cube .entry)) floats (tripleOf d) (grid.tripleOf at) vertex)) ⌝ }
 {
     let x = moved_word(word_of(cube, floats, vertex, 0), at.x, d.x);
     let y = moved_word(word_of(cube, floats, vertex, 1), at.y, d.y);
@@ -147,10 +147,10 @@ fn has_vertex(
         & (quad[from + 2] == z)
         & (quad[from + 3] == after)
         & has_four(quad, from, cube, floats, vertex, 4)
-        & has_four(quad, from, cube, floats, vertex, floats - 4)
 }
 
-// How many vertices of a quad are right without a doubt: all four, or none.
+// How many vertices of a quad are right without a doubt: all four, or none. Only all words together are branched on, so that the
+// compiler compares several at once.
 pub fn sure_vertices(
     quad: &[u32],
     cube: &[u32],
@@ -163,10 +163,20 @@ pub fn sure_vertices(
     ensures { λ r. ⌜ (r ≤ 4) × ((k : ℕ) → k < floats * r → getD (now (quad .entry)) k 0 ≡ getD (quadWords (now (cube .entry)) floats (tripleOf d) (number face) (grid.tripleOf at)) k 0) ⌝ }
 {
     let first = 4 * (face.number() as usize);
-    if has_vertex(quad, 0, cube, floats, first, at, d)
-        & has_vertex(quad, floats, cube, floats, first + 1, at, d)
-        & has_vertex(quad, 2 * floats, cube, floats, first + 3, at, d)
-        & has_vertex(quad, 3 * floats, cube, floats, first + 2, at, d)
+    if !(has_eight(quad, 0, cube, floats, first, at, d)
+        & has_eight(quad, floats, cube, floats, first + 1, at, d)
+        & has_eight(quad, 2 * floats, cube, floats, first + 3, at, d)
+        & has_eight(quad, 3 * floats, cube, floats, first + 2, at, d)) {
+        return 0;
+    }
+    if floats == 8 {
+        return 4;
+    }
+    let k = floats - 4;
+    if has_four(quad, 0, cube, floats, first, k)
+        & has_four(quad, floats, cube, floats, first + 1, k)
+        & has_four(quad, 2 * floats, cube, floats, first + 3, k)
+        & has_four(quad, 3 * floats, cube, floats, first + 2, k)
     {
         4
     } else {

@@ -1,4 +1,4 @@
--- `quads::has_vertex` meets its contract: its first four words, the next four, and the last four. Assumes nothing.
+-- `quads::has_eight` meets its contract: its first four words and the next four. Assumes nothing.
 use mathlib.Core.Path.{_≡_, sym, ap, _∙_}
 use Prim.Native.Nat.{ℕ}
 use native.Mathlib.Omega.{arith}
@@ -8,9 +8,9 @@ use Rattle.rules.proofs.ListLaws.{and-true}
 use Rattle.rules.specs.Types.{movedWord}
 use Rattle.util.specs.Grid as grid
 use Rattle.floats.specs.Triples.{tripleOf}
-use Rattle.quads.proofs.Writing.{finite-x, finite-y, finite-z, vertex-right}
-use Rattle.quads.proofs.has_vertex.Statement.{statement}
-use Rattle.quads.proofs.has_vertex.Tie as tie
+use Rattle.quads.proofs.Writing.{finite-x, finite-y, finite-z, eight-right}
+use Rattle.quads.proofs.has_eight.Statement.{statement}
+use Rattle.quads.proofs.has_eight.Tie as tie
 
 word-of-requires : tie.Need-word-of-requires
 word-of-requires c κs = search needs
@@ -75,35 +75,27 @@ shared-slice-read-result-4 c = search needs
 has-four-requires : tie.Need-has-four-requires
 has-four-requires c κs = search needs
 
-sub-has-four : tie.Need-sub-has-four
-sub-has-four c = search needs
-
-has-four-requires-2 : tie.Need-has-four-requires-2
-has-four-requires-2 c κs = search needs
-
 returns : tie.Need-returns
 returns c = λ e.
-    let after = c .before .before .before .before .before .before in
+    let after = c .before .before .before .before .before in
     let third = after .before in
     let second = third .before .before in
     let first = second .before .before in
     let t = first .before .before .before .before in
     let g = t .args in
-    let all = and-true _ _ e in
-    let five = and-true _ _ (all .0) in
+    let five = and-true _ _ e in
     let four = and-true _ _ (five .0) in
     let three = and-true _ _ (four .0) in
     let two = and-true _ _ (three .0) in
-    vertex-right (g .cube .now) (g .floats) (tripleOf (g .d)) (grid.tripleOf (g .at)) (g .vertex) (g .quad .now) (g .from)
-    (t .pre .0 .words .least) (t .pre .0 .words .most)
+    eight-right (g .cube .now) (g .floats) (tripleOf (g .d)) (grid.tripleOf (g .at)) (g .vertex) (g .quad .now) (g .from)
     (eqb-true _ _ (two .0) ∙ first .moved-word .ensures ∙ ap (λ (w : ℕ). movedWord w (g .at .x) (g .d .x)) (first .before .word-of .ensures))
     (eqb-true _ _ (two .1) ∙ second .moved-word2 .ensures ∙ ap (λ (w : ℕ). movedWord w (g .at .y) (g .d .y)) (second .before .word-of2 .ensures))
     (eqb-true _ _ (three .1) ∙ third .moved-word3 .ensures ∙ ap (λ (w : ℕ). movedWord w (g .at .z) (g .d .z)) (third .before .word-of3 .ensures))
     (eqb-true _ _ (four .1) ∙ after .word-of4 .ensures)
-    (c .before .has-four .ensures (five .1)) (c .has-four2 .ensures (all .1))
+    (c .has-four .ensures (five .1))
 
-pub has-vertex-spec : {M : Type 1} → statement M
-has-vertex-spec =
+pub has-eight-spec : {M : Type 1} → statement M
+has-eight-spec =
     tie.close
     (tie.spec
     word-of-requires
@@ -125,6 +117,4 @@ has-vertex-spec =
     mul-result-4
     shared-slice-read-result-4
     has-four-requires
-    sub-has-four
-    has-four-requires-2
     returns)
