@@ -27,6 +27,7 @@ use Rattle.voxel_mesh.proofs.Shapes.{row-within}
 use Rattle.rules.proofs.Rows.{length-lent, getD-each}
 use Rattle.terms.specs.declared.Scene.{Scene}
 use Rattle.quads.specs.Quads.{Drawable}
+use Rattle.quads.proofs.Writing.{word-at}
 use Rattle.checking.specs.Quads.{Comparable, cubeAt, quadAt}
 
 -- ---- the face of a code
@@ -45,22 +46,6 @@ code-none k h e =
     let is : Found.Face (below .0) ≡ Found.Nothing = sym (below .1) ∙ (rw (le-ltb 5 k h) at e) in
     let z : _≡_ {A = ℕ} 0 1 = cc in
     omega arith
-
--- ---- the words of a quad
-
-module _ (cube : List ℕ) (n : ℕ) (d : Triple) (f : ℕ) (a : Triple) where
-  abbrev vertex : ℕ → List ℕ
-  vertex i = table n (quadWord cube n d f a i)
-
-  pub length-words : length (quadWords cube n d f a) ≡ 4 * n
-  unfolding quadWords
-  length-words = length-each n 4 0 vertex (λ i. length-table (quadWord cube n d f a i) n)
-
-  pub word-at : (i k : ℕ) → i < 4 → k < n → getD (quadWords cube n d f a) (n * i + k) 0 ≡ quadWord cube n d f a i k
-  unfolding quadWords
-  word-at i k I K =
-      getD-each n vertex (λ i. length-table (quadWord cube n d f a i) n) 4 0 i k I K
-      ∙ ap (λ (j : ℕ). getD (vertex j) k 0) (zero-add i) ∙ getD-table (quadWord cube n d f a i) n k 0 K
 
 -- ---- two lists that agree up to a place
 
@@ -88,6 +73,10 @@ module _ (scene : Scene) (n : ℕ) (g cubes : List ℕ) (link : ℕ) where
     pub type : t ≡ typeAt g (cellIn link)
     pub face : f ≡ code (codeIn link)
     pub at : a ≡ coordinates (sizeOf (scene .dims)) (cellIn link)
+
+  pub named-quad : (t f : ℕ) (a : Triple) → Named t f a
+      → quadWords (take (24 * n * t + 24 * n - 24 * n * t) (drop (24 * n * t) cubes)) n (tripleOf (scene .d)) f a ≡ quadAt scene n g cubes link
+  named-quad t f a r = rw (lent-is (24 * n * t) (24 * n) cubes, r .type, r .face, r .at)
 
   pub named-word : (t f : ℕ) (a : Triple) → Named t f a → (i k : ℕ) → i < 4 → k < n
       → quadWord (take (24 * n * t + 24 * n - 24 * n * t) (drop (24 * n * t) cubes)) n (tripleOf (scene .d)) f a i k

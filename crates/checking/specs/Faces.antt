@@ -1,5 +1,5 @@
 -- WRONG_SET, told by slots: after BAD_LINKS has passed, a face is there exactly if its slot is filled. Definitions only.
-use Prim.Native.Nat.{ℕ, _+_, _*_, _/_, _%_, _≤_, _<_}
+use Prim.Native.Nat.{ℕ, zero, suc, _+_, _*_, _/_, _%_, _^_, _≤_, _<_}
 use mathlib.Core.Path.{_≡_}
 use mathlib.Core.Bool.{Bool, cond, not}
 use mathlib.Core.List.{List}
@@ -15,6 +15,15 @@ isFilled slots k = not (eqb (getD slots k NONE) NONE)
 -- the faces of a cell whose slots are filled
 abbrev pub filledSet : List ℕ → ℕ → ℕ
 filledSet slots c = setOf (λ f. isFilled slots (keyOf c f))
+
+-- the first k of p, a bit each
+unfoldable pub bits : (ℕ → Bool) → ℕ → ℕ
+bits p zero = 0
+bits p (suc k) = bits p k + cond (p k) (2 ^ k) 0
+
+-- four side sets side by side
+abbrev pub fourSets : (ℕ → ℕ) → ℕ
+fourSets set = set 0 + 64 * set 1 + 4096 * set 2 + 262144 * set 3
 
 abbrev pub unlike : Bool → Bool → Bool
 unlike a b = cond a (not b) b

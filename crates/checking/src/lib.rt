@@ -18,7 +18,7 @@ use util::Dimensions;
 use util::Row;
 use words::first_wrong_quad;
 ghost use mathlib.Core.Path.{_≡_};
-ghost use mathlib.Core.Bool.{Bool};
+ghost use mathlib.Core.Bool.{Bool, true, cond};
 ghost use mathlib.Core.List.{List};
 ghost use Prim.Native.Nat.{ℕ, _+_, _*_, _≤_, _<_};
 ghost use lib.ListN.{length, getD};
@@ -28,7 +28,7 @@ ghost use Rattle.util.specs.Grid.{sizeOf};
 ghost use Rattle.terms.specs.Loans.{sceneLent, before};
 ghost use Rattle.culling.specs.Culling.{worldOf, outerSet};
 ghost use Rattle.row_sets.specs.Rows.{Along};
-ghost use Rattle.checking.specs.Faces.{filledSet, unlike, wrongSlot, wrongInRow, Gridded};
+ghost use Rattle.checking.specs.Faces.{isFilled, filledSet, bits, fourSets, unlike, wrongSlot, wrongInRow, Gridded};
 ghost use Rattle.checking.specs.Outcome.{Checks};
 
 pub mod words; // words.rt: the words of the quads, compared
@@ -63,6 +63,50 @@ fn lowest_unlike(a: u8, b: u8) -> usize
     face
 }
 
+// A weight, or none.
+fn weight_if(on: bool, weight: u32) -> u32
+    ensures { λ r. ⌜ (r ≡ cond on weight 0) × (r ≤ weight) ⌝ }
+{
+    weight * (on as u32)
+}
+
+// Which of 24 slots are filled, a bit each. No turn branches, so that the compiler reads several slots at once.
+fn filled_bits(slots: &[u32], at: usize) -> u32
+    requires { ⌜ at + 24 ≤ length (now slots) ⌝ }
+    ensures { λ r. ⌜ r ≡ bits (λ k. isFilled (now (slots .entry)) (at + k)) 24 ⌝ }
+{
+    let mut filled: u32 = 0;
+    let mut weight: u32 = 1;
+    let mut k: usize = 0;
+    while k < 24 {
+        filled += weight_if(slots[at + k] != NONE, weight);
+        weight = 2 * weight;
+        k += 1;
+    }
+    filled
+}
+
+fn byte(set: u8) -> u32
+    ensures { λ r. ⌜ (r ≡ set) × (r < 256) ⌝ }
+{
+    set as u32
+}
+
+// Whether the side sets of four cells of a row, from x on, are those of their filled slots.
+fn are_alike(sets: &[u8], slots: &[u32], first: usize, x: usize) -> bool
+    requires { ⌜ (x < length (now sets)) × (6 * (first + length (now sets)) ≤ length (now slots)) × (first + length (now sets) ≤ 1048576) ⌝ }
+    ensures { λ r. ⌜ (r ≡ true → (x + 4 ≤ length (now (sets .entry))) × (fourSets (λ i. getD (now (sets .entry)) (x + i) 0) ≡ fourSets (λ i. filledSet (now (slots .entry)) (first + x + i)))) ⌝ }
+{
+    if sets.len() < x + 4 {
+        return false;
+    }
+    let drawn = byte(sets[x])
+        + 64 * byte(sets[x + 1])
+        + 4_096 * byte(sets[x + 2])
+        + 262_144 * byte(sets[x + 3]);
+    drawn == filled_bits(slots, 6 * (first + x))
+}
+
 // The lowest face of a row of cells that its side set has and its slots have not, or they have and it has not, counted from the row's first; or how many there are.
 fn lowest_in_row(sets: &[u8], slots: &[u32], first: usize) -> usize
     requires { ⌜ (6 * (first + length (now sets)) ≤ length (now slots)) × (first + length (now sets) ≤ 1048576) ⌝ }
@@ -71,6 +115,10 @@ fn lowest_in_row(sets: &[u8], slots: &[u32], first: usize) -> usize
 {
     let mut x: usize = 0;
     while x < sets.len() {
+        if are_alike(sets, slots, first, x) {
+            x += 4;
+            continue;
+        }
         let drawn = sets[x];
         let filled = filled_set(slots, first + x);
         if drawn != filled {

@@ -5,6 +5,7 @@ use face::cell_of;
 use face::face_of;
 use floats::Triple;
 use quads::quad_word;
+use quads::sure_vertices;
 use terms::Scene;
 use util::Coordinates;
 use util::cords_of;
@@ -57,7 +58,7 @@ fn linked_face(link: u32) -> Face
     }
 }
 
-// The first quad that differs in any of its words, or their count.
+// The first quad that differs in any of its words, or their count. Each is compared whole before it is word by word.
 pub fn first_wrong_quad(
     scene: Scene,
     grid: &[u8],
@@ -85,7 +86,14 @@ pub fn first_wrong_quad(
         let end = start + span;
         let from = words * quad;
         let to = from + words;
-        let mut vertex: usize = 0;
+        let mut vertex = sure_vertices(
+            &vertices[from..to],
+            &cubes[start..end],
+            floats,
+            face,
+            at,
+            scene.d,
+        );
         while vertex < 4 {
             let mut float: usize = 0;
             while float < floats {

@@ -26,6 +26,11 @@ pub six-sides : (p : ℕ → Bool) {a b c d e f : Bool} → a ≡ p 0 → b ≡ 
     → cond a 1 0 + cond b 2 0 + cond c 4 0 + cond d 8 0 + cond e 16 0 + cond f 32 0 ≡ setOf p
 six-sides p a b c d e f = λ i. cond (a i) 1 0 + cond (b i) 2 0 + cond (c i) 4 0 + cond (d i) 8 0 + cond (e i) 16 0 + cond (f i) 32 0
 
+-- a set that is kept or dropped whole
+pub only-if : (b : Bool) (p : ℕ → Bool) → cond b (setOf p) 0 ≡ setOf (λ f. b && p f)
+only-if true p = refl
+only-if false p = refl
+
 -- ---- a face added to a set
 
 abbrev with : ℕ → ℕ → ℕ → Bool

@@ -1,6 +1,7 @@
 // Which sides of a cell culling draws, as a side set, and those of a row of cells one by one.
 use face::Cell;
 use face::Face;
+use face::bit_if;
 use face::has;
 use face::side_set;
 use util::Coordinates;
@@ -58,7 +59,7 @@ fn is_shown(
     }
 }
 
-// The sides of a cell that culling draws.
+// The sides of a cell that culling draws. The kind is no branch: among mixed types it would be guessed wrong.
 fn drawn_set(
     dims: Dimensions,
     outer: u8,
@@ -73,17 +74,15 @@ fn drawn_set(
 {
     let here = cell.0 as usize;
     let code = wide(grid[here]);
-    if kinds[code] != 1 {
-        return 0;
-    }
-    side_set(
+    let shown = side_set(
         is_shown(dims, outer, grid, covers, cell, at, Face::Top),
         is_shown(dims, outer, grid, covers, cell, at, Face::Bottom),
         is_shown(dims, outer, grid, covers, cell, at, Face::Right),
         is_shown(dims, outer, grid, covers, cell, at, Face::Left),
         is_shown(dims, outer, grid, covers, cell, at, Face::Back),
         is_shown(dims, outer, grid, covers, cell, at, Face::Forward),
-    )
+    );
+    bit_if(kinds[code] == 1, shown)
 }
 
 // The side sets of a row, cell by cell.

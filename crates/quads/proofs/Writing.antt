@@ -1,5 +1,5 @@
 -- Laws of the words that are written: corners, positions, a vertex, a quad. Assumes nothing.
-use mathlib.Core.Path.{_≡_, refl, sym, ap, _∙_}
+use mathlib.Core.Path.{_≡_, refl, sym, ap, subst, _∙_}
 use mathlib.Core.Bool.{Bool, true, false, cond, _&&_}
 use mathlib.Core.List.{List, [], _∷_, _++_, append-nil, append-assoc}
 use Prim.Native.Nat.{ℕ, zero, suc, _+_, _-_, _*_, _≤_, _<_}
@@ -16,14 +16,14 @@ use Rattle.rules.specs.Cells.{Triple, along}
 use Rattle.rules.specs.Floats.{finite}
 use Rattle.rules.specs.Types.{movedWord, order, quadWord, quadWords}
 use Rattle.rules.proofs.ListLaws.{length-row, getD-row, length-table, getD-table, length-each}
-use Rattle.rules.proofs.Rows.{each-more}
+use Rattle.rules.proofs.Rows.{each-more, getD-each}
 use Rattle.face.specs.declared.Face.{Face}
 use Rattle.face.specs.Face.{number}
 use Rattle.face.proofs.Laws.{number-below}
 use Rattle.vav.specs.Rows.{put}
 use Rattle.vav.proofs.Laws.{length-put, put-before, put-within, put-past, put-none}
 pub use Rattle.vav.proofs.Laws.{put-next, put-whole, stored}
-use Rattle.quads.specs.Quads.{four, wordAt, vertexWord, vertexWords, Drawable}
+use Rattle.quads.specs.Quads.{four, wordAt, vertexWord, vertexWords, HasFour, StandsTo, Drawable}
 
 -- ---- corners
 
@@ -113,6 +113,16 @@ module _ (v : ℕ → ℕ) (to i m j : ℕ) (xs : List ℕ) (a : i ≤ j) (b : j
       ∙ sym (length-put to (table (i + m) v) xs (omega (arith, length-table v (i + m)))))
       (λ k l. word-over k (decLt k to) (decLt k (to + i)) (decLt k (to + (i + m))))
 
+-- one of four numbers in a row
+among : (P : ℕ → Type 0) (k j : ℕ) → k ≤ j → j < k + 4 → P k → P (k + 1) → P (k + 2) → P (k + 3) → P j
+among P k j l u a b c d = go (decLt j (k + 1)) (decLt j (k + 2)) (decLt j (k + 3))
+  where
+    go : Dec (j < k + 1) → Dec (j < k + 2) → Dec (j < k + 3) → P j
+    go (yes p) q r = let e : k ≡ j = omega arith in subst P e a
+    go (no p) (yes q) r = let e : k + 1 ≡ j = omega arith in subst P e b
+    go (no p) (no q) (yes r) = let e : k + 2 ≡ j = omega arith in subst P e c
+    go (no p) (no q) (no r) = let e : k + 3 ≡ j = omega arith in subst P e d
+
 -- ---- a vertex
 module _ (cube : List ℕ) (n : ℕ) (d a : Triple) (v : ℕ) where
   abbrev moved : ℕ → ℕ
@@ -161,6 +171,42 @@ module _ (cube : List ℕ) (n : ℕ) (d a : Triple) (v : ℕ) where
         ∙ ap (put (to + (n - 4)) (each 4 (n - 4) (λ j. vertexWord cube n d a v j ∷ []))) (eight-is l)
         ∙ stitched (vertexWord cube n d a v) to (n - 4) 4 8 xs (omega arith) (omega arith) (omega arith)
         ∙ ap (λ (k : ℕ). put to (table k (vertexWord cube n d a v)) xs) e
+
+  -- ---- the same of a vertex that stands in a list
+  module _ (xs : List ℕ) (from : ℕ) where
+    abbrev Right : ℕ → Type 0
+    Right k = getD xs (from + k) 0 ≡ vertexWord cube n d a v k
+
+    kept-right : (i k : ℕ) → i ≡ from + k → 3 ≤ k → getD xs i 0 ≡ wordAt cube n v k → Right k
+    kept-right i k e h w = ap (λ (j : ℕ). getD xs j 0) (sym e) ∙ w ∙ kept-word k h
+
+    four-right : (k : ℕ) → 3 ≤ k → HasFour xs from (wordAt cube n v) k → (j : ℕ) → k ≤ j → j < k + 4 → Right j
+    four-right k h f j l u =
+        among Right k j l u (kept-right (from + k) k refl h (f .0)) (kept-right (from + k + 1) (k + 1) (omega arith) (omega arith) (f .1))
+        (kept-right (from + k + 2) (k + 2) (omega arith) (omega arith) (f .2)) (kept-right (from + k + 3) (k + 3) (omega arith) (omega arith) (f .3))
+
+    head-right : getD xs from 0 ≡ moved 0 → getD xs (from + 1) 0 ≡ moved 1 → getD xs (from + 2) 0 ≡ moved 2 → getD xs (from + 3) 0 ≡ wordAt cube n v 3
+        → (j : ℕ) → j < 4 → Right j
+    unfolding vertexWord
+    head-right x y z w j u =
+        let start : from + 0 ≡ from = omega arith in
+        among Right 0 j (omega arith) u (ap (λ (i : ℕ). getD xs i 0) start ∙ x) y z w
+
+    pub eight-right : getD xs from 0 ≡ moved 0 → getD xs (from + 1) 0 ≡ moved 1 → getD xs (from + 2) 0 ≡ moved 2
+        → getD xs (from + 3) 0 ≡ wordAt cube n v 3 → HasFour xs from (wordAt cube n v) 4 → StandsTo 8 xs from (vertexWord cube n d a v)
+    eight-right x y z w next k h = go (decLt k 4)
+      where
+        go : Dec (k < 4) → Right k
+        go (yes p) = head-right x y z w k p
+        go (no p) = four-right 4 (omega arith) next k (omega arith) (omega arith)
+
+    pub vertex-right : 8 ≤ n → n ≤ 12 → StandsTo 8 xs from (vertexWord cube n d a v) → HasFour xs from (wordAt cube n v) (n - 4)
+        → StandsTo n xs from (vertexWord cube n d a v)
+    vertex-right least most eight last k h = go (decLt k 8)
+      where
+        go : Dec (k < 8) → Right k
+        go (yes p) = eight k p
+        go (no p) = four-right (n - 4) (omega arith) last k (omega arith) (omega arith)
 
 -- ---- a quad
 
@@ -212,3 +258,41 @@ module _ (cube : List ℕ) (n : ℕ) (d : Triple) (f : ℕ) (a : Triple) (xs : L
   quad-written {g} g≡f e one two three four =
       four ∙ ap (put (3 * n) (vertex (4 * g + 2))) (three ∙ ap (put (2 * n) (vertex (4 * g + 3))) (two ∙ ap (put n (vertex (4 * g + 1))) one))
       ∙ ap vertices g≡f ∙ vertices-are e
+
+-- the words of a quad, one by one
+module _ (cube : List ℕ) (n : ℕ) (d : Triple) (f : ℕ) (a : Triple) where
+  pub word-at : (i k : ℕ) → i < 4 → k < n → getD (quadWords cube n d f a) (n * i + k) 0 ≡ quadWord cube n d f a i k
+  unfolding quadWords
+  word-at i k I K =
+      getD-each n (λ i. table n (quadWord cube n d f a i)) (λ i. length-table (quadWord cube n d f a i) n) 4 0 i k I K
+      ∙ ap (λ (j : ℕ). getD (table n (quadWord cube n d f a j)) k 0) (zero-add i) ∙ getD-table (quadWord cube n d f a i) n k 0 K
+
+  word-is : (i k : ℕ) → vertexWord cube n d a (4 * f + getD order i 0) k ≡ quadWord cube n d f a i k
+  unfolding quadWord vertexWord
+  word-is i k = refl
+
+  -- four vertices that stand in a list one after the other
+  module _ (xs : List ℕ) where
+    abbrev Stands : ℕ → ℕ → Type 0
+    Stands at v = StandsTo n xs at (vertexWord cube n d a v)
+
+    abbrev Same : ℕ → Type 0
+    Same k = getD xs k 0 ≡ getD (quadWords cube n d f a) k 0
+
+    row-right : (i at v : ℕ) → i < 4 → at ≡ n * i → v ≡ 4 * f + getD order i 0 → Stands at v → (k : ℕ) → at ≤ k → k < at + n → Same k
+    row-right i at v I e w h k l u =
+        let p : k ≡ at + (k - at) = omega arith in
+        let q : n * i + (k - at) ≡ k = omega arith in
+        ap (λ (j : ℕ). getD xs j 0) p ∙ h (k - at) (omega arith) ∙ ap (λ (v : ℕ). vertexWord cube n d a v (k - at)) w ∙ word-is i (k - at)
+        ∙ sym (word-at i (k - at) I (omega arith)) ∙ ap (λ (j : ℕ). getD (quadWords cube n d f a) j 0) q
+
+    pub quad-right : {g : ℕ} → g ≡ f → Stands 0 (4 * g) → Stands n (4 * g + 1) → Stands (2 * n) (4 * g + 3) → Stands (3 * n) (4 * g + 2)
+        → (k : ℕ) → k < n * 4 → Same k
+    unfolding order
+    quad-right {g} e one two three four k h = go (decLt k n) (decLt k (2 * n)) (decLt k (3 * n))
+      where
+        go : Dec (k < n) → Dec (k < 2 * n) → Dec (k < 3 * n) → Same k
+        go (yes p) q r = row-right 0 0 (4 * g) (omega arith) (omega arith) (omega arith) one k (omega arith) (omega arith)
+        go (no p) (yes q) r = row-right 1 n (4 * g + 1) (omega arith) (omega arith) (omega arith) two k (omega arith) (omega arith)
+        go (no p) (no q) (yes r) = row-right 2 (2 * n) (4 * g + 3) (omega arith) (omega arith) (omega arith) three k (omega arith) (omega arith)
+        go (no p) (no q) (no r) = row-right 3 (3 * n) (4 * g + 2) (omega arith) (omega arith) (omega arith) four k (omega arith) (omega arith)

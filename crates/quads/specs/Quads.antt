@@ -1,5 +1,6 @@
 -- The words of one vertex and of a cell's quads, and what drawing them asks for. Definitions only.
-use Prim.Native.Nat.{ℕ, _+_, _*_, _≤_}
+use Prim.Native.Nat.{ℕ, _+_, _*_, _≤_, _<_}
+use mathlib.Core.Path.{_≡_}
 use mathlib.Core.Bool.{cond}
 use mathlib.Core.List.{List, [], _∷_}
 use lib.ListN.{getD}
@@ -14,6 +15,15 @@ use Rattle.types.specs.Tests.{Words, Placed}
 -- four of the words v 0, v 1, .., from word k on
 abbrev pub four : (ℕ → ℕ) → ℕ → List ℕ
 four v k = v k ∷ v (k + 1) ∷ v (k + 2) ∷ v (k + 3) ∷ []
+
+-- four of them stand in a list, in the vertex at `from`
+abbrev pub HasFour : List ℕ → ℕ → (ℕ → ℕ) → ℕ → Type 0
+HasFour xs from v k =
+    (getD xs (from + k) 0 ≡ v k) × (getD xs (from + k + 1) 0 ≡ v (k + 1)) × (getD xs (from + k + 2) 0 ≡ v (k + 2)) × (getD xs (from + k + 3) 0 ≡ v (k + 3))
+
+-- the first m of them do
+abbrev pub StandsTo : ℕ → List ℕ → ℕ → (ℕ → ℕ) → Type 0
+StandsTo m xs from v = (k : ℕ) → k < m → getD xs (from + k) 0 ≡ v k
 
 -- word k of vertex v of a cube
 abbrev pub wordAt : List ℕ → ℕ → ℕ → ℕ → ℕ

@@ -5,8 +5,9 @@ use floats::moved_word;
 use util::Coordinates;
 use vav::write_four;
 ghost use mathlib.Core.Path.{_≡_};
+ghost use mathlib.Core.Bool.{true};
 ghost use mathlib.Core.List.{[], _∷_};
-ghost use Prim.Native.Nat.{_+_, _*_, _≤_, _<_};
+ghost use Prim.Native.Nat.{ℕ, _+_, _*_, _≤_, _<_};
 ghost use lib.ListN.{length, getD};
 ghost use Rattle.rules.specs.Cells.{along};
 ghost use Rattle.rules.specs.Types.{order, quadWord, quadWords};
@@ -15,7 +16,7 @@ ghost use Rattle.util.specs.Grid as grid;
 ghost use Rattle.floats.specs.Triples.{tripleOf};
 ghost use Rattle.types.specs.Tests.{Words};
 ghost use Rattle.vav.specs.Rows.{put};
-ghost use Rattle.quads.specs.Quads.{four, wordAt, vertexWords, Drawable};
+ghost use Rattle.quads.specs.Quads.{four, wordAt, vertexWord, vertexWords, HasFour, StandsTo, Drawable};
 
 // The order in which a quad takes the four vertices of its face.
 const ORDER: [usize; 4] = [0, 1, 3, 2];
@@ -110,6 +111,77 @@ fn write_vertex(
         return;
     }
     copy_four(out, cube, floats, vertex, floats - 4, to);
+}
+
+// Whether four words of a vertex of a cube, from word k on, stand in the vertex at `from`.
+fn has_four(quad: &[u32], from: usize, cube: &[u32], floats: usize, vertex: usize, k: usize) -> bool
+    requires { ⌜ Words (now cube) floats × (vertex < 24) × (k + 4 ≤ floats) × (from + floats ≤ length (now quad)) ⌝ }
+    ensures { λ r. ⌜ (r ≡ true → HasFour (now (quad .entry)) from (wordAt (now (cube .entry)) floats vertex) k) ⌝ }
+{
+    let at = from + k;
+    (quad[at] == word_of(cube, floats, vertex, k))
+        & (quad[at + 1] == word_of(cube, floats, vertex, k + 1))
+        & (quad[at + 2] == word_of(cube, floats, vertex, k + 2))
+        & (quad[at + 3] == word_of(cube, floats, vertex, k + 3))
+}
+
+// Whether the first eight words of a vertex of a cube stand at `from`, its position moved.
+fn has_eight(
+    quad: &[u32],
+    from: usize,
+    cube: &[u32],
+    floats: usize,
+    vertex: usize,
+    at: Coordinates,
+    d: Triple,
+) -> bool
+    requires { ⌜ Drawable (now cube) floats (grid.tripleOf at) (tripleOf d) × (vertex < 24) × (from + floats ≤ length (now quad)) ⌝ }
+    ensures { λ r. ⌜ (r ≡ true → StandsTo 8 (now (quad .entry)) from (vertexWord (now (cube .entry)) floats (tripleOf d) (grid.tripleOf at) vertex)) ⌝ }
+{
+    let x = moved_word(word_of(cube, floats, vertex, 0), at.x, d.x);
+    let y = moved_word(word_of(cube, floats, vertex, 1), at.y, d.y);
+    let z = moved_word(word_of(cube, floats, vertex, 2), at.z, d.z);
+    let after = word_of(cube, floats, vertex, 3);
+    (quad[from] == x)
+        & (quad[from + 1] == y)
+        & (quad[from + 2] == z)
+        & (quad[from + 3] == after)
+        & has_four(quad, from, cube, floats, vertex, 4)
+}
+
+// How many vertices of a quad are right without a doubt: all four, or none. Only all words together are branched on, so that the
+// compiler compares several at once.
+pub fn sure_vertices(
+    quad: &[u32],
+    cube: &[u32],
+    floats: usize,
+    face: Face,
+    at: Coordinates,
+    d: Triple,
+) -> usize
+    requires { ⌜ Drawable (now cube) floats (grid.tripleOf at) (tripleOf d) × (length (now quad) ≡ 4 * floats) ⌝ }
+    ensures { λ r. ⌜ (r ≤ 4) × ((k : ℕ) → k < floats * r → getD (now (quad .entry)) k 0 ≡ getD (quadWords (now (cube .entry)) floats (tripleOf d) (number face) (grid.tripleOf at)) k 0) ⌝ }
+{
+    let first = 4 * (face.number() as usize);
+    if !(has_eight(quad, 0, cube, floats, first, at, d)
+        & has_eight(quad, floats, cube, floats, first + 1, at, d)
+        & has_eight(quad, 2 * floats, cube, floats, first + 3, at, d)
+        & has_eight(quad, 3 * floats, cube, floats, first + 2, at, d)) {
+        return 0;
+    }
+    if floats == 8 {
+        return 4;
+    }
+    let k = floats - 4;
+    if has_four(quad, 0, cube, floats, first, k)
+        & has_four(quad, floats, cube, floats, first + 1, k)
+        & has_four(quad, 2 * floats, cube, floats, first + 3, k)
+        & has_four(quad, 3 * floats, cube, floats, first + 2, k)
+    {
+        4
+    } else {
+        0
+    }
 }
 
 // Writes a quad into its own stretch, its vertices in the order 0, 1, 3, 2.

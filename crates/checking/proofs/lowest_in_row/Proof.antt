@@ -1,14 +1,15 @@
 -- `checking::lowest_in_row` meets its contract. Assumes nothing.
-use mathlib.Core.Path.{_≡_}
+use mathlib.Core.Path.{_≡_, sym, ap, _∙_}
 use mathlib.Core.Bool.{Bool}
 use Prim.Native.Nat.{ℕ, _+_, _*_, _≤_, _<_, _-_}
 use denote.Ref.{now}
 use lib.ListN.{length, getD}
 use Rattle.rules.specs.Cells.{has, setOf, keyOf}
 use Rattle.rules.proofs.ListLaws.{lowestFrom-le}
+use Rattle.rules.proofs.Sets.{setOf-lt}
 use Rattle.rules.proofs.Searches.{Searched, searched, ended}
-use Rattle.checking.specs.Faces.{isFilled, unlike, wrongInRow}
-use Rattle.checking.proofs.Faces.{all-like, first-unlike}
+use Rattle.checking.specs.Faces.{isFilled, filledSet, unlike, wrongInRow}
+use Rattle.checking.proofs.Faces.{all-like, first-unlike, cells-like, four-same, same-side}
 use Rattle.checking.proofs.Rows.{row-slot}
 use borrow.Author.Needs.{needs}
 use native.Mathlib.Omega.{arith}
@@ -37,13 +38,13 @@ shared-slice-read-drawn : tie.Need-shared-slice-read-drawn Inv-loop μ-loop
 shared-slice-read-drawn c = search needs
 
 add-filled-set : tie.Need-add-filled-set Inv-loop μ-loop
-add-filled-set c = omega (arith, inside (c .before), start (c .before) .pre .1)
+add-filled-set c = let i = c .before .before .before in omega (arith, inside i, start i .pre .1)
 
 filled-set-requires : tie.Need-filled-set-requires Inv-loop μ-loop
-filled-set-requires c κs = omega (arith, inside (c .before), start (c .before) .pre .0)
+filled-set-requires c κs = let i = c .before .before .before in omega (arith, inside i, start i .pre .0)
 
 mul-result : tie.Need-mul-result Inv-loop μ-loop
-mul-result c = let i = c .before .before .before in omega (arith, inside i, start i .pre .1)
+mul-result c = let i = c .before .before .before .before .before in omega (arith, inside i, start i .pre .1)
 
 lowest-unlike-requires : tie.Need-lowest-unlike-requires Inv-loop μ-loop
 lowest-unlike-requires c κs = search needs
@@ -53,13 +54,13 @@ set i = getD (now (start i .args .sets)) (i .before .loop .x) 0
 
 add-result : tie.Need-add-result Inv-loop μ-loop
 add-result c =
-    let i = c .before .before .before .before in
+    let i = c .before .before .before .before .before .before in
     let differs : ℕ → Bool = λ f. unlike (has (set i) f) (has (c .before .before .filled-set .result) f) in
     omega (arith, inside i, start i .pre .1, c .lowest-unlike .ensures, lowestFrom-le 6 0 differs)
 
 returns : tie.Need-returns Inv-loop μ-loop
 returns c =
-    λ sides e. let i = c .before .before .before .before in
+    λ sides e. let i = c .before .before .before .before .before .before in
     let s = start i in
     let sets = now (s .args .sets) in
     let slots = now (s .args .slots) in
@@ -67,17 +68,51 @@ returns c =
     let h = inside i in
     rw (c .lowest-unlike .ensures)
     (first-unlike (6 * length sets) x (wrongInRow sides slots (s .args .first)) (sides x) (λ f. isFilled slots (keyOf (s .args .first + x) f)) (set i) (c .before .before .filled-set .result)
-    (row-slot sides slots (s .args .first) x) (e x h) (c .before .before .filled-set .ensures) (omega arith) (i .before .loop .inv .1 sides e) (λ alike. omega (arith, c .before .if1 .taken)))
+    (row-slot sides slots (s .args .first) x) (e x h) (c .before .before .filled-set .ensures) (omega arith) (i .before .loop .inv .1 sides e) (λ alike. omega (arith, c .before .if2 .taken)))
+
+are-alike-requires : tie.Need-are-alike-requires Inv-loop μ-loop
+are-alike-requires c κs = (inside c, start c .pre .0, start c .pre .1)
+
+-- four cells that are alike are within the row
+fits : (c : tie.Then1 Inv-loop μ-loop) → c .before .before .before .loop .x + 4 ≤ length (now (start (c .before .before) .args .sets))
+fits c = c .before .are-alike .ensures (c .if1 .taken) .0
 
 add-x : tie.Need-add-x Inv-loop μ-loop
-add-x c = let i = c .before .before .before in omega (arith, inside i, start i .pre .1)
+add-x c = omega (arith, fits c, start (c .before .before) .pre .1)
 
 loop-less : tie.Need-loop-less Inv-loop μ-loop
-loop-less c = omega (arith, inside (c .before .before .before))
+loop-less c = omega (arith, inside (c .before .before))
 
 loop-again : tie.Need-loop-again Inv-loop μ-loop
 loop-again c =
-    let i = c .before .before .before in
+    let i = c .before .before in
+    let s = start i in
+    let sets = now (s .args .sets) in
+    let slots = now (s .args .slots) in
+    let first = s .args .first in
+    let x = i .before .loop .x in (
+      fits c,
+      λ sides e. cells-like (6 * length sets) (wrongInRow sides slots first) x 4 (omega (arith, fits c)) (i .before .loop .inv .1 sides e)
+          (λ j l f h. let there : x + j < length sets = omega (arith, fits c) in
+          let key : first + x + j ≡ first + (x + j) = omega arith in
+          row-slot sides slots first (x + j) f h
+          ∙ same-side (sides (x + j)) (λ f. isFilled slots (keyOf (first + (x + j)) f))
+          (sym (e (x + j) there)
+          ∙ four-same (λ j. getD sets (x + j) 0) (λ j. filledSet slots (first + x + j))
+          (λ j l. let w : x + j < length sets = omega (arith, fits c) in omega (arith, e (x + j) w, setOf-lt (sides (x + j))))
+          (λ j. setOf-lt (λ f. isFilled slots (keyOf (first + x + j) f))) (c .before .are-alike .ensures (c .if1 .taken) .1) j l
+          ∙ ap (filledSet slots) key) f h),
+    )
+
+add-x-2 : tie.Need-add-x-2 Inv-loop μ-loop
+add-x-2 c = let i = c .before .before .before .before .before in omega (arith, inside i, start i .pre .1)
+
+loop-less-2 : tie.Need-loop-less-2 Inv-loop μ-loop
+loop-less-2 c = omega (arith, inside (c .before .before .before .before .before))
+
+loop-again-2 : tie.Need-loop-again-2 Inv-loop μ-loop
+loop-again-2 c =
+    let i = c .before .before .before .before .before in
     let s = start i in
     let sets = now (s .args .sets) in
     let slots = now (s .args .slots) in
@@ -85,7 +120,7 @@ loop-again c =
     let h = inside i in (
       omega arith,
       λ sides e. all-like (6 * length sets) x (wrongInRow sides slots (s .args .first)) (sides x) (λ f. isFilled slots (keyOf (s .args .first + x) f)) (set i) (c .before .filled-set .result)
-          (row-slot sides slots (s .args .first) x) (e x h) (c .before .filled-set .ensures) (omega arith) (i .before .loop .inv .1 sides e) (omega (arith, c .if1 .left)),
+          (row-slot sides slots (s .args .first) x) (e x h) (c .before .filled-set .ensures) (omega arith) (i .before .loop .inv .1 sides e) (omega (arith, c .if2 .left)),
     )
 
 mul-result-2 : tie.Need-mul-result-2 Inv-loop μ-loop
@@ -101,6 +136,10 @@ lowest-in-row-spec =
     Inv-loop
     μ-loop
     loop-holds
+    are-alike-requires
+    add-x
+    loop-less
+    loop-again
     shared-slice-read-drawn
     add-filled-set
     filled-set-requires
@@ -108,8 +147,8 @@ lowest-in-row-spec =
     lowest-unlike-requires
     add-result
     returns
-    add-x
-    loop-less
-    loop-again
+    add-x-2
+    loop-less-2
+    loop-again-2
     mul-result-2
     returns-2)

@@ -1,17 +1,16 @@
--- `culling::drawn_set` meets its contract: each return is what the tests before it leave. Assumes nothing.
+-- `culling::drawn_set` meets its contract: the sides that show, of a NormalCube alone. Assumes nothing.
 use mathlib.Core.Path.{_≡_, refl, sym, ap, _∙_}
-use mathlib.Core.Bool.{Bool}
+use mathlib.Core.Bool.{Bool, cond, _&&_}
 use Prim.Native.Nat.{ℕ}
 use denote.Ref.{now}
 use lib.Dec.{eqb}
 use lib.ListN.{getD}
-use borrow.Author.Tests.{eq-eqb, ne-eqb}
 use Rattle.rules.specs.Cells.{neighbour}
 use Rattle.rules.specs.Mesh.{typeAt, drawn}
 use Rattle.util.specs.Grid.{sizeOf}
 use Rattle.culling.specs.Culling.{worldOf, shownAt}
 use Rattle.rules.proofs.ListLaws.{within}
-use Rattle.culling.proofs.Sides.{six-sides, setOf-cong, shown-by}
+use Rattle.culling.proofs.Sides.{six-sides, setOf-cong, shown-by, only-if}
 use borrow.Author.Needs.{needs}
 use native.Mathlib.Omega.{arith}
 use Rattle.culling.proofs.drawn_set.Statement.{statement}
@@ -38,12 +37,6 @@ shared-slice-read-wide c = search needs
 wide-requires : tie.Need-wide-requires
 wide-requires c κs = search needs
 
-shared-slice-read-if1 : tie.Need-shared-slice-read-if1
-shared-slice-read-if1 c = let start = c .before .before .before .before .before .before .before in omega (arith, c .before .wide .ensures, start .pre .0 .typed (start .args .cell .0) (omega arith))
-
-returns : tie.Need-returns
-returns c = λ faces e. rw (cube (c .before .before) ∙ ne-eqb _ _ (c .if1 .taken))
-
 is-shown-requires : tie.Need-is-shown-requires
 is-shown-requires c κs = search needs
 
@@ -65,19 +58,30 @@ is-shown-requires-6 c κs = search needs
 side-set-requires : tie.Need-side-set-requires
 side-set-requires c κs = search needs
 
-returns-2 : tie.Need-returns-2
-returns-2 c =
-    λ faces e. let w = c .before .before .before .before .before .before .before .before .before in
+shared-slice-read-bit-if : tie.Need-shared-slice-read-bit-if
+shared-slice-read-bit-if c =
+    let w = c .before .before .before .before .before .before .before .before in
+    omega (arith, w .wide .ensures, start w .pre .0 .typed (start w .args .cell .0) (omega arith))
+
+bit-if-requires : tie.Need-bit-if-requires
+bit-if-requires c κs = search needs
+
+returns : tie.Need-returns
+returns c =
+    λ faces e. let sides = c .before .before in
+    let w = sides .before .before .before .before .before .before .before in
     let args = start w .args in
     let size = sizeOf (args .dims) in
     let g = now (args .grid) in
     let side : ℕ → Bool = shownAt size (now (args .covers)) faces g (args .cell .0) in
-    let normal = cube w ∙ eq-eqb _ _ (c .before .before .before .before .before .before .before .if1 .left) in
-    c .side-set .ensures
-    ∙ six-sides side (c .before .before .before .before .before .before .is-shown .ensures faces e) (c .before .before .before .before .before .is-shown2 .ensures faces e) (c .before .before .before .before .is-shown3 .ensures faces e)
-    (c .before .before .before .is-shown4 .ensures faces e) (c .before .before .is-shown5 .ensures faces e) (c .before .is-shown6 .ensures faces e)
-    ∙ setOf-cong side (drawn (worldOf size (now (args .kinds)) (now (args .covers))) faces g (args .cell .0))
-    (λ f l. rw normal (shown-by _ _ faces _ f (neighbour size (args .cell .0) f) refl))
+    c .bit-if .ensures .0
+    ∙ ap (λ (n : ℕ). cond (isCube w (w .wide .result)) n 0)
+    (sides .side-set .ensures
+    ∙ six-sides side (sides .before .before .before .before .before .before .is-shown .ensures faces e) (sides .before .before .before .before .before .is-shown2 .ensures faces e) (sides .before .before .before .before .is-shown3 .ensures faces e)
+    (sides .before .before .before .is-shown4 .ensures faces e) (sides .before .before .is-shown5 .ensures faces e) (sides .before .is-shown6 .ensures faces e))
+    ∙ only-if (isCube w (w .wide .result)) side
+    ∙ setOf-cong (λ f. isCube w (w .wide .result) && side f) (drawn (worldOf size (now (args .kinds)) (now (args .covers))) faces g (args .cell .0))
+    (λ f l. rw (cube w) (ap (λ (b : Bool). isCube w (w .wide .result) && b) (shown-by _ _ faces _ f (neighbour size (args .cell .0) f) refl)))
 
 pub drawn-set-spec : {M : Type 1} → statement M
 drawn-set-spec =
@@ -86,8 +90,6 @@ drawn-set-spec =
     cast-here
     shared-slice-read-wide
     wide-requires
-    shared-slice-read-if1
-    returns
     is-shown-requires
     is-shown-requires-2
     is-shown-requires-3
@@ -95,4 +97,6 @@ drawn-set-spec =
     is-shown-requires-5
     is-shown-requires-6
     side-set-requires
-    returns-2)
+    shared-slice-read-bit-if
+    bit-if-requires
+    returns)

@@ -18,8 +18,9 @@ use Rattle.voxel_mesh.proofs.Shapes.{few, row-within}
 use Rattle.rules.proofs.Rows.{length-lent}
 use Rattle.rules.proofs.ListLaws.{within}
 use Rattle.checking.specs.Quads.{quadAt, otherQuad, cubeAt, Comparable}
+use Rattle.quads.proofs.Writing as quads
 use Rattle.rules.proofs.Searches.{Searched, searched, found, passed, ended}
-use Rattle.checking.proofs.Compared.{Agreed, agreed-same, agreed-not, lent-is, row-next, length-words, Named, named-word, stretch-within, drawable, quad-within, length-quad}
+use Rattle.checking.proofs.Compared.{Agreed, agreed-same, agreed-not, lent-is, row-next, Named, named-quad, named-word, stretch-within, drawable, quad-within, length-quad}
 use borrow.Author.Needs.{needs}
 use native.Mathlib.Omega.{arith}
 use Rattle.checking.proofs.words.first_wrong_quad.Statement.{statement}
@@ -118,13 +119,17 @@ words c = quad-within (start c .args .scene) _ (few-words (worded c)) _ _ _ _ _ 
 
 -- ---- the word at hand
 
+-- the quad that it is of
+abbrev read : tie.After-is-other-word Inv-loop2 μ-loop2 Inv-loop μ-loop Inv-quads μ-quads → tie.After-wide Inv-loop2 μ-loop2 Inv-loop μ-loop Inv-quads μ-quads
+read c = c .before .before .before .before .before .before .before .before .before .before
+
 abbrev place : tie.After-is-other-word Inv-loop2 μ-loop2 Inv-loop μ-loop Inv-quads μ-quads → ℕ
-place c = n (c .before .before .before .before .before .before .before) * c .before .before .before .before .before .before .loop .vertex + c .before .before .before .before .loop2 .float
+place c = n (read c) * c .before .before .before .before .before .before .loop .vertex + c .before .before .before .before .loop2 .float
 
 told : (c : tie.After-is-other-word Inv-loop2 μ-loop2 Inv-loop μ-loop Inv-quads μ-quads) →
-    c .is-other-word .result ≡ not (eqb (getD (given (c .before .before .before .before .before .before .before)) (place c) 0) (getD (wanted (c .before .before .before .before .before .before .before)) (place c) 0))
+    c .is-other-word .result ≡ not (eqb (getD (given (read c)) (place c) 0) (getD (wanted (read c)) (place c) 0))
 told c =
-    let w = c .before .before .before .before .before .before .before in
+    let w = read c in
     let args = start w .args in
     rw (
       lent-is (4 * n w * quad w) (4 * n w) (now (args .vertices)),
@@ -193,14 +198,65 @@ mul-from c = omega (arith, words c)
 add-to : tie.Need-add-to Inv-loop2 μ-loop2 Inv-loop μ-loop Inv-quads μ-quads
 add-to c = omega (arith, words c)
 
+mul-sure-vertices : tie.Need-mul-sure-vertices Inv-loop2 μ-loop2 Inv-loop μ-loop Inv-quads μ-quads
+mul-sure-vertices c = omega (arith, words c)
+
+sub-sure-vertices : tie.Need-sub-sure-vertices Inv-loop2 μ-loop2 Inv-loop μ-loop Inv-quads μ-quads
+sub-sure-vertices c = search needs
+
+part-sure-vertices-start :
+    tie.Need-part-sure-vertices-start Inv-loop2 μ-loop2 Inv-loop μ-loop Inv-quads μ-quads
+part-sure-vertices-start c = search needs
+
+part-sure-vertices-end :
+    tie.Need-part-sure-vertices-end Inv-loop2 μ-loop2 Inv-loop μ-loop Inv-quads μ-quads
+part-sure-vertices-end c = omega (arith, words c)
+
+mul-sure-vertices-2 :
+    tie.Need-mul-sure-vertices-2 Inv-loop2 μ-loop2 Inv-loop μ-loop Inv-quads μ-quads
+mul-sure-vertices-2 c = omega (arith, stretch (c .before))
+
+sub-sure-vertices-2 :
+    tie.Need-sub-sure-vertices-2 Inv-loop2 μ-loop2 Inv-loop μ-loop Inv-quads μ-quads
+sub-sure-vertices-2 c = search needs
+
+part-sure-vertices-start-2 :
+    tie.Need-part-sure-vertices-start-2 Inv-loop2 μ-loop2 Inv-loop μ-loop Inv-quads μ-quads
+part-sure-vertices-start-2 c = search needs
+
+part-sure-vertices-end-2 :
+    tie.Need-part-sure-vertices-end-2 Inv-loop2 μ-loop2 Inv-loop μ-loop Inv-quads μ-quads
+part-sure-vertices-end-2 c = omega (arith, stretch (c .before))
+
+sure-vertices-requires :
+    tie.Need-sure-vertices-requires Inv-loop2 μ-loop2 Inv-loop μ-loop Inv-quads μ-quads
+sure-vertices-requires c κs =
+    let w = c .before .before in
+    let args = start w .args in (
+      drawable (args .scene) (n w) (few-words (worded w)) _ _ _ _ _ (ok (worded w)) _ (counted w) (start w .pre .1) _ _ _ (named w),
+      length-lent (4 * n w * quad w) (4 * n w) (now (args .vertices)) (words w),
+    )
+
 loop-holds : tie.Need-loop-holds Inv-loop2 μ-loop2 Inv-loop μ-loop Inv-quads μ-quads
-loop-holds c = (omega arith, λ k h. absurd (omega arith))
+loop-holds c =
+    let w = c .before .before .before in
+    let args = start w .args in (
+      c .sure-vertices .ensures .0,
+      rw (
+        lent-is (4 * n w * quad w) (4 * n w) (now (args .vertices)),
+        named-quad (args .scene) (n w) (now (args .grid)) (now (args .cubes)) (link w) (w .wide .result) (number (w .before .before .before .before .linked-face .result))
+            (tripleOf (w .before .before .before .cords-of .result)) (named w),
+      ) at (c .sure-vertices .ensures .1),
+    )
 
 loop2-holds : tie.Need-loop2-holds Inv-loop2 μ-loop2 Inv-loop μ-loop Inv-quads μ-quads
 loop2-holds c = (omega arith, λ k h. c .before .loop .inv .1 k (omega arith))
 
 mul-is-other-word : tie.Need-mul-is-other-word Inv-loop2 μ-loop2 Inv-loop μ-loop Inv-quads μ-quads
-mul-is-other-word c = let s = c .before .before .before .before .before .before .before .before .before .before .before .before .before .before .before .before in omega (arith, words (c .before .before .before .before))
+mul-is-other-word c =
+    let w = c .before .before .before .before .before .before .before in
+    let s = start w in
+    omega (arith, words w)
 
 sub-is-other-word : tie.Need-sub-is-other-word Inv-loop2 μ-loop2 Inv-loop μ-loop Inv-quads μ-quads
 sub-is-other-word c = search needs
@@ -211,11 +267,14 @@ part-is-other-word-start c = search needs
 
 part-is-other-word-end :
     tie.Need-part-is-other-word-end Inv-loop2 μ-loop2 Inv-loop μ-loop Inv-quads μ-quads
-part-is-other-word-end c = omega (arith, words (c .before .before .before .before))
+part-is-other-word-end c = omega (arith, words (c .before .before .before .before .before .before .before))
 
 mul-is-other-word-2 :
     tie.Need-mul-is-other-word-2 Inv-loop2 μ-loop2 Inv-loop μ-loop Inv-quads μ-quads
-mul-is-other-word-2 c = omega (arith, stretch (c .before .before .before .before .before))
+mul-is-other-word-2 c =
+    let w = c .before .before .before .before .before .before .before .before in
+    let s = start w in
+    omega (arith, stretch w)
 
 sub-is-other-word-2 :
     tie.Need-sub-is-other-word-2 Inv-loop2 μ-loop2 Inv-loop μ-loop Inv-quads μ-quads
@@ -227,12 +286,12 @@ part-is-other-word-start-2 c = search needs
 
 part-is-other-word-end-2 :
     tie.Need-part-is-other-word-end-2 Inv-loop2 μ-loop2 Inv-loop μ-loop Inv-quads μ-quads
-part-is-other-word-end-2 c = omega (arith, stretch (c .before .before .before .before .before))
+part-is-other-word-end-2 c = omega (arith, stretch (c .before .before .before .before .before .before .before .before))
 
 is-other-word-requires :
     tie.Need-is-other-word-requires Inv-loop2 μ-loop2 Inv-loop μ-loop Inv-quads μ-quads
 is-other-word-requires c κs =
-    let w = c .before .before .before .before .before .before in
+    let w = c .before .before .before .before .before .before .before .before .before in
     let args = start w .args in
     let all = length-lent (4 * n w * quad w) (4 * n w) (now (args .vertices)) (words w) in
     let row = row-within (n w) (c .before .before .before .before .before .loop .vertex) 4 (c .before .before .before .before .loop-test .taken) in (
@@ -243,14 +302,14 @@ is-other-word-requires c κs =
     )
 
 add-float : tie.Need-add-float Inv-loop2 μ-loop2 Inv-loop μ-loop Inv-quads μ-quads
-add-float c = search needs
+add-float c = omega (arith, c .before .before .before .before .loop2-test .taken, few-words (worded (read (c .before))))
 
 loop2-less : tie.Need-loop2-less Inv-loop2 μ-loop2 Inv-loop μ-loop Inv-quads μ-quads
-loop2-less c = search needs
+loop2-less c = omega (arith, c .before .before .before .before .loop2-test .taken)
 
 loop2-again : tie.Need-loop2-again Inv-loop2 μ-loop2 Inv-loop μ-loop Inv-quads μ-quads
 loop2-again c =
-    let w = c .before .before .before .before .before .before .before .before in
+    let w = read (c .before) in
     let at = place (c .before) in
     let same = eqb-true (getD (given w) at 0) (getD (wanted w) at 0) (not-false _ (sym (told (c .before)) ∙ c .if1 .left)) in (
       omega arith,
@@ -265,7 +324,7 @@ loop-less c = search needs
 
 loop-again : tie.Need-loop-again Inv-loop2 μ-loop2 Inv-loop μ-loop Inv-quads μ-quads
 loop-again c =
-    let next = row-next (n (c .before .before .before .before)) (c .before .before .before .loop .vertex) in
+    let next = row-next (n (c .before .before .before .before .before .before .before)) (c .before .before .before .loop .vertex) in
     (omega arith, λ k h. c .before .loop2 .inv .1 k (omega arith))
 
 add-quad : tie.Need-add-quad Inv-loop2 μ-loop2 Inv-loop μ-loop Inv-quads μ-quads
@@ -276,7 +335,7 @@ quads-less c = search needs
 
 quads-again : tie.Need-quads-again Inv-loop2 μ-loop2 Inv-loop μ-loop Inv-quads μ-quads
 quads-again c =
-    let w = c .before .before in
+    let w = c .before .before .before .before .before in
     let args = start w .args in
     let scene = args .scene in
     let cell = cellIn (link w) in
@@ -286,7 +345,7 @@ quads-again c =
     (ap not
     (agreed-same (given w) (wanted w) (4 * n w)
     (length-quad scene (n w) (few-words (worded w)) _ _ _ _ _ (ok (worded w)) _ (counted w))
-    (length-words cube (n w) (floats.tripleOf (scene .d)) (code (codeIn (link w))) (coordinates (sizeOf (scene .dims)) cell))
+    (quads.length-quad cube (n w) (floats.tripleOf (scene .d)) (code (codeIn (link w))) (coordinates (sizeOf (scene .dims)) cell))
     (λ k h. c .before .loop .inv .1 k (omega arith))))
 
 returns : tie.Need-returns Inv-loop2 μ-loop2 Inv-loop μ-loop Inv-quads μ-quads
@@ -294,7 +353,7 @@ returns c = ended _ _ _ (c .quads-test .left) (c .before .quads .inv) ∙ by-rul
 
 returns-2 : tie.Need-returns-2 Inv-loop2 μ-loop2 Inv-loop μ-loop Inv-quads μ-quads
 returns-2 c =
-    let w = c .before .before .before .before .before .before .before .before in
+    let w = read (c .before) in
     let at = place (c .before) in
     let other = eqb-false (getD (given w) at 0) (getD (wanted w) at 0) (not-true _ (sym (told (c .before)) ∙ c .if1 .taken)) in
     found _ _ _ (counted w) (turn w .quads .inv) (ap not (agreed-not (given w) (wanted w) at other)) ∙ by-rule (worded w)
@@ -326,6 +385,15 @@ first-wrong-quad-spec =
     add-end
     mul-from
     add-to
+    mul-sure-vertices
+    sub-sure-vertices
+    part-sure-vertices-start
+    part-sure-vertices-end
+    mul-sure-vertices-2
+    sub-sure-vertices-2
+    part-sure-vertices-start-2
+    part-sure-vertices-end-2
+    sure-vertices-requires
     loop-holds
     loop2-holds
     mul-is-other-word
