@@ -10,7 +10,7 @@ use lib.Dec.{leb}
 use lib.ListN.{length}
 use borrow.Author.Tests.{le-leb, lt-leb, leb-true}
 use Rattle.rules.specs.Lists.{each, table}
-use Rattle.rules.specs.Cells.{UNIT, cells, linkOf, setOf, quadsOf, firstVertex}
+use Rattle.rules.specs.Cells.{UNIT, cells, linkOf, firstVertex}
 use Rattle.rules.specs.Mesh.{Quad, NONE, there, laid, slotOf}
 use Rattle.rules.specs.Update as rule
 use Rattle.rules.specs.Update.{Tested, Entry, Op, cuts, puts, run, moves, highest, ops, needed, work, entryAt, courseFrom}
@@ -28,11 +28,11 @@ use Rattle.works.specs.declared.Work.{Work}
 use Rattle.works.specs.Sets.{meant, setIn, besideOf, spotsAt, workIn, deeds, Cubes}
 use Rattle.works.proofs.Meant.{meant-work, meant-cubes, meant-few, deeds-ops}
 use Rattle.indexing.specs.Index.{Index, indexRun, bookOf, Good, Ready}
-use Rattle.indexing.specs.Room.{isFilled, goneSide, quadsNeeded, Gridded}
+use Rattle.indexing.specs.Room.{isFilled, quadsNeeded, Gridded}
 use Rattle.indexing.proofs.Sets.{spots-inside}
 use Rattle.indexing.proofs.Booking.{slot-none}
 use Rattle.indexing.proofs.Doing.{few-steps, all-few, hides-few}
-use Rattle.indexing.proofs.Room.{needed-counted, gone-le}
+use Rattle.indexing.proofs.Room.{needed-counted}
 use Rattle.indexing.proofs.Whole.{Struck, struck}
 use Rattle.update.specs.Runs.{Ended, laidOut, meshIn, courseIn, Logging}
 use Rattle.update.proofs.Drawing.{bare, deeds-good, deeds-able}
@@ -205,9 +205,6 @@ module _ (tested : Tested) {S : Scene} {room : ℕ} {log vs₀ ls₀ ss₀ : Lis
         run-needed =
             ap (quadsNeeded ss (e .cell) b w) (r .count) ∙ ap (λ (x : List ℕ). quadsNeeded ss (e .cell) x w (length m)) b-is
             ∙ needed-counted m (world S) e w ss told (g .within) run-inside (r .sane .once) ∙ ap (λ (x : List ℕ). needed (workIn (world S) x e w) m) (sym b-is) ∙ ap (λ (x : rule.Work). needed x m) is
-
-        pub run-gone : quadsOf (setOf (goneSide ss (e .cell) w)) ≤ q
-        run-gone = let c = r .count in let l = gone-le m (world S) e w ss told (g .within) run-inside (r .sane .once) in omega arith
 
         -- ---- an entry that finds its room
         module _ (fit : needed (works k) m ≤ room) (xs : List ℕ) where

@@ -22,7 +22,7 @@ use Rattle.works.specs.declared.Work.{Work}
 use Rattle.works.specs.Sets.{typesBy, sets, noWork, isShown, meantBy, meant, setIn, cellOr, besideOf, facing, asked, act, deedAt, deeds, quadIn, keysIn, quadsIn, workIn, Cubes}
 
 -- ---- lists made face by face
-map-each : {A B : Type 0} (g : A → B) (n i : ℕ) (p : ℕ → List A) → map g (each n i p) ≡ each n i (λ k. map g (p k))
+pub map-each : {A B : Type 0} (g : A → B) (n i : ℕ) (p : ℕ → List A) → map g (each n i p) ≡ each n i (λ k. map g (p k))
 unfolding each
 map-each g zero i p = refl
 map-each {B = B} g (suc n) i p = map-append g (p i) (each n (suc i) p) ∙ ap (λ (r : List B). map g (p i) ++ r) (map-each g n (suc i) p)

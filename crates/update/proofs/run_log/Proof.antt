@@ -18,7 +18,7 @@ use Rattle.works.specs.Sets.{meant}
 use Rattle.works.proofs.Meant.{meant-types}
 use Rattle.indexing.specs.Index.{Index}
 use Rattle.update.proofs.Drawing.{bare}
-use Rattle.update.proofs.Running.{Running, run-start, run-inside, run-sets, run-gridded, run-small, run-needed, run-gone, run-ready, run-few, run-replaying, run-on, run-full, run-through, run-ended, run-kept}
+use Rattle.update.proofs.Running.{Running, run-start, run-inside, run-sets, run-gridded, run-small, run-needed, run-ready, run-few, run-replaying, run-on, run-full, run-through, run-ended, run-kept}
 use borrow.Author.Needs.{needs}
 use Rattle.update.proofs.run_log.Statement.{statement}
 use Rattle.update.proofs.run_log.Tie as tie
@@ -83,11 +83,7 @@ has-room-requires c κs =
     let i = looped b in
     let t = begun i in
     let r = i .before .loop .inv .0 in
-    let lt = i .loop-test .taken in
-    let at = b .before .before .read-entry .ensures in
-    let s = sets b in
-    let n = b .cells-beside .ensures in
-    (run-gridded (side t) (t .pre) r lt at s n, run-small (side t) (t .pre) r, run-sets (side t) (t .pre) r lt at s n, run-gone (side t) (t .pre) r lt at s n)
+    (run-gridded (side t) (t .pre) r (i .loop-test .taken) (b .before .before .read-entry .ensures) (sets b) (b .cells-beside .ensures), run-small (side t) (t .pre) r)
 
 kept : (i : tie.In-loop Inv-loop μ-loop) →
     let l = i .before .loop in let a = begun i .args in (length (l .vertices) ≡ length (a .vertices .now)) × (length (l .links) ≡ length (a .links .now)) × (length (l .slots) ≡ length (a .slots .now))
