@@ -130,8 +130,7 @@ fn cut_face(
     face: Face,
     tally: Tally,
 ) -> Tally
-    requires { ⌜ (2 * tally .steps + 2 ≤ length (now steps))
-        × Ready (hide (keyOf (cell .0) (number face)) ∷ []) (indexOf (now links) (now slots) (now steps) tally) ⌝ }
+    requires { ⌜ Ready (length (now steps)) (hide (keyOf (cell .0) (number face)) ∷ []) (indexOf (now links) (now slots) (now steps) tally) ⌝ }
     ensures { λ r. ⌜ indexOf (now (links .exit)) (now (slots .exit)) (now (steps .exit)) r
         ≡ indexRun (hide (keyOf (cell .0) (number face)) ∷ []) (indexOf (now (links .entry)) (now (slots .entry)) (now (steps .entry)) tally) ⌝ }
 {
@@ -151,8 +150,7 @@ fn draw_face(
     voxel: u32,
     tally: Tally,
 ) -> Tally
-    requires { ⌜ (2 * tally .steps + 2 ≤ length (now steps)) × (voxel < CUT)
-        × Ready (show (keyOf (cell .0) (number face)) voxel ∷ []) (indexOf (now links) (now slots) (now steps) tally) ⌝ }
+    requires { ⌜ (voxel < CUT) × Ready (length (now steps)) (show (keyOf (cell .0) (number face)) voxel ∷ []) (indexOf (now links) (now slots) (now steps) tally) ⌝ }
     ensures { λ r. ⌜ indexOf (now (links .exit)) (now (slots .exit)) (now (steps .exit)) r
         ≡ indexRun (show (keyOf (cell .0) (number face)) voxel ∷ []) (indexOf (now (links .entry)) (now (slots .entry)) (now (steps .entry)) tally) ⌝ }
 {
@@ -171,7 +169,7 @@ fn do_deed(
     mark: u32,
     tally: Tally,
 ) -> Tally
-    requires { ⌜ (2 * tally .steps + 2 ≤ length (now steps)) × Ready (map (λ k. deedBy k mark) (spotIn spot)) (indexOf (now links) (now slots) (now steps) tally) ⌝ }
+    requires { ⌜ Ready (length (now steps)) (map (λ k. deedBy k mark) (spotIn spot)) (indexOf (now links) (now slots) (now steps) tally) ⌝ }
     ensures { λ r. ⌜ indexOf (now (links .exit)) (now (slots .exit)) (now (steps .exit)) r
         ≡ indexRun (map (λ k. deedBy k mark) (spotIn spot)) (indexOf (now (links .entry)) (now (slots .entry)) (now (steps .entry)) tally) ⌝ }
 {
@@ -198,8 +196,7 @@ fn index_part(
     part: u32,
     tally: Tally,
 ) -> Tally
-    requires { ⌜ (2 * tally .steps + 12 ≤ length (now steps)) × (set < 64)
-        × Ready (each 6 0 (deedAt beside (entryIn entry) set part)) (indexOf (now links) (now slots) (now steps) tally) ⌝ }
+    requires { ⌜ (set < 64) × Ready (length (now steps)) (each 6 0 (deedAt beside (entryIn entry) set part)) (indexOf (now links) (now slots) (now steps) tally) ⌝ }
     ensures { λ r. ⌜ indexOf (now (links .exit)) (now (slots .exit)) (now (steps .exit)) r
         ≡ indexRun (each 6 0 (deedAt beside (entryIn entry) set part)) (indexOf (now (links .entry)) (now (slots .entry)) (now (steps .entry)) tally) ⌝ }
 {
@@ -228,8 +225,7 @@ pub fn index_work(
     work: Work,
     tally: Tally,
 ) -> Tally
-    requires { ⌜ (2 * tally .steps + 48 ≤ length (now steps)) × ((j : ℕ) → setIn work j < 64)
-        × Ready (deeds beside (entryIn entry) work) (indexOf (now links) (now slots) (now steps) tally) ⌝ }
+    requires { ⌜ ((j : ℕ) → setIn work j < 64) × Ready (length (now steps)) (deeds beside (entryIn entry) work) (indexOf (now links) (now slots) (now steps) tally) ⌝ }
     ensures { λ r. ⌜ indexOf (now (links .exit)) (now (slots .exit)) (now (steps .exit)) r
         ≡ indexRun (deeds beside (entryIn entry) work) (indexOf (now (links .entry)) (now (slots .entry)) (now (steps .entry)) tally) ⌝ }
 {

@@ -31,7 +31,7 @@ use Rattle.indexing.specs.Index.{Index, indexRun, bookOf, Good, Ready}
 use Rattle.indexing.specs.Room.{isFilled, quadsNeeded, Gridded}
 use Rattle.indexing.proofs.Sets.{spots-inside}
 use Rattle.indexing.proofs.Booking.{slot-none, run-booked}
-use Rattle.indexing.proofs.Doing.{few-steps, all-few, hides-few}
+use Rattle.indexing.proofs.Doing.{all-few, ready-run}
 use Rattle.indexing.proofs.Room.{needed-counted}
 use Rattle.update.specs.Runs.{Ended, laidOut, meshIn, courseIn, Holds, Logging}
 use Rattle.update.proofs.Drawing.{bare, deeds-good, deeds-able}
@@ -172,7 +172,7 @@ module _ (tested : Tested) {S : Scene} {room : ℕ} {log vs₀ ls₀ ss₀ : Lis
             ∙ needed-counted m (world S) e w ss told (g .within) run-inside (sane .once) ∙ ap (λ (x : List ℕ). needed (workIn (world S) x e w) m) (sym b-is) ∙ ap (λ (x : rule.Work). needed x m) is
 
         -- ---- an entry that finds its room
-        module _ (fit : needed (works k) m ≤ room) (xs : List ℕ) where
+        module _ (fit : needed (works k) m ≤ room) (xs : List ℕ) (long : length xs ≡ 48) where
           abbrev ds : List Deed
           ds = deeds b e w
 
@@ -197,21 +197,28 @@ module _ (tested : Tested) {S : Scene} {room : ℕ} {log vs₀ ls₀ ss₀ : Lis
           index : indexAt ls ss q v h xs ≡ bookOf (faces S) h m ls₀ v (stepsIn 0 xs)
           index = let a = r .holds .links in let b = r .holds .slots in let c = r .holds .count in λ i. record { links = a i; slots = b i; quads = c i; moved = v; top = h; steps = stepsIn 0 xs }
 
-          pub run-ready : Ready ds (indexAt ls ss q v h xs)
+          pub run-ready : Ready (length xs) ds (indexAt ls ss q v h xs)
+          unfolding each
           run-ready =
               let few = g .few in
               let mv = r .moves in
               let a = all-few b e w in
-              let b = hides-few ds in
               record {
                 words = wordsBy (bare S);
                 span = span S;
                 room = room;
                 faces = faces S;
-                booked = record { old = ls₀; top = h; all = m; long = g .words; small = grid-small; sane = sane; is = index };
+                old = ls₀;
+                top = h;
+                mesh = m;
+                long = g .words;
+                small = grid-small;
+                sane = sane;
+                is = index;
                 good = good;
                 fits = fits-deeds;
                 moves = omega arith;
+                steps = omega arith;
               }
 
           abbrev done : Index
@@ -230,9 +237,9 @@ module _ (tested : Tested) {S : Scene} {room : ℕ} {log vs₀ ls₀ ss₀ : Lis
           steps-are : done .steps ≡ steps
           steps-are = ap (λ (I : Index). I .steps) ran
 
-          pub run-few : length (done .steps) ≤ 24
-          unfolding each
-          run-few = let a = few-steps ds (indexAt ls ss q v h xs) in let b = all-few b e w in omega arith
+          pub run-few : 2 * length (done .steps) ≤ length xs
+          unfolding run-ready
+          run-few = let z = ready-run ds run-ready .steps in omega arith
 
           pub run-replaying : Replaying (bare S) (done .steps) (shelf vs q)
           run-replaying =

@@ -114,11 +114,7 @@ index-work-requires c κs =
     let l = i .before .loop in
     let lt = i .loop-test .taken in
     let at = b .before .before .read-entry .ensures in
-    let z = l .inv .1 in (
-      omega arith,
-      run-sets (side t) (t .pre) (l .inv .0) lt at (sets b) (b .cells-beside .ensures),
-      run-ready (side t) (t .pre) (l .inv .0) lt at (sets b) (b .cells-beside .ensures) (fits test) (l .steps),
-    )
+    (run-sets (side t) (t .pre) (l .inv .0) lt at (sets b) (b .cells-beside .ensures), run-ready (side t) (t .pre) (l .inv .0) lt at (sets b) (b .cells-beside .ensures) (fits test) (l .steps) (l .inv .1))
 
 slice-aggregate-replay : tie.Need-slice-aggregate-replay Inv-loop μ-loop
 slice-aggregate-replay c =
@@ -136,12 +132,12 @@ replay-requires c κs =
     let lt = i .loop-test .taken in
     let at = b .before .before .read-entry .ensures in
     let is = ap (λ (I : Index). I .steps) (went .index-work .ensures) in
-    let few = run-few (side t) (t .pre) (l .inv .0) lt at (sets b) (b .cells-beside .ensures) (fits test) (l .steps) in
+    let few = run-few (side t) (t .pre) (l .inv .0) lt at (sets b) (b .cells-beside .ensures) (fits test) (l .steps) (l .inv .1) in
     let n = length-table (stepAt (went .index-work .last .1 .1 .0)) (went .index-work .result .steps) in
-    let long = went .index-work .kept .1 .1 .0 ∙ l .inv .1 in (
+    let long = went .index-work .kept .1 .1 .0 in (
       omega (arith, ap length is, n, few, long),
       subst (λ (xs : List Step). Replaying (bare (scene-of t)) xs (shelf (l .vertices) (l .quads))) (sym is)
-          (run-replaying (side t) (t .pre) (l .inv .0) lt at (sets b) (b .cells-beside .ensures) (fits test) (l .steps)),
+          (run-replaying (side t) (t .pre) (l .inv .0) lt at (sets b) (b .cells-beside .ensures) (fits test) (l .steps) (l .inv .1)),
       i .before .before .inverted .ensures,
     )
 
@@ -162,7 +158,7 @@ loop-again c =
     let l = i .before .loop in
     let S = bare (scene-of t) in
     let is = ap (λ (I : Index). I .steps) (went .index-work .ensures) in (
-      run-on (side t) (t .pre) (l .inv .0) (i .loop-test .taken) (b .before .before .read-entry .ensures) (sets b) (b .cells-beside .ensures) (fits test) (l .steps)
+      run-on (side t) (t .pre) (l .inv .0) (i .loop-test .taken) (b .before .before .read-entry .ensures) (sets b) (b .cells-beside .ensures) (fits test) (l .steps) (l .inv .1)
           (went .index-work .ensures)
           (drew .replay .ensures ∙ ap (λ (xs : List Step). replayed (span S) (wordsBy S) xs (shelf (l .vertices) (l .quads))) is),
       went .index-work .kept .1 .1 .0 ∙ l .inv .1,
