@@ -4,4 +4,3 @@ pub mod Doing
 pub mod Needed
 pub mod Room
 pub mod Sets
-pub mod Whole

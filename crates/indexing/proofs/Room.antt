@@ -1,120 +1,123 @@
--- The three counts on the slots of a mesh are what the rule's work needs. Assumes nothing.
-use mathlib.Core.Path.{_≡_, refl, sym, _∙_, subst}
+-- What the count grows by, side by side, on the slots of a mesh, is what the rule's work needs. Assumes nothing.
+use mathlib.Core.Path.{_≡_, refl, sym, ap, _∙_, subst}
 use mathlib.Core.Bool.{Bool, true, false, cond, not, _&&_, _||_}
-use mathlib.Core.List.{List, [], _∷_, _++_, map}
+use mathlib.Core.List.{List, [], _∷_, _++_}
 use mathlib.Core.Option.{Option, none, some}
-use Prim.Native.Nat.{ℕ, zero, suc, _+_, _*_, _≤_, _<_}
+use Prim.Native.Nat.{ℕ, zero, suc, _+_, _-_, _*_, _≤_, _<_}
 use native.Mathlib.Omega.{arith}
+use lib.Dec.{leb}
 use lib.ListN.{length}
-use Rattle.rules.specs.Lists.{each, only, count}
-use Rattle.rules.specs.Cells.{cells, has, setOf, quadsOf, opposite, keyOf, neighbour}
+use borrow.Author.Tests.{le-leb, lt-leb, leb-true, leb-false}
+use Rattle.rules.specs.Lists.{each, member}
+use Rattle.rules.specs.Cells.{cells, has, opposite, keyOf, neighbour}
 use Rattle.rules.specs.Mesh.{Quad, World, there}
-use Rattle.rules.specs.Update.{Entry, givenAt, needed}
+use Rattle.rules.specs.Update.{Entry, needed}
 use Rattle.rules.proofs.ListLaws.{split}
 use Rattle.rules.proofs.Neighbours.{beside, opposite-lt}
 use Rattle.rules.proofs.Quads.{Once}
-use Rattle.rules.proofs.Sets.{has-setOf}
 use Rattle.util.specs.Grid.{Within}
 use Rattle.works.specs.declared.Work.{Work}
-use Rattle.works.specs.Sets.{besideOf, asked, quadIn, keysIn, quadsIn, workIn}
+use Rattle.works.specs.Sets.{besideOf, asked, keysIn, workIn}
 use Rattle.works.proofs.Meant.{next, facing-is}
-use Rattle.indexing.specs.Room.{isFilled, isEmptyAt, isBare, goneSide, newSide, quadsNeeded}
-use Rattle.indexing.proofs.Needed.{thereOf, absentAfter, length-cuts, needed-is}
-use Rattle.indexing.proofs.Sets.{side-in, not-side, own-apart, new-apart}
+use Rattle.indexing.specs.Room.{isFilled, goneSide, isEmptyAt, isBare, newSide, growthAt, total, quadsNeeded}
+use Rattle.indexing.proofs.Needed.{countIn, needed-is}
+use Rattle.indexing.proofs.Sets.{side-in, not-side, new-keys, own-apart, new-apart}
 
--- ---- of faces i, i + 1, .., n of them, those of which p holds
-unfoldable pub tally : ℕ → ℕ → (ℕ → Bool) → ℕ
-tally zero i p = 0
-tally (suc n) i p = cond (p i) 1 0 + tally n (suc i) p
+-- ---- at most two quads more a side
+at-most : (n i : ℕ) (g : ℕ → ℕ) → ((f : ℕ) → g f ≤ 3) → total n i g ≤ 3 * n
+unfolding total
+at-most zero i g h = omega arith
+at-most (suc n) i g h = omega (arith, h i, at-most n (suc i) g h)
 
-tally-set : (p : ℕ → Bool) → tally 6 0 p ≡ quadsOf (setOf p)
-unfolding tally count
-tally-set p =
-    rw (has-setOf p 0 (omega arith), has-setOf p 1 (omega arith), has-setOf p 2 (omega arith), has-setOf p 3 (omega arith), has-setOf p 4 (omega arith), has-setOf p 5 (omega arith))
-    (omega arith)
+pub grown-few : (slots : List ℕ) (c : ℕ) (beside : List ℕ) (w : Work) → total 6 0 (growthAt slots c beside w) ≤ 18
+unfolding growthAt
+grown-few slots c b w = at-most 6 0 (growthAt slots c b w) (λ f. omega (arith, one (not (goneSide slots c w f)), one (isBare slots c b (w .shown) f), one (newSide slots c w f)))
+  where
+    one : (b : Bool) → cond b 1 0 ≤ 1
+    one true = omega arith
+    one false = omega arith
 
--- a number read off a list that takes one list after the other, piece by piece
-counted : {A : Type 0} (read : List A → ℕ) → read [] ≡ 0 → ((a b : List A) → read (a ++ b) ≡ read a + read b) → (q : ℕ → Bool) (p : ℕ → List A) (n i : ℕ)
-    → ((f : ℕ) → i ≤ f → f < i + n → read (p f) ≡ cond (q f) 1 0) → read (each n i p) ≡ tally n i q
-unfolding each tally
-counted read z more q p zero i h = z
-counted read z more q p (suc n) i h =
-    more (p i) (each n (suc i) p) ∙ rw (h i (omega arith) (omega arith), counted read z more q p n (suc i) (λ f a b. h f (omega arith) (omega arith)))
+pub less-six : (a b : ℕ) → leb a (b + 6) ≡ leb (a - 6) b
+less-six a b = split (λ t. leb a (b + 6) ≡ t → t ≡ leb (a - 6) b) (leb a (b + 6))
+    (λ s e. let l = leb-true a (b + 6) e in sym (le-leb (a - 6) b (omega arith))) (λ s e. let l = leb-false a (b + 6) e in sym (lt-leb (a - 6) b (omega arith))) refl
 
-module _ (m : List Quad) where
-  there-append : (a b : List ℕ) → thereOf (a ++ b) m ≡ thereOf a m + thereOf b m
-  there-append [] b = omega arith
-  there-append (k ∷ a) b = let h = there-append a b in omega arith
+-- ---- counts, side by side
+count-append : (p : ℕ → Bool) (a b : List ℕ) → countIn p (a ++ b) ≡ countIn p a + countIn p b
+count-append p [] b = omega arith
+count-append p (k ∷ a) b = omega (arith, count-append p a b)
 
-  after-append : (own : List ℕ) (a b : List Quad) → absentAfter own (a ++ b) m ≡ absentAfter own a m + absentAfter own b m
-  after-append own [] b = omega arith
-  after-append own (q ∷ a) b = let h = after-append own a b in omega arith
+count-each : (p : ℕ → Bool) (ks : ℕ → List ℕ) (n i : ℕ) → countIn p (each n i ks) ≡ total n i (λ f. countIn p (ks f))
+unfolding each total
+count-each p ks zero i = refl
+count-each p ks (suc n) i = omega (arith, count-append p (ks i) (each n (suc i) ks), count-each p ks n (suc i))
 
-  module _ (W : World) (e : Entry) (w : Work) (slots : List ℕ) (told : (k : ℕ) → k < 6 * cells (W .size) → isFilled slots k ≡ there k m)
-      (inGrid : Within (W .size)) (inside : e .cell < cells (W .size)) where
-    abbrev around : List ℕ
-    around = besideOf (W .size) (e .cell)
+summed : (a g b d : ℕ → ℕ) (n i : ℕ) → ((f : ℕ) → i ≤ f → f < i + n → a f + g f ≡ 1 + b f + d f) → total n i a + total n i g ≡ n + total n i b + total n i d
+unfolding total
+summed a g b d zero i h = refl
+summed a g b d (suc n) i h = omega (arith, h i (omega arith) (omega arith), summed a g b d n (suc i) (λ f x y. h f (omega arith) (omega arith)))
 
-    abbrev own : List ℕ
-    own = keysIn around (e .cell) w 0
+count-one : (p : ℕ → Bool) (b : Bool) (k : ℕ) → countIn p (cond b (k ∷ []) []) ≡ cond (b && p k) 1 0
+count-one p true k = omega arith
+count-one p false k = refl
 
-    abbrev next-to : ℕ → Option ℕ
-    next-to i = neighbour (W .size) (e .cell) i
+either : (b : Bool) → cond b 1 0 + cond (not b) 1 0 ≡ 1
+either true = refl
+either false = refl
 
-    gone : thereOf own m ≡ quadsOf (setOf (goneSide slots (e .cell) w))
-    unfolding asked
-    gone =
-        counted (λ ks. thereOf ks m) refl there-append (goneSide slots (e .cell) w) (asked around (e .cell) (w .own) 0) 6 0
-        (λ f a b. let t = told (keyOf (e .cell) f) (omega arith) in
-        rw t (split (λ s. thereOf (only s (keyOf (e .cell) f)) m ≡ cond (s && there (keyOf (e .cell) f) m) 1 0) (has (w .own) f) (λ s. omega arith) (λ s. refl)))
-        ∙ tally-set (goneSide slots (e .cell) w)
+goes : (a b : Bool) → not (cond a false b) ≡ (a || not b)
+goes true b = refl
+goes false b = refl
 
-    new : absentAfter own (quadsIn W around (e .cell) w 2 (λ f. e .type)) m ≡ quadsOf (setOf (newSide slots (e .cell) w))
-    unfolding asked
-    new =
-        counted (λ qs. absentAfter own qs m) refl (after-append own) (newSide slots (e .cell) w) (λ f. map (λ k. quadIn W k (e .type)) (asked around (e .cell) (w .drawn) 2 f)) 6 0
-        (λ f a b. let t = told (keyOf (e .cell) f) (omega arith) in
-        rw t (split (λ s. absentAfter own (map (λ k. quadIn W k (e .type)) (only s (keyOf (e .cell) f))) m ≡ cond (s && (has (w .own) f || not (there (keyOf (e .cell) f) m))) 1 0) (has (w .drawn) f)
-        (λ s. rw (side-in (e .cell) (has (w .own)) f (omega arith)) (stays (has (w .own) f) (there (keyOf (e .cell) f) m))) (λ s. refl)))
-        ∙ tally-set (newSide slots (e .cell) w)
-      where
-        stays : (a b : Bool) → cond (cond a false b) 0 1 + 0 ≡ cond (a || not b) 1 0
-        stays true b = refl
-        stays false true = refl
-        stays false false = refl
+module _ (m : List Quad) (W : World) (e : Entry) (w : Work) (slots : List ℕ) (told : (k : ℕ) → k < 6 * cells (W .size) → isFilled slots k ≡ there k m)
+    (inGrid : Within (W .size)) (inside : e .cell < cells (W .size)) where
+  abbrev around : List ℕ
+  around = besideOf (W .size) (e .cell)
 
-    bare : absentAfter own (quadsIn W around (e .cell) w 1 (givenAt e)) m ≡ quadsOf (setOf (isBare slots (e .cell) around (w .shown)))
-    unfolding asked
-    bare =
-        counted (λ qs. absentAfter own qs m) refl (after-append own) (isBare slots (e .cell) around (w .shown)) (λ f. map (λ k. quadIn W k (givenAt e f)) (asked around (e .cell) (w .shown) 1 f)) 6 0
-        (λ i a b. subst (λ (ks : List ℕ). absentAfter own (map (λ k. quadIn W k (givenAt e i)) (cond (has (w .shown) i) ks [])) m ≡ cond (has (w .shown) i && isEmptyAt slots ks) 1 0)
-        (sym (facing-is (W .size) (e .cell) inGrid inside i (omega arith))) (one i (omega arith) (has (w .shown) i) (next-to i) refl))
-        ∙ tally-set (isBare slots (e .cell) around (w .shown))
-      where
-        absent : (b : Bool) → cond b 0 1 + 0 ≡ cond (not b) 1 0
-        absent true = refl
-        absent false = refl
+  abbrev own : List ℕ
+  own = keysIn around (e .cell) w 0
 
-        one : (i : ℕ) → i < 6 → (s : Bool) (o : Option ℕ) → next-to i ≡ o → absentAfter own (map (λ k. quadIn W k (givenAt e i)) (cond s (next i o) [])) m ≡ cond (s && isEmptyAt slots (next i o)) 1 0
-        one i l true none q = refl
-        one i l false none q = refl
-        one i l false (some n) q = refl
-        one i l true (some n) q =
-            let x = beside (W .size) (inGrid .sides .wide) (inGrid .sides .long) (e .cell) inside i n q in
-            let here = x .inside in
-            let other = x .other in
-            let b = opposite-lt i l in
-            let t = told (keyOf n (opposite i)) (omega arith) in
-            rw (t, not-side (e .cell) (keyOf n (opposite i)) (has (w .own)) (λ z. other (omega arith))) (absent (there (keyOf n (opposite i)) m))
+  -- not there once its own have gone
+  abbrev bare : ℕ → Bool
+  bare k = not (cond (member k own) false (there k m))
 
-    -- LAW: what the code counts is what the rule asks
-    pub needed-counted : Once m → quadsNeeded slots (e .cell) around w (length m) ≡ needed (workIn W around e w) m
-    unfolding workIn quadsNeeded
-    needed-counted o =
-        let a = needed-is (workIn W around e w) m o (own-apart W e inGrid inside w) (new-apart W e inGrid inside w) in
-        let b = after-append own (quadsIn W around (e .cell) w 1 (givenAt e)) (quadsIn W around (e .cell) w 2 (λ f. e .type)) in
-        omega (arith, a, b, gone, bare, new)
+  beside-bare : (f : ℕ) → f < 6 → countIn bare (asked around (e .cell) (w .shown) 1 f) ≡ cond (isBare slots (e .cell) around (w .shown) f) 1 0
+  unfolding asked
+  beside-bare f l =
+      subst (λ (ks : List ℕ). countIn bare (cond (has (w .shown) f) ks []) ≡ cond (has (w .shown) f && isEmptyAt slots ks) 1 0)
+      (sym (facing-is (W .size) (e .cell) inGrid inside f l)) (one (has (w .shown) f) (neighbour (W .size) (e .cell) f) refl)
+    where
+      one : (s : Bool) (o : Option ℕ) → neighbour (W .size) (e .cell) f ≡ o → countIn bare (cond s (next f o) []) ≡ cond (s && isEmptyAt slots (next f o)) 1 0
+      one true none q = refl
+      one false none q = refl
+      one false (some n) q = refl
+      one true (some n) q =
+          let x = beside (W .size) (inGrid .sides .wide) (inGrid .sides .long) (e .cell) inside f n q in
+          let here = x .inside in
+          let other = x .other in
+          let b = opposite-lt f l in
+          let t = told (keyOf n (opposite f)) (omega arith) in
+          rw (t, not-side (e .cell) (keyOf n (opposite f)) (has (w .own)) (λ z. other (omega arith))) (omega arith)
 
-    pub gone-le : Once m → quadsOf (setOf (goneSide slots (e .cell) w)) ≤ length m
-    unfolding workIn
-    gone-le o = omega (arith, gone, length-cuts own m o (own-apart W e inGrid inside w))
+  at-side : (f : ℕ) → f < 6 → countIn (λ k. there k m) (asked around (e .cell) (w .own) 0 f) + growthAt slots (e .cell) around w f
+      ≡ 1 + countIn bare (asked around (e .cell) (w .shown) 1 f) + countIn bare (asked around (e .cell) (w .drawn) 2 f)
+  unfolding asked growthAt
+  at-side f l =
+      let k = keyOf (e .cell) f in
+      let gone = count-one (λ k. there k m) (has (w .own) f) k in
+      let t = told k (omega arith) in
+      let new : countIn bare (cond (has (w .drawn) f) (k ∷ []) []) ≡ cond (has (w .drawn) f && (has (w .own) f || not (there k m))) 1 0 =
+      rw (count-one bare (has (w .drawn) f) k, side-in (e .cell) (has (w .own)) f l, goes (has (w .own) f) (there k m)) in
+      rw t (omega (arith, gone, either (has (w .own) f && there k m), beside-bare f l, new))
+
+  -- LAW: what the code counts is what the rule asks
+  pub needed-counted : Once m → quadsNeeded slots (e .cell) around w (length m) ≡ needed (workIn W around e w) m
+  unfolding workIn quadsNeeded
+  needed-counted o =
+      let a = needed-is (workIn W around e w) m o (own-apart W e inGrid inside w) (new-apart W e inGrid inside w) in
+      let b = ap (countIn bare) (new-keys W e inGrid inside w) ∙ count-append bare (keysIn around (e .cell) w 1) (keysIn around (e .cell) w 2) in
+      let c = count-each (λ k. there k m) (asked around (e .cell) (w .own) 0) 6 0 in
+      let d = count-each bare (asked around (e .cell) (w .shown) 1) 6 0 in
+      let n = count-each bare (asked around (e .cell) (w .drawn) 2) 6 0 in
+      let s = summed (λ f. countIn (λ k. there k m) (asked around (e .cell) (w .own) 0 f)) (growthAt slots (e .cell) around w)
+      (λ f. countIn bare (asked around (e .cell) (w .shown) 1 f)) (λ f. countIn bare (asked around (e .cell) (w .drawn) 2 f)) 6 0 (λ f x y. at-side f (omega arith)) in
+      omega (arith, a, b, c, d, n, s)

@@ -6,8 +6,6 @@ use face::Quad;
 use face::face_at;
 use face::has;
 use face::key;
-use face::quads_of;
-use face::side_set;
 use mesh_metadata::QuadIndex;
 use mesh_metadata::get_quad_index;
 use mesh_metadata::insert;
@@ -20,17 +18,18 @@ use works::Work;
 use works::mark_of;
 use works::spot_at;
 ghost use mathlib.Core.Path.{_≡_};
+ghost use mathlib.Core.Bool.{cond};
 ghost use mathlib.Core.List.{[], _∷_, map};
 ghost use Prim.Native.Nat.{ℕ, _+_, _*_, _^_, _≤_, _<_, max};
 ghost use lib.Dec.{leb};
 ghost use lib.ListN.{length, set};
 ghost use Rattle.rules.specs.Lists.{each};
-ghost use Rattle.rules.specs.Cells.{UNIT, keyOf, setOf, quadsOf};
+ghost use Rattle.rules.specs.Cells.{UNIT, keyOf};
 ghost use Rattle.face.specs.Face.{number};
 ghost use Rattle.entries.specs.Log.{entryIn};
 ghost use Rattle.steps.specs.Steps.{CUT, show, hide};
 ghost use Rattle.works.specs.Sets.{setIn, spotIn, deedBy, deedAt, deeds};
-ghost use Rattle.indexing.specs.Room.{isFilled, isBare, goneSide, quadsNeeded, Gridded};
+ghost use Rattle.indexing.specs.Room.{isFilled, isBare, growthAt, quadsNeeded, Gridded};
 ghost use Rattle.indexing.specs.Index.{indexOf, goneAt, cameAt, indexRun, Ready, Removable, Drawable};
 
 // The number of quads, how many have changed their place, the highest number of quads on the way, and the number of steps.
@@ -131,8 +130,7 @@ fn cut_face(
     face: Face,
     tally: Tally,
 ) -> Tally
-    requires { ⌜ (2 * tally .steps + 2 ≤ length (now steps))
-        × Ready (hide (keyOf (cell .0) (number face)) ∷ []) (indexOf (now links) (now slots) (now steps) tally) ⌝ }
+    requires { ⌜ Ready (length (now steps)) (hide (keyOf (cell .0) (number face)) ∷ []) (indexOf (now links) (now slots) (now steps) tally) ⌝ }
     ensures { λ r. ⌜ indexOf (now (links .exit)) (now (slots .exit)) (now (steps .exit)) r
         ≡ indexRun (hide (keyOf (cell .0) (number face)) ∷ []) (indexOf (now (links .entry)) (now (slots .entry)) (now (steps .entry)) tally) ⌝ }
 {
@@ -152,8 +150,7 @@ fn draw_face(
     voxel: u32,
     tally: Tally,
 ) -> Tally
-    requires { ⌜ (2 * tally .steps + 2 ≤ length (now steps)) × (voxel < CUT)
-        × Ready (show (keyOf (cell .0) (number face)) voxel ∷ []) (indexOf (now links) (now slots) (now steps) tally) ⌝ }
+    requires { ⌜ (voxel < CUT) × Ready (length (now steps)) (show (keyOf (cell .0) (number face)) voxel ∷ []) (indexOf (now links) (now slots) (now steps) tally) ⌝ }
     ensures { λ r. ⌜ indexOf (now (links .exit)) (now (slots .exit)) (now (steps .exit)) r
         ≡ indexRun (show (keyOf (cell .0) (number face)) voxel ∷ []) (indexOf (now (links .entry)) (now (slots .entry)) (now (steps .entry)) tally) ⌝ }
 {
@@ -172,7 +169,7 @@ fn do_deed(
     mark: u32,
     tally: Tally,
 ) -> Tally
-    requires { ⌜ (2 * tally .steps + 2 ≤ length (now steps)) × Ready (map (λ k. deedBy k mark) (spotIn spot)) (indexOf (now links) (now slots) (now steps) tally) ⌝ }
+    requires { ⌜ Ready (length (now steps)) (map (λ k. deedBy k mark) (spotIn spot)) (indexOf (now links) (now slots) (now steps) tally) ⌝ }
     ensures { λ r. ⌜ indexOf (now (links .exit)) (now (slots .exit)) (now (steps .exit)) r
         ≡ indexRun (map (λ k. deedBy k mark) (spotIn spot)) (indexOf (now (links .entry)) (now (slots .entry)) (now (steps .entry)) tally) ⌝ }
 {
@@ -199,8 +196,7 @@ fn index_part(
     part: u32,
     tally: Tally,
 ) -> Tally
-    requires { ⌜ (2 * tally .steps + 12 ≤ length (now steps)) × (set < 64)
-        × Ready (each 6 0 (deedAt beside (entryIn entry) set part)) (indexOf (now links) (now slots) (now steps) tally) ⌝ }
+    requires { ⌜ (set < 64) × Ready (length (now steps)) (each 6 0 (deedAt beside (entryIn entry) set part)) (indexOf (now links) (now slots) (now steps) tally) ⌝ }
     ensures { λ r. ⌜ indexOf (now (links .exit)) (now (slots .exit)) (now (steps .exit)) r
         ≡ indexRun (each 6 0 (deedAt beside (entryIn entry) set part)) (indexOf (now (links .entry)) (now (slots .entry)) (now (steps .entry)) tally) ⌝ }
 {
@@ -229,8 +225,7 @@ pub fn index_work(
     work: Work,
     tally: Tally,
 ) -> Tally
-    requires { ⌜ (2 * tally .steps + 48 ≤ length (now steps)) × ((j : ℕ) → setIn work j < 64)
-        × Ready (deeds beside (entryIn entry) work) (indexOf (now links) (now slots) (now steps) tally) ⌝ }
+    requires { ⌜ ((j : ℕ) → setIn work j < 64) × Ready (length (now steps)) (deeds beside (entryIn entry) work) (indexOf (now links) (now slots) (now steps) tally) ⌝ }
     ensures { λ r. ⌜ indexOf (now (links .exit)) (now (slots .exit)) (now (steps .exit)) r
         ≡ indexRun (deeds beside (entryIn entry) work) (indexOf (now (links .entry)) (now (slots .entry)) (now (steps .entry)) tally) ⌝ }
 {
@@ -242,21 +237,6 @@ pub fn index_work(
         part += 1;
     }
     left
-}
-
-// The sides of a cell that have quads.
-fn filled_sides(slots: &[u32], cell: Cell) -> u8
-    requires { ⌜ (cell .0 < UNIT) × (6 * cell .0 + 6 ≤ length (now slots)) ⌝ }
-    ensures { λ r. ⌜ r ≡ setOf (λ f. isFilled (now (slots .entry)) (keyOf (cell .0) f)) ⌝ }
-{
-    side_set(
-        is_filled(slots, cell, Face::Top),
-        is_filled(slots, cell, Face::Bottom),
-        is_filled(slots, cell, Face::Right),
-        is_filled(slots, cell, Face::Left),
-        is_filled(slots, cell, Face::Back),
-        is_filled(slots, cell, Face::Forward),
-    )
 }
 
 // Whether a neighbour's side is to be drawn, and is not there.
@@ -274,42 +254,22 @@ fn is_bare(slots: &[u32], cell: Cell, beside: [u32; 6], set: u8, face: Face) -> 
     }
 }
 
-fn bare_sides(slots: &[u32], cell: Cell, beside: [u32; 6], set: u8) -> u8
+fn one(on: bool) -> usize
+    ensures { λ r. ⌜ (r ≡ cond on 1 0) × (r ≤ 1) ⌝ }
+{
+    if on { 1 } else { 0 }
+}
+
+// One more than the count grows by at a side: an own quad that goes, a neighbour's and an own one that come.
+fn growth(slots: &[u32], cell: Cell, beside: [u32; 6], work: Work, face: Face) -> usize
     requires { ⌜ Gridded (cell .0) beside (now slots) ⌝ }
-    ensures { λ r. ⌜ r ≡ setOf (isBare (now (slots .entry)) (cell .0) beside set) ⌝ }
+    ensures { λ r. ⌜ (r ≡ growthAt (now (slots .entry)) (cell .0) beside work (number face)) × (r ≤ 3) ⌝ }
 {
-    if set == 0 {
-        return 0;
-    }
-    side_set(
-        is_bare(slots, cell, beside, set, Face::Top),
-        is_bare(slots, cell, beside, set, Face::Bottom),
-        is_bare(slots, cell, beside, set, Face::Right),
-        is_bare(slots, cell, beside, set, Face::Left),
-        is_bare(slots, cell, beside, set, Face::Back),
-        is_bare(slots, cell, beside, set, Face::Forward),
-    )
-}
-
-// As many quads as the set has ones.
-fn ones(set: u8) -> usize
-    requires { ⌜ set < 64 ⌝ }
-    ensures { λ r. ⌜ (r ≡ quadsOf set) × (r ≤ 6) ⌝ }
-{
-    quads_of(set) as usize
-}
-
-// Q, less the own quads that go, plus the sides that are drawn: the highest count within the entry's work, if it is over Q.
-fn quads_needed(slots: &[u32], cell: Cell, beside: [u32; 6], work: Work, count: usize) -> usize
-    requires { ⌜ Gridded (cell .0) beside (now slots) × (count < 2 ^ 32) × ((j : ℕ) → setIn work j < 64)
-        × (quadsOf (setOf (goneSide (now slots) (cell .0) work)) ≤ count) ⌝ }
-    ensures { λ r. ⌜ r ≡ quadsNeeded (now (slots .entry)) (cell .0) beside work count ⌝ }
-{
-    let filled = filled_sides(slots, cell);
-    let gone = ones(work.own & filled);
-    let bare = ones(bare_sides(slots, cell, beside, work.shown));
-    let new = ones(work.drawn & (work.own | (63 - filled)));
-    count - gone + bare + new
+    let filled = is_filled(slots, cell, face);
+    let goes = has(work.own, face);
+    let comes = has(work.drawn, face) & (goes | !filled);
+    let bare = is_bare(slots, cell, beside, work.shown, face);
+    one(!(goes & filled)) + one(bare) + one(comes)
 }
 
 // Whether the room holds what the entry's work needs. Twelve quads more are enough for any.
@@ -321,12 +281,17 @@ pub fn has_room(
     count: usize,
     room: usize,
 ) -> bool
-    requires { ⌜ Gridded (cell .0) beside (now slots) × (count < 2 ^ 32) × ((j : ℕ) → setIn work j < 64)
-        × (quadsOf (setOf (goneSide (now slots) (cell .0) work)) ≤ count) ⌝ }
+    requires { ⌜ Gridded (cell .0) beside (now slots) × (count < 2 ^ 32) ⌝ }
     ensures { λ r. ⌜ r ≡ leb (quadsNeeded (now (slots .entry)) (cell .0) beside work count) room ⌝ }
 {
     if count + 12 <= room {
         return true;
     }
-    quads_needed(slots, cell, beside, work, count) <= room
+    let grown = growth(slots, cell, beside, work, Face::Top)
+        + growth(slots, cell, beside, work, Face::Bottom)
+        + growth(slots, cell, beside, work, Face::Right)
+        + growth(slots, cell, beside, work, Face::Left)
+        + growth(slots, cell, beside, work, Face::Back)
+        + growth(slots, cell, beside, work, Face::Forward);
+    count + grown <= room + 6
 }

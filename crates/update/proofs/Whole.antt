@@ -1,10 +1,10 @@
 -- The whole of an update: the tests in their order, what an accepted log starts from, and what it leaves. Assumes nothing.
 use mathlib.Core.Path.{_≡_, refl, sym, ap, _∙_}
 use mathlib.Core.Logic.{⊎-elim}
-use mathlib.Core.Bool.{true, true≢false}
+use mathlib.Core.Bool.{true≢false}
 use mathlib.Core.List.{List, [], _∷_, _++_, append-assoc}
 use mathlib.Core.Option.{Option, none, some}
-use Prim.Native.Nat.{ℕ, suc, _+_, _-_, _*_, _/_, _≤_, _<_}
+use Prim.Native.Nat.{ℕ, suc, _+_, _-_, _*_, _/_, _≤_}
 use native.Mathlib.Omega.{arith}
 use lib.ListN.{length, take, drop, replicate, length-replicate}
 use lib.Seq.{take-at, drop-append-add, drop-drop}
@@ -15,12 +15,11 @@ use Rattle.rules.specs.Mesh.{Quad, Lists, NONE, pattern, rows, laid, listsOf, d
 use Rattle.rules.specs.Update.{Tested, entryAt, work, Course}
 use Rattle.rules.specs.Types.{floats}
 use Rattle.rules.specs.Answers.{Verdict, fine, refuse, _then_, refuseLowest, badEntry, BAD-SIZE, SHORT-SLOTS, BAD-COUNT, BAD-LINKS, BAD-TRIANGLES, BAD-ENTRY}
-use Rattle.rules.specs.Calls.{Scene, world, span, faces, room, typesVerdict, lentVerdict, bookVerdict, updateVerdict, course, refused, courseAnswer, updateBy, updateMesh}
-use Rattle.rules.proofs.ListLaws.{All, length-table, length-each, each-split}
-use Rattle.rules.proofs.Laying.{Fits}
+use Rattle.rules.specs.Calls.{Scene, world, span, faces, room, typesVerdict, updateVerdict, course, refused, courseAnswer, updateBy, updateMesh}
+use Rattle.rules.proofs.ListLaws.{length-table, length-each, each-split}
 use Rattle.rules.proofs.Checking.{then-fine, if-fine, lowest-fine, book-of-fine, length-decode}
-use Rattle.rules.proofs.Courses.{Sane, fits-new, course-sane}
-use Rattle.rules.proofs.Demands.{words-sized, limits, sound, room-for, lent-sane, entry-inside}
+use Rattle.rules.proofs.Courses.{Sane}
+use Rattle.rules.proofs.Demands.{limits, room-for, lent-sane, entry-inside, Asked, asked-of, ran-sane}
 use Rattle.rules.proofs.Idle.{layout-stands}
 use Rattle.lent.proofs.Admitted.{sized, typed}
 use Rattle.mesh_metadata.proofs.Slots.{order}
@@ -28,7 +27,7 @@ use Rattle.mesh_metadata.proofs.Meshes as meshes
 use Rattle.vav.specs.Rows.{put, zeros}
 use Rattle.update.specs.Runs.{Ended, laidOut, courseIn, Logging, patternsMended}
 use Rattle.update.specs.Outcome.{toldVerdict, endedAnswer}
-use Rattle.update.proofs.Running.{course-few, course-past}
+use Rattle.update.proofs.Running.{course-past}
 
 -- ---- the triangles by their counts
 patterns-are : (i : ℕ) (m : List Quad) → rows (λ q x. pattern q) i m ≡ each (length m) i pattern
@@ -119,53 +118,28 @@ module _ (tested : Tested) (S : Scene) (log : List ℕ) (B : Lists) (Q : ℕ) wh
   pub refused-so : {n p : ℕ} → tests ≡ refuse n p → record { answer = refused n p; lists = B } ≡ updateMesh tested S log B Q
   refused-so e = sym (ap (λ (v : Verdict). updateBy v S (course tested S log B Q) B) (in-tests ∙ e))
 
-  -- ---- what an accepted update starts from
-  module _ (accepted : tests ≡ fine) where
+  -- ---- what an accepted update starts from, with n slots lent and the room found
+  module _ (accepted : tests ≡ fine) {n R : ℕ} (hn : n ≡ faces S) (hR : R ≡ room S B) where
     v : updateVerdict S log B Q ≡ fine
     v = in-tests ∙ accepted
 
-    size-fine : BAD-SIZE (S .size) ≡ fine
-    size-fine = then-fine (BAD-SIZE (S .size)) _ v .0
-
-    types-fine : typesVerdict S ≡ fine
-    types-fine = then-fine (typesVerdict S) _ (then-fine (BAD-SIZE (S .size)) _ v .1) .0
-
-    lent-fine : lentVerdict S B Q ≡ fine
-    lent-fine =
-        then-fine (lentVerdict S B Q) (BAD-ENTRY (cells (S .size)) (length (S .types .kinds)) log)
-        (then-fine (typesVerdict S) _ (then-fine (BAD-SIZE (S .size)) _ v .1) .1) .0
-
-    entry-fine : BAD-ENTRY (cells (S .size)) (length (S .types .kinds)) log ≡ fine
-    entry-fine =
-        then-fine (lentVerdict S B Q) (BAD-ENTRY (cells (S .size)) (length (S .types .kinds)) log)
-        (then-fine (typesVerdict S) _ (then-fine (BAD-SIZE (S .size)) _ v .1) .1) .1
-
-    slots-fine : SHORT-SLOTS (S .size) B ≡ fine
-    slots-fine = then-fine (SHORT-SLOTS (S .size) B) _ lent-fine .0
-
-    count-fine : BAD-COUNT (floats (S .types)) B Q ≡ fine
-    count-fine = then-fine (BAD-COUNT (floats (S .types)) B Q) (bookVerdict S B Q) (then-fine (SHORT-SLOTS (S .size) B) _ lent-fine .1) .0
-
-    book-fine : bookVerdict S B Q ≡ fine
-    book-fine = then-fine (BAD-COUNT (floats (S .types)) B Q) (bookVerdict S B Q) (then-fine (SHORT-SLOTS (S .size) B) _ lent-fine .1) .1
+    a : Asked tested S log B Q v
+    a = asked-of tested S log B Q v
 
     slots-room : faces S ≤ length (B .slots)
-    slots-room = ltb-false (length (B .slots)) (faces S) (if-fine _ 9 0 slots-fine)
+    slots-room = ltb-false (length (B .slots)) (faces S) (if-fine _ 9 0 (a .slots))
 
-    small : faces S ≤ 1073741823
-    small = let l = limits S size-fine .small in omega arith
-
-    counted : Q ≤ room S B
-    counted = ltb-false (room S B) Q (if-fine _ 10 0 count-fine)
+    pub lent-ends : n ≤ length (B .slots)
+    lent-ends = rw hn slots-room
 
     abbrev m : List Quad
     m = decode (span S) Q B
 
     sane : Sane (faces S) (span S) (room S B) m Q
-    sane = lent-sane S B Q size-fine slots-fine count-fine book-fine
+    sane = lent-sane S B Q (a .size) (a .slots) (a .count) (a .book)
 
     stands : layout (faces S) (span S) Q m B ≡ B
-    stands = layout-stands (cells (S .size)) (span S) B Q slots-room (book-of-fine (cells (S .size)) B Q book-fine) (room-for S B Q counted .links)
+    stands = layout-stands (cells (S .size)) (span S) B Q slots-room (book-of-fine (cells (S .size)) B Q (a .book)) (room-for S B Q (sane .within) .links)
 
     length-mesh : length m ≡ Q
     length-mesh = length-decode (cells (S .size)) B Q (span S)
@@ -174,7 +148,7 @@ module _ (tested : Tested) (S : Scene) (log : List ℕ) (B : Lists) (Q : ℕ) wh
     unfolding BAD-ENTRY badEntry
     few-entries =
         let bad = lowest-fine 13 (length log / 12) (badEntry (cells (S .size)) (length (S .types .kinds)) log)
-        (then-fine (refuseLowest 13 (length log / 12) (badEntry (cells (S .size)) (length (S .types .kinds)) log)) _ entry-fine .0) in
+        (then-fine (refuseLowest 13 (length log / 12) (badEntry (cells (S .size)) (length (S .types .kinds)) log)) _ (a .entries) .0) in
         ⊎-elim (λ l. absurd (true≢false (sym (rw (le-leb 16777216 16777216 (omega arith))) ∙ bad 16777216 l))) (λ l. l)
         (order 16777216 (length log / 12))
 
@@ -184,73 +158,61 @@ module _ (tested : Tested) (S : Scene) (log : List ℕ) (B : Lists) (Q : ℕ) wh
         ap (λ (b : Lists). take (faces S) (b .slots)) (sym stands)
         ∙ take-at (table (faces S) (slotOf m)) (drop (faces S) (B .slots)) (faces S) (length-table (slotOf m) (faces S))
 
-    logging : Logging S (room S B) log (B .vertices) (B .links) (take (faces S) (B .slots)) Q
+    pub logging : Logging S R log (B .vertices) (B .links) (take n (B .slots)) Q
     logging =
         let r = room-for S B (room S B) (omega arith) in
-        record {
-          within = sized S size-fine;
-          typed = typed S types-fine;
-          inside = λ k h. entry-inside (cells (S .size)) (length (S .types .kinds)) log entry-fine k h;
+        rw (hn, hR)
+        (record {
+          within = sized S (a .size);
+          typed = typed S (a .types);
+          inside = entry-inside (cells (S .size)) (length (S .types .kinds)) log (a .entries);
           few = few-entries;
-          small = small;
           rows = r .vertices;
           words = r .links;
-          sane = sane;
-          count = sym length-mesh;
-          vertices = ap (λ (b : Lists). b .vertices) (sym stands);
-          links = ap (λ (b : Lists). b .links) (sym stands);
-          slots = slots-are;
-        }
+          holds = record {
+            sane = sane;
+            count = sym length-mesh;
+            vertices = ap (λ (b : Lists). b .vertices) (sym stands);
+            links = ap (λ (b : Lists). b .links) (sym stands);
+            slots = slots-are;
+          };
+        })
 
     -- ---- what the log leaves
     abbrev c : Course
     c = course tested S log B Q
 
-    new-fits : (j : ℕ) → 0 ≤ j → j < 0 + length log / 12 → All (Fits (faces S) (span S)) ((work tested (world S) (entryAt log j)) .new)
-    new-fits j a b =
-        fits-new (world S) (sound S size-fine types-fine) (span S) (words-sized S) tested (entryAt log j)
-        (entry-inside (cells (S .size)) (length (S .types .kinds)) log entry-fine j (omega arith)) ((entryAt log j) .change)
+    left : Sane (faces S) (span S) (room S B) (c .quads) (c .highest)
+    left = ran-sane tested S log B Q v
 
-    few-quads : Q ≤ faces S
-    few-quads = omega (arith, length-mesh, meshes.few (faces S) m (sane .once) (meshes.all-map (λ x f. f .0) m (sane .fits)))
+    module _ {r : Ended} (e : r ≡ laidOut S (B .vertices) (B .links) (courseIn tested S R log (B .vertices) (B .links) Q)) where
+      rule : r ≡ laidOut S (B .vertices) (B .links) c
+      rule = e ∙ ap (λ (x : ℕ). laidOut S (B .vertices) (B .links) (courseIn tested S x log (B .vertices) (B .links) Q)) hR
 
-    ran-sane : Sane (faces S) (span S) (room S B) (c .quads) (c .highest)
-    ran-sane = course-sane (faces S) (span S) (room S B) (λ k. work tested (world S) (entryAt log k)) 0 (length log / 12) m 0 Q new-fits sane
-
-    ran-few : c .highest ≤ faces S
-    ran-few =
-        course-few (faces S) (span S) (room S B) (λ k. work tested (world S) (entryAt log k)) 0 (length log / 12) m 0 Q new-fits sane few-quads
-
-    ran-past : Q ≤ c .highest
-    ran-past = course-past (room S B) (λ k. work tested (world S) (entryAt log k)) 0 (length log / 12) m 0 Q (omega (arith, length-mesh))
-
-    module _ {r : Ended} (e : r ≡ laidOut S (B .vertices) (B .links) c) where
-      pub mend-ready : (r .quads ≤ r .highest) × (6 * r .highest ≤ length (B .triangles)) × (4 * r .highest ≤ NONE)
+      pub mend-ready : (r .quads ≤ r .highest) × (6 * r .highest ≤ length (B .triangles)) × (4 * r .quads ≤ NONE)
       mend-ready =
-          let q : r .quads ≡ length (c .quads) = ap (λ (x : Ended). x .quads) e in
-          let h : r .highest ≡ c .highest = ap (λ (x : Ended). x .highest) e in
-          let a = ran-sane .reached in
-          let b = ran-sane .within in
-          let d = room-for S B (room S B) (omega arith) .triangles in
-          let f = ran-few in
-          let g = small in
+          let q : r .quads ≡ length (c .quads) = ap (λ (x : Ended). x .quads) rule in
+          let h : r .highest ≡ c .highest = ap (λ (x : Ended). x .highest) rule in
+          let low = left .reached in
+          let d = room-for S B (c .highest) (left .within) .triangles in
+          let few = meshes.few (faces S) (c .quads) (left .once) (meshes.all-map (λ x f. f .0) (c .quads) (left .fits)) in
+          let small = limits S (a .size) .small in
           (omega arith, omega arith, omega arith)
 
       -- LAW: the log's lists with the triangles mended, and the slots past the grid's put back, are the rule's outcome
       pub ended-so : {ts : List ℕ} → ts ≡ patternsMended Q (r .quads) (r .highest) (B .triangles)
-          → record { answer = endedAnswer (r .full) (r .quads) (r .moved); lists = listsOf (r .vertices) ts (r .links) (r .slots ++ drop (faces S) (B .slots)) }
+          → record { answer = endedAnswer (r .full) (r .quads) (r .moved); lists = listsOf (r .vertices) ts (r .links) (r .slots ++ drop n (B .slots)) }
           ≡ updateMesh tested S log B Q
       unfolding slotted
       ended-so {ts} k =
-          let d = room-for S B (room S B) (omega arith) .triangles in
-          let b = ran-sane .within in
+          let past = course-past (room S B) (λ k. work tested (world S) (entryAt log k)) 0 (length log / 12) m 0 Q (omega (arith, length-mesh)) in
           let t : ts ≡ laid 6 (λ q x. pattern q) (c .highest) (c .quads) (B .triangles) =
-          k ∙ (λ i. patternsMended Q ((e i) .quads) ((e i) .highest) (B .triangles))
-          ∙ patterns-laid (B .triangles) Q (c .highest) m (c .quads) length-mesh (ap (λ (x : Lists). x .triangles) (sym stands)) (ran-sane .reached) ran-past (omega arith) in
+          k ∙ (λ i. patternsMended Q ((rule i) .quads) ((rule i) .highest) (B .triangles))
+          ∙ patterns-laid (B .triangles) Q (c .highest) m (c .quads) length-mesh (ap (λ (x : Lists). x .triangles) (sym stands)) (left .reached) past (room-for S B (c .highest) (left .within) .triangles) in
           let o = ends (c .full) in
           (λ i. record {
-            answer = endedAnswer ((e i) .full) ((e i) .quads) ((e i) .moved);
-            lists = listsOf ((e i) .vertices) (t i) ((e i) .links) ((e i) .slots ++ drop (faces S) (B .slots));
+            answer = endedAnswer ((rule i) .full) ((rule i) .quads) ((rule i) .moved);
+            lists = listsOf ((rule i) .vertices) (t i) ((rule i) .links) ((rule i) .slots ++ drop (hn i) (B .slots));
           })
           ∙ (λ i. record { answer = o i; lists = layout (faces S) (span S) (c .highest) (c .quads) B })
           ∙ sym (ap (λ (x : Verdict). updateBy x S c B) v)
@@ -258,25 +220,3 @@ module _ (tested : Tested) (S : Scene) (log : List ℕ) (B : Lists) (Q : ℕ) wh
           ends : (o : Option ℕ) → endedAnswer o (length (c .quads)) (c .moved) ≡ courseAnswer c o
           ends none = refl
           ends (some k) = refl
-
--- the same with the slots lent and the room found
-module _ (tested : Tested) (S : Scene) (log : List ℕ) (B : Lists) (Q : ℕ) (accepted : tests tested S log B Q ≡ fine) {n R : ℕ} (hn : n ≡ faces S) (hR : R ≡ room S B) where
-  pub lent-ends : n ≤ length (B .slots)
-  lent-ends = rw hn (slots-room tested S log B Q accepted)
-
-  pub lent-logging : Logging S R log (B .vertices) (B .links) (take n (B .slots)) Q
-  lent-logging = rw (hn, hR) (logging tested S log B Q accepted)
-
-  module _ {r : Ended} (e : r ≡ laidOut S (B .vertices) (B .links) (courseIn tested S R log (B .vertices) (B .links) Q)) where
-    rule : r ≡ laidOut S (B .vertices) (B .links) (course tested S log B Q)
-    rule = e ∙ ap (λ (x : ℕ). laidOut S (B .vertices) (B .links) (courseIn tested S x log (B .vertices) (B .links) Q)) hR
-
-    pub lent-mend : (r .quads ≤ r .highest) × (6 * r .highest ≤ length (B .triangles)) × (4 * r .highest ≤ NONE)
-    lent-mend = mend-ready tested S log B Q accepted rule
-
-    pub lent-outcome : {ts : List ℕ} → ts ≡ patternsMended Q (r .quads) (r .highest) (B .triangles)
-        → record { answer = endedAnswer (r .full) (r .quads) (r .moved); lists = listsOf (r .vertices) ts (r .links) (r .slots ++ drop n (B .slots)) }
-        ≡ updateMesh tested S log B Q
-    lent-outcome {ts} k =
-        ap (λ (x : ℕ). record { answer = endedAnswer (r .full) (r .quads) (r .moved); lists = listsOf (r .vertices) ts (r .links) (r .slots ++ drop x (B .slots)) }) hn
-        ∙ ended-so tested S log B Q accepted rule k

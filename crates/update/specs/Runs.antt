@@ -7,16 +7,15 @@ use lib.ListN.{length}
 use Rattle.rules.specs.Lists.{each, table}
 use Rattle.rules.specs.Cells.{cells, linkOf}
 use Rattle.rules.specs.Mesh.{Quad, pattern, laid, slotOf, listsOf, decode}
-use Rattle.rules.specs.Update as rule
-use Rattle.rules.specs.Update.{Tested, work, entryAt, courseFrom}
+use Rattle.rules.specs.Update.{Tested, work, entryAt, Course, courseFrom}
 use Rattle.rules.specs.Calls.{Scene, world, span, faces}
 use Rattle.rules.proofs.Courses.{Sane}
 use Rattle.util.specs.Grid.{Within}
 use Rattle.lent.specs.Scenes.{Typed}
 use Rattle.vav.specs.Rows.{put, zeros}
-use Rattle.update.specs.declared.Course.{Course}
+use Rattle.update.specs.declared.End.{End}
+use Rattle.update.specs.declared.End.the-variants.{Through, Full}
 use Rattle.update.specs.declared.Ran.{Ran}
-use Rattle.update.specs.declared.Ran.the-variants.{Through, Full}
 
 -- how a log has ended, and the lists that it went through
 pub record Ended : Type 0 where
@@ -28,16 +27,16 @@ pub record Ended : Type 0 where
   pub links : List ℕ
   pub slots : List ℕ
 
-abbrev pub endedIn : Option ℕ → Course → List ℕ → List ℕ → List ℕ → Ended
-endedIn o c vs ls ss =
-    record { full = o; quads = c .count .quads; moved = c .count .moved; highest = c .highest; vertices = vs; links = ls; slots = ss }
+abbrev pub fullAt : End → Option ℕ
+fullAt Through = none
+fullAt (Full k) = some k
 
 abbrev pub ranOf : Ran → List ℕ → List ℕ → List ℕ → Ended
-ranOf (Through c) vs ls ss = endedIn none c vs ls ss
-ranOf (Full k c) vs ls ss = endedIn (some k) c vs ls ss
+ranOf r vs ls ss =
+    record { full = fullAt (r .end); quads = r .count .quads; moved = r .count .moved; highest = r .highest; vertices = vs; links = ls; slots = ss }
 
 -- the rule's course, its mesh laid out over what the lists held
-abbrev pub laidOut : Scene → List ℕ → List ℕ → rule.Course → Ended
+abbrev pub laidOut : Scene → List ℕ → List ℕ → Course → Ended
 laidOut S vs ls c =
     record {
       full = c .full;
@@ -53,24 +52,27 @@ laidOut S vs ls c =
 abbrev pub meshIn : Scene → List ℕ → List ℕ → ℕ → List Quad
 meshIn S vs ls Q = decode (span S) Q (listsOf vs [] ls [])
 
-abbrev pub courseIn : Tested → Scene → ℕ → List ℕ → List ℕ → List ℕ → ℕ → rule.Course
+abbrev pub courseIn : Tested → Scene → ℕ → List ℕ → List ℕ → List ℕ → ℕ → Course
 courseIn tested S room log vs ls Q =
     courseFrom room (λ k. work tested (world S) (entryAt log k)) 0 (length log / 12) (meshIn S vs ls Q) 0 Q
 
--- a log can be run: the lists hold a mesh in the room, and the entries are within the grid and the limit
+-- lists that hold a mesh in its room, whose highest count was h, over what they held
+pub record Holds (S : Scene) (room : ℕ) (vs₀ ls₀ : List ℕ) (m : List Quad) (h : ℕ) (vs ls ss : List ℕ) (q : ℕ) : Type 0 where
+  pub sane : Sane (faces S) (span S) room m h
+  pub count : q ≡ length m
+  pub vertices : vs ≡ laid (span S) (λ q x. x .words) h m vs₀
+  pub links : ls ≡ laid 1 (λ q x. linkOf (x .key) ∷ []) h m ls₀
+  pub slots : ss ≡ table (faces S) (slotOf m)
+
+-- a log can be run: the lists hold a mesh, and the entries are within the grid and the limit
 pub record Logging (S : Scene) (room : ℕ) (log vs ls ss : List ℕ) (Q : ℕ) : Type 0 where
   pub within : Within (S .size)
   pub typed : Typed S
   pub inside : (k : ℕ) → k < length log / 12 → (entryAt log k) .cell < cells (S .size)
   pub few : length log / 12 ≤ 16777216
-  pub small : faces S ≤ 1073741823
   pub rows : span S * room ≤ length vs
   pub words : room ≤ length ls
-  pub sane : Sane (faces S) (span S) room (meshIn S vs ls Q) Q
-  pub count : Q ≡ length (meshIn S vs ls Q)
-  pub vertices : vs ≡ laid (span S) (λ q x. x .words) Q (meshIn S vs ls Q) vs
-  pub links : ls ≡ laid 1 (λ q x. linkOf (x .key) ∷ []) Q (meshIn S vs ls Q) ls
-  pub slots : ss ≡ table (faces S) (slotOf (meshIn S vs ls Q))
+  pub holds : Holds S room vs ls (meshIn S vs ls Q) Q vs ls ss Q
 
 -- patterns up to the last quad, zeros up to the highest count
 unfoldable pub patternsMended : ℕ → ℕ → ℕ → List ℕ → List ℕ

@@ -46,16 +46,17 @@ pub struct Task {
     pub quads: usize,
 }
 
-// What a log has come to: the count, and the highest number of quads on the way.
-pub struct Course {
-    pub count: Count,
-    pub highest: usize,
+// How far a log has gone: through it, or to an entry that found no room.
+pub enum End {
+    Through,
+    Full(usize),
 }
 
-// How far a log has gone: through it, or to an entry that found no room.
-pub enum Ran {
-    Through(Course),
-    Full(usize, Course),
+// What a log has come to, with the highest number of quads on the way.
+pub struct Ran {
+    pub end: End,
+    pub count: Count,
+    pub highest: usize,
 }
 
 // The entries of a log in order, up to the first that finds no room: each on the index, and by its steps on the vertices.
@@ -88,16 +89,14 @@ fn run_log(
         let work = work_of(kinds, covers, tested, entry);
         let beside = cells_beside(scene.dims, inverse, entry.cell);
         if !has_room(slots, entry.cell, beside, work, quads, task.room) {
-            return Ran::Full(
-                k,
-                Course {
-                    count: Count {
-                        quads: quads,
-                        moved: moved,
-                    },
-                    highest: highest,
+            return Ran {
+                end: End::Full(k),
+                count: Count {
+                    quads: quads,
+                    moved: moved,
                 },
-            );
+                highest: highest,
+            };
         }
         let tally = index_work(
             links,
@@ -119,18 +118,19 @@ fn run_log(
         highest = tally.top;
         k += 1;
     }
-    Ran::Through(Course {
+    Ran {
+        end: End::Through,
         count: Count {
             quads: quads,
             moved: moved,
         },
         highest: highest,
-    })
+    }
 }
 
 // The triangles follow the counts: patterns up to the last quad, zeros up to the highest count.
 fn mend_patterns(triangles: &mut [u32], before: usize, after: usize, highest: usize)
-    requires { ⌜ (after ≤ highest) × (6 * highest ≤ length (now triangles)) × (4 * highest ≤ NONE) ⌝ }
+    requires { ⌜ (after ≤ highest) × (6 * highest ≤ length (now triangles)) × (4 * after ≤ NONE) ⌝ }
     ensures { λ _. ⌜ now (triangles .exit) ≡ patternsMended before after highest (now (triangles .entry)) ⌝ }
 {
     write_patterns(triangles, before, after);
@@ -239,16 +239,11 @@ pub fn update_mesh(
             quads: quads,
         },
     );
-    match ran {
-        Ran::Through(course) => {
-            let count = course.count;
-            mend_patterns(triangles, quads, count.quads, course.highest);
-            Updated::Done(count)
-        }
-        Ran::Full(entry, course) => {
-            let count = course.count;
-            mend_patterns(triangles, quads, count.quads, course.highest);
-            Updated::Refused(Refusal::NoRoom, entry, count)
-        }
+    let count = ran.count;
+    mend_patterns(triangles, quads, count.quads, ran.highest);
+    let end = ran.end;
+    match end {
+        End::Through => Updated::Done(count),
+        End::Full(entry) => Updated::Refused(Refusal::NoRoom, entry, count),
     }
 }

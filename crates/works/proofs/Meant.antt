@@ -19,10 +19,10 @@ use Rattle.rules.proofs.ListLaws.{and-true, each-same, getD-table}
 use Rattle.util.specs.Grid.{Within}
 use Rattle.steps.specs.Steps.{Deed, opOf, opsOf}
 use Rattle.works.specs.declared.Work.{Work}
-use Rattle.works.specs.Sets.{typesBy, sets, noWork, isShown, meantBy, meant, setIn, cellOr, besideOf, facing, asked, act, deedAt, deeds, quadIn, keysIn, quadsIn, workIn, Cubes}
+use Rattle.works.specs.Sets.{typesBy, sets, noWork, isShown, meantBy, meant, setIn, cellOr, besideOf, facing, spotsBy, asked, act, deedAt, deeds, quadIn, keysIn, quadsIn, workIn, Cubes}
 
 -- ---- lists made face by face
-map-each : {A B : Type 0} (g : A → B) (n i : ℕ) (p : ℕ → List A) → map g (each n i p) ≡ each n i (λ k. map g (p k))
+pub map-each : {A B : Type 0} (g : A → B) (n i : ℕ) (p : ℕ → List A) → map g (each n i p) ≡ each n i (λ k. map g (p k))
 unfolding each
 map-each g zero i p = refl
 map-each {B = B} g (suc n) i p = map-append g (p i) (each n (suc i) p) ∙ ap (λ (r : List B). map g (p i) ++ r) (map-each g n (suc i) p)
@@ -30,11 +30,6 @@ map-each {B = B} g (suc n) i p = map-append g (p i) (each n (suc i) p) ∙ ap (�
 through : {A B C : Type 0} (g : B → C) (h : A → B) (k : A → C) → ((x : A) → g (h x) ≡ k x) → (xs : List A) → map g (map h xs) ≡ map k xs
 through g h k e [] = refl
 through g h k e (x ∷ xs) = let a = e x in let b = through g h k e xs in λ i. a i ∷ b i
-
-none-each {ℓ} : {A : Type ℓ} (n i : ℕ) (p : ℕ → List A) → ((k : ℕ) → p k ≡ []) → each n i p ≡ []
-unfolding each
-none-each zero i p h = refl
-none-each (suc n) i p h = rw (h i) (none-each n (suc i) p h)
 
 -- nothing is in the empty set
 pub zero-has : (f : ℕ) → has 0 f ≡ false
@@ -63,65 +58,62 @@ module _ (W : World) (e : Entry) (grid : Within (W .size)) (inside : e .cell < c
   abbrev around : List ℕ
   around = besideOf (W .size) (e .cell)
 
-  abbrev at : Work → ℕ → ℕ → List ℕ
-  at w j f = asked around (e .cell) (setIn w j) j f
+  abbrev beyond : ℕ → Option ℕ
+  beyond f = neighbour (W .size) (e .cell) f
 
-  empty : (w : Work) (j : ℕ) → setIn w j ≡ 0 → (f : ℕ) → at w j f ≡ []
-  empty w j h f = idle around (e .cell) (setIn w j) j f (ap (λ (n : ℕ). has n f) h ∙ zero-has f)
+  -- the own side, or the neighbour's facing one
+  abbrev spot : ℕ → ℕ → List ℕ
+  spot zero f = keyOf (e .cell) f ∷ []
+  spot (suc odd) f = next f (beyond f)
 
-  no-keys : (w : Work) (j : ℕ) → setIn w j ≡ 0 → keysIn around (e .cell) w j ≡ []
-  no-keys w j h = none-each 6 0 (at w j) (empty w j h)
-
-  no-quads : (w : Work) (j : ℕ) (t : ℕ → ℕ) → setIn w j ≡ 0 → quadsIn W around (e .cell) w j t ≡ []
-  no-quads w j t h = none-each 6 0 (λ f. map (λ k. quadIn W k (t f)) (at w j f)) (λ f. ap (map (λ k. quadIn W k (t f))) (empty w j h f))
-
-  quad-is : (c f t : ℕ) → f < 6 → quadIn W (keyOf c f) t ≡ quadOf W t c f
-  quad-is c f t h = let a : keyOf c f % 6 ≡ f = omega arith in let b : keyOf c f / 6 ≡ c = omega arith in rw (a, b)
-
-  one-quad : (b : Bool) (c f t : ℕ) → f < 6 → map (λ k. quadIn W k t) (only b (keyOf c f)) ≡ only b (quadOf W t c f)
-  one-quad true c f t h = ap (λ (q : Quad). q ∷ []) (quad-is c f t h)
-  one-quad false c f t h = refl
+  spots-are : (n f : ℕ) → f < 6 → spotsBy n (getD around f 0) (e .cell) f ≡ spot n f
+  spots-are zero f l = refl
+  spots-are (suc n) f l = facing-is (W .size) (e .cell) grid inside f l
 
   -- a part, whose set's sides are those of which p holds
-  module _ (w : Work) (p : ℕ → Bool) where
-    own-keys : (w .own) ≡ setOf p → keysIn around (e .cell) w 0 ≡ sides (e .cell) p
+  module _ (w : Work) (j : ℕ) (p : ℕ → Bool) (h : setIn w j ≡ setOf p) where
+    asked-is : (f : ℕ) → f < 6 → asked around (e .cell) (setIn w j) j f ≡ cond (p f) (spot (j % 2) f) []
     unfolding asked
-    own-keys h = each-same 6 0 (at w 0) (λ f. only (p f) (keyOf (e .cell) f)) (λ f a b. ap (λ (b : Bool). only b (keyOf (e .cell) f)) (ap (λ (n : ℕ). has n f) h ∙ has-setOf p f (omega arith)))
+    asked-is f l = let b : has (setIn w j) f ≡ p f = ap (λ (n : ℕ). has n f) h ∙ has-setOf p f l in λ i. cond (b i) (spots-are (j % 2) f l i) []
 
-    own-quads : (w .drawn) ≡ setOf p → quadsIn W around (e .cell) w 2 (λ f. e .type) ≡ quads W (e .type) (e .cell) p
-    unfolding asked
-    own-quads h =
-        each-same 6 0 (λ f. map (λ k. quadIn W k (e .type)) (at w 2 f)) (λ f. only (p f) (quadOf W (e .type) (e .cell) f))
-        (λ f a b. one-quad (has (w .drawn) f) (e .cell) f (e .type) (omega arith) ∙ ap (λ (b : Bool). only b (quadOf W (e .type) (e .cell) f)) (ap (λ (n : ℕ). has n f) h ∙ has-setOf p f (omega arith)))
+    keys-are : keysIn around (e .cell) w j ≡ each 6 0 (λ f. cond (p f) (spot (j % 2) f) [])
+    keys-are = each-same 6 0 (asked around (e .cell) (setIn w j) j) (λ f. cond (p f) (spot (j % 2) f) []) (λ f _ l. asked-is f (omega arith))
 
-  facing-at : (f : ℕ) → f < 6 → facing f (getD around f 0) ≡ next f (neighbour (W .size) (e .cell) f)
-  facing-at = facing-is (W .size) (e .cell) grid inside
+    quads-are : (t : ℕ → ℕ) → quadsIn W around (e .cell) w j t ≡ each 6 0 (λ f. map (λ k. quadIn W k (t f)) (cond (p f) (spot (j % 2) f) []))
+    quads-are t =
+        each-same 6 0 (λ f. map (λ k. quadIn W k (t f)) (asked around (e .cell) (setIn w j) j f)) (λ f. map (λ k. quadIn W k (t f)) (cond (p f) (spot (j % 2) f) []))
+        (λ f _ l. ap (map (λ k. quadIn W k (t f))) (asked-is f (omega arith)))
 
-  shown-quads : (w : Work) → w .shown ≡ setOf (isShown (W .kinds) (getD (W .covers) (e .type) 0) e)
-      → quadsIn W around (e .cell) w 1 (givenAt e) ≡ each 6 0 (λ i. reveal W (e .type) (givenAt e i) i (neighbour (W .size) (e .cell) i))
-  unfolding asked
-  shown-quads w h =
-      each-same 6 0 (λ f. map (λ k. quadIn W k (givenAt e f)) (at w 1 f)) (λ i. reveal W (e .type) (givenAt e i) i (neighbour (W .size) (e .cell) i))
-      (λ f a b. ap (λ (ks : List ℕ). map (λ k. quadIn W k (givenAt e f)) (cond (has (w .shown) f) ks [])) (facing-at f (omega arith))
-      ∙ one f (omega arith) (has (w .shown) f) (ap (λ (n : ℕ). has n f) h ∙ has-setOf (isShown (W .kinds) (getD (W .covers) (e .type) 0) e) f (omega arith)) (neighbour (W .size) (e .cell) f))
+  one-quad : (b : Bool) (c f t : ℕ) → f < 6 → map (λ k. quadIn W k t) (only b (keyOf c f)) ≡ only b (quadOf W t c f)
+  one-quad true c f t h = let a : keyOf c f % 6 ≡ f = omega arith in let b : keyOf c f / 6 ≡ c = omega arith in rw (a, b)
+  one-quad false c f t h = refl
+
+  own-quads : (p : ℕ → Bool) (w : Work) → w .drawn ≡ setOf p → quadsIn W around (e .cell) w 2 (λ f. e .type) ≡ quads W (e .type) (e .cell) p
+  own-quads p w h =
+      quads-are w 2 p h (λ f. e .type)
+      ∙ each-same 6 0 (λ f. map (λ k. quadIn W k (e .type)) (only (p f) (keyOf (e .cell) f))) (λ f. only (p f) (quadOf W (e .type) (e .cell) f))
+      (λ f _ l. one-quad (p f) (e .cell) f (e .type) (omega arith))
+
+  abbrev shows : ℕ → Bool
+  shows i = covering W (e .type) i && isNormalCube W (givenAt e i)
+
+  shown-quads : each 6 0 (λ i. map (λ k. quadIn W k (givenAt e i)) (cond (shows i) (spot 1 i) [])) ≡ each 6 0 (λ i. reveal W (e .type) (givenAt e i) i (beyond i))
+  shown-quads =
+      each-same 6 0 (λ i. map (λ k. quadIn W k (givenAt e i)) (cond (shows i) (spot 1 i) [])) (λ i. reveal W (e .type) (givenAt e i) i (beyond i))
+      (λ i _ l. one i (omega arith) (shows i) refl (beyond i))
     where
-      one : (i : ℕ) → i < 6 → (b : Bool) → b ≡ (covering W (e .type) i && isNormalCube W (givenAt e i)) → (o : Option ℕ)
-          → map (λ k. quadIn W k (givenAt e i)) (cond b (next i o) []) ≡ reveal W (e .type) (givenAt e i) i o
+      one : (i : ℕ) → i < 6 → (b : Bool) → shows i ≡ b → (o : Option ℕ) → map (λ k. quadIn W k (givenAt e i)) (cond b (next i o) []) ≡ reveal W (e .type) (givenAt e i) i o
       one i l true h none = refl
       one i l false h none = refl
-      one i l b h (some n) = one-quad b n (opposite i) (givenAt e i) (opposite-lt i l) ∙ ap (λ (b : Bool). only b (quadOf W (givenAt e i) n (opposite i))) h
+      one i l b h (some n) = one-quad b n (opposite i) (givenAt e i) (opposite-lt i l) ∙ ap (λ (b : Bool). only b (quadOf W (givenAt e i) n (opposite i))) (sym h)
 
-  hidden-keys : (tested : Tested) (w : Work) → w .hidden ≡ setOf (λ i. covering W (e .type) (tested i))
-      → keysIn around (e .cell) w 3 ≡ each 6 0 (λ i. rule.hide tested W (e .type) i (neighbour (W .size) (e .cell) i))
-  unfolding asked
-  hidden-keys tested w h =
-      each-same 6 0 (at w 3) (λ i. rule.hide tested W (e .type) i (neighbour (W .size) (e .cell) i))
-      (λ f a b. ap (λ (ks : List ℕ). cond (has (w .hidden) f) ks []) (facing-at f (omega arith)) ∙ one f (has (w .hidden) f) (ap (λ (n : ℕ). has n f) h ∙ has-setOf (λ i. covering W (e .type) (tested i)) f (omega arith)) (neighbour (W .size) (e .cell) f))
+  hidden-keys : (tested : Tested) → each 6 0 (λ f. cond (covering W (e .type) (tested f)) (spot 1 f) []) ≡ each 6 0 (λ i. rule.hide tested W (e .type) i (beyond i))
+  hidden-keys tested = each-same 6 0 (λ f. cond (covering W (e .type) (tested f)) (spot 1 f) []) (λ i. rule.hide tested W (e .type) i (beyond i)) (λ f _ l. one f (covering W (e .type) (tested f)) refl (beyond f))
     where
-      one : (i : ℕ) (b : Bool) → b ≡ covering W (e .type) (tested i) → (o : Option ℕ) → cond b (next i o) [] ≡ rule.hide tested W (e .type) i o
+      one : (i : ℕ) (b : Bool) → covering W (e .type) (tested i) ≡ b → (o : Option ℕ) → cond b (next i o) [] ≡ rule.hide tested W (e .type) i o
       one i true h none = refl
       one i false h none = refl
-      one i b h (some n) = ap (λ (b : Bool). only b (keyOf n (opposite i))) h
+      one i b h (some n) = ap (λ (b : Bool). only b (keyOf n (opposite i))) (sym h)
 
   same-work : {a a′ c c′ : List ℕ} {b b′ d : List Quad} → a ≡ a′ → b ≡ b′ → d ≡ [] → c ≡ c′
       → _≡_ {A = rule.Work} (record { own = a; new = b ++ d; facing = c }) (record { own = a′; new = b′; facing = c′ })
@@ -131,6 +123,17 @@ module _ (W : World) (e : Entry) (grid : Within (W .size)) (inside : e .cell < c
       → _≡_ {A = rule.Work} (record { own = a; new = d ++ b; facing = c }) (record { own = a′; new = b′; facing = c′ })
   same-own {b = b} a n d c = let m = ap (λ (r : List Quad). r ++ b) d ∙ n in λ i. record { own = a i; new = m i; facing = c i }
 
+  abbrev none-of : ℕ → Bool
+  none-of f = false
+
+  no-keys : (w : Work) (j : ℕ) → setIn w j ≡ 0 → keysIn around (e .cell) w j ≡ []
+  unfolding each
+  no-keys w j h = keys-are w j none-of h
+
+  no-quads : (w : Work) (j : ℕ) (t : ℕ → ℕ) → setIn w j ≡ 0 → quadsIn W around (e .cell) w j t ≡ []
+  unfolding each
+  no-quads w j t h = quads-are w j none-of h t
+
   idle-work : workIn W around e noWork ≡ nothing
   unfolding workIn
   idle-work = same-work (no-keys noWork 0 refl) (no-quads noWork 1 (givenAt e) refl) (no-quads noWork 2 (λ f. e .type) refl) (no-keys noWork 3 refl)
@@ -139,21 +142,21 @@ module _ (W : World) (e : Entry) (grid : Within (W .size)) (inside : e .cell < c
   unfolding workIn
   by-change tested Broken =
       let w = meantBy tested W e Broken in
-      same-work (own-keys w all refl) (shown-quads w refl) (no-quads w 2 (λ f. e .type) refl) (no-keys w 3 refl)
+      same-work (keys-are w 0 all refl) (quads-are w 1 shows refl (givenAt e) ∙ shown-quads) (no-quads w 2 (λ f. e .type) refl) (no-keys w 3 refl)
   by-change tested Added = pick (isNormalCube W (e .type))
     where
       pick : (b : Bool) → workIn W around e (cond b (sets 63 0 (setOf (isOpen W e)) (setOf (λ i. covering W (e .type) (tested i)))) noWork) ≡ cond b (added tested W e) nothing
       pick true =
           let w = sets 63 0 (setOf (isOpen W e)) (setOf (λ i. covering W (e .type) (tested i))) in
-          same-own (own-keys w all refl) (own-quads w (isOpen W e) refl) (no-quads w 1 (givenAt e) refl) (hidden-keys tested w refl)
+          same-own (keys-are w 0 all refl) (own-quads (isOpen W e) w refl) (no-quads w 1 (givenAt e) refl) (keys-are w 3 (λ i. covering W (e .type) (tested i)) refl ∙ hidden-keys tested)
       pick false = idle-work
   by-change tested CullFaces =
       let w = meantBy tested W e CullFaces in
-      same-work (own-keys w (withGiven e) refl) (no-quads w 1 (givenAt e) refl) (no-quads w 2 (λ f. e .type) refl) (no-keys w 3 refl)
+      same-work (keys-are w 0 (withGiven e) refl) (no-quads w 1 (givenAt e) refl) (no-quads w 2 (λ f. e .type) refl) (no-keys w 3 refl)
   by-change tested AddFaces = pick (isNormalCube W (e .type))
     where
       pick : (b : Bool) → workIn W around e (cond b (sets 0 0 (setOf (withGiven e)) 0) noWork) ≡ cond b (record { own = []; new = quads W (e .type) (e .cell) (withGiven e); facing = [] }) nothing
-      pick true = let w = sets 0 0 (setOf (withGiven e)) 0 in same-own (no-keys w 0 refl) (own-quads w (withGiven e) refl) (no-quads w 1 (givenAt e) refl) (no-keys w 3 refl)
+      pick true = let w = sets 0 0 (setOf (withGiven e)) 0 in same-own (no-keys w 0 refl) (own-quads (withGiven e) w refl) (no-quads w 1 (givenAt e) refl) (no-keys w 3 refl)
       pick false = idle-work
 
   -- LAW: the sets of an entry are the rule's work

@@ -8,7 +8,7 @@ use lib.Dec.{eqb}
 use lib.ListN.{length, getD, List·getD-eq-default}
 use Rattle.rules.specs.Cells.{opposite, keyOf, has}
 use Rattle.rules.specs.Mesh.{World, NONE}
-use Rattle.rules.specs.Update.{Entry, givenAt, outside, isOpen, withGiven}
+use Rattle.rules.specs.Update.{Entry, givenAt, outside, isOpen}
 use Rattle.rules.proofs.ListLaws.{split}
 use Rattle.steps.specs.Steps.{CUT, show, hide}
 use borrow.Author.Tests.{lt-ltb, eq-eqb, ne-eqb}
@@ -29,19 +29,12 @@ given-voxel : (g v : ℕ) → neighbourOf g ≡ Voxel v → (outside g ≡ false
 given-voxel g v = split (λ b. cond b Outside (Voxel g) ≡ Voxel v → (b ≡ false) × (g ≡ v)) (eqb g 255)
     (λ e r. absurd (let z : _≡_ {A = ℕ} 0 1 = cc in omega arith)) (λ e r. (refl, cc))
 
-module _ (e : Entry) (f : ℕ) where
-  pub not-given : neighbourOf (givenAt e f) ≡ Outside → false ≡ withGiven e f
-  not-given n = rw (given-outside (givenAt e f) n)
+module _ (e : Entry) (f : ℕ) (W : World) where
+  pub open-outside : neighbourOf (givenAt e f) ≡ Outside → true ≡ isOpen W e f
+  open-outside n = rw (given-outside (givenAt e f) n)
 
-  pub is-given : {v : ℕ} → neighbourOf (givenAt e f) ≡ Voxel v → true ≡ withGiven e f
-  is-given {v} n = rw (given-voxel (givenAt e f) v n .0)
-
-  module _ (W : World) where
-    pub open-outside : neighbourOf (givenAt e f) ≡ Outside → true ≡ isOpen W e f
-    open-outside n = rw (given-outside (givenAt e f) n)
-
-    pub open-voxel : {v k c : ℕ} {b : Bool} → neighbourOf (givenAt e f) ≡ Voxel v → b ≡ has c k → c ≡ getD (W .covers) v 0 → k ≡ opposite f → not b ≡ isOpen W e f
-    open-voxel {v} n b c k = rw (given-voxel (givenAt e f) v n .0, given-voxel (givenAt e f) v n .1, b, c, k)
+  pub open-voxel : {v k c : ℕ} {b : Bool} → neighbourOf (givenAt e f) ≡ Voxel v → b ≡ has c k → c ≡ getD (W .covers) v 0 → k ≡ opposite f → not b ≡ isOpen W e f
+  open-voxel {v} n b c k = rw (given-voxel (givenAt e f) v n .0, given-voxel (givenAt e f) v n .1, b, c, k)
 
 -- the last of four parts
 pub last-set : (w : Work) (p : ℕ) → (p ≡ 0 → ⊥) → (p ≡ 1 → ⊥) → (p ≡ 2 → ⊥) → setIn w p ≡ w .hidden

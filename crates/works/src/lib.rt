@@ -20,7 +20,6 @@ ghost use mathlib.Core.Path.{_≡_};
 ghost use mathlib.Core.Bool.{cond};
 ghost use mathlib.Core.List.{[]};
 ghost use Prim.Native.Nat.{ℕ, _%_, _<_};
-ghost use lib.Dec.{eqb};
 ghost use lib.ListN.{getD};
 ghost use Rattle.rules.specs.Cells as rule;
 ghost use Rattle.rules.specs.Cells.{cells, coordinates, neighbour, setOf};
@@ -48,25 +47,15 @@ pub enum Spot {
     Nothing,
 }
 
-// A code that is no type's is of no NormalCube, and covers nothing.
-fn is_normal_cube(kinds: &[u8], voxel: u8) -> bool
-    ensures { λ r. ⌜ r ≡ eqb (getD (now (kinds .entry)) voxel 0) 1 ⌝ }
+// What a table has for a code; 0 for one that is no type's, which is of no NormalCube and covers nothing.
+fn code_of(table: &[u8], voxel: u8) -> u8
+    ensures { λ r. ⌜ r ≡ getD (now (table .entry)) voxel 0 ⌝ }
 {
     let t = voxel as usize;
-    if kinds.len() <= t {
-        return false;
-    }
-    kinds[t] == 1
-}
-
-fn cover_of(covers: &[u8], voxel: u8) -> u8
-    ensures { λ r. ⌜ r ≡ getD (now (covers .entry)) voxel 0 ⌝ }
-{
-    let t = voxel as usize;
-    if covers.len() <= t {
+    if table.len() <= t {
         return 0;
     }
-    covers[t]
+    table[t]
 }
 
 // The neighbour's byte: a type, or outside.
@@ -77,21 +66,12 @@ fn given(entry: Entry, face: Face) -> u8
     entry.neighbours[side]
 }
 
-fn is_given(entry: Entry, face: Face) -> bool
-    ensures { λ r. ⌜ r ≡ withGiven (entryIn entry) (number face) ⌝ }
-{
-    match entry.neighbour(face) {
-        Neighbour::Outside => false,
-        Neighbour::Voxel(_) => true,
-    }
-}
-
 fn is_open(covers: &[u8], entry: Entry, face: Face) -> bool
     ensures { λ r. ⌜ r ≡ isOpen (typesBy [] (now (covers .entry))) (entryIn entry) (number face) ⌝ }
 {
     match entry.neighbour(face) {
         Neighbour::Outside => true,
-        Neighbour::Voxel(given) => !has(cover_of(covers, given), face.opposite()),
+        Neighbour::Voxel(given) => !has(code_of(covers, given), face.opposite()),
     }
 }
 
@@ -99,19 +79,19 @@ fn is_open(covers: &[u8], entry: Entry, face: Face) -> bool
 fn is_shown(kinds: &[u8], cover: u8, entry: Entry, face: Face) -> bool
     ensures { λ r. ⌜ r ≡ isShown (now (kinds .entry)) cover (entryIn entry) (number face) ⌝ }
 {
-    has(cover, face) & is_normal_cube(kinds, given(entry, face))
+    has(cover, face) & (code_of(kinds, given(entry, face)) == 1)
 }
 
 fn given_sides(entry: Entry) -> u8
     ensures { λ r. ⌜ r ≡ setOf (withGiven (entryIn entry)) ⌝ }
 {
     side_set(
-        is_given(entry, Face::Top),
-        is_given(entry, Face::Bottom),
-        is_given(entry, Face::Right),
-        is_given(entry, Face::Left),
-        is_given(entry, Face::Back),
-        is_given(entry, Face::Forward),
+        given(entry, Face::Top) != Entry::OUTSIDE,
+        given(entry, Face::Bottom) != Entry::OUTSIDE,
+        given(entry, Face::Right) != Entry::OUTSIDE,
+        given(entry, Face::Left) != Entry::OUTSIDE,
+        given(entry, Face::Back) != Entry::OUTSIDE,
+        given(entry, Face::Forward) != Entry::OUTSIDE,
     )
 }
 
@@ -173,8 +153,8 @@ fn work_if(on: bool, work: Work) -> Work
 pub fn work_of(kinds: &[u8], covers: &[u8], tested: Tested, entry: Entry) -> Work
     ensures { λ r. ⌜ r ≡ meant (testedBy tested) (typesBy (now (kinds .entry)) (now (covers .entry))) (entryIn entry) ⌝ }
 {
-    let cube = is_normal_cube(kinds, entry.voxel);
-    let cover = cover_of(covers, entry.voxel);
+    let cube = code_of(kinds, entry.voxel) == 1;
+    let cover = code_of(covers, entry.voxel);
     let change = entry.change;
     match change {
         VoxelChange::Broken => {

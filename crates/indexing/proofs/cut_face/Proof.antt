@@ -1,15 +1,13 @@
 -- `indexing::cut_face` meets its contract: VIVI tells the quad. Assumes nothing.
 use mathlib.Core.Path.{sym, ap, _∙_, subst}
-use Prim.Native.Nat.{ℕ, _/_, _<_}
-use native.Mathlib.Omega.{arith}
-use lib.ListN.{length}
-use Rattle.rules.specs.Cells.{UNIT, keyOf}
+use Prim.Native.Nat.{ℕ, _/_}
+use Rattle.rules.specs.Cells.{keyOf}
 use Rattle.face.specs.Face.{number}
 use Rattle.face.proofs.Laws.{number-below}
 use Rattle.indexing.specs.Index.{Index, indexOf, slotIn}
 use Rattle.mesh_metadata.specs.Index.{vertexIn}
 use Rattle.indexing.specs.Index.{Removable, goneAt}
-use Rattle.indexing.proofs.Doing.{standing, removable, hide-none, hide-one, none-told, some-told}
+use Rattle.indexing.proofs.Doing.{inside, space-left, removable, hide-none, hide-one, none-told, some-told}
 use borrow.Author.Needs.{needs}
 use Rattle.indexing.proofs.cut_face.Statement.{statement}
 use Rattle.indexing.proofs.cut_face.Tie as tie
@@ -20,16 +18,8 @@ face t = keyOf (t .args .cell .0) (number (t .args .face))
 abbrev there : tie.Start → Index
 there t = indexOf (t .args .links .now) (t .args .slots .now) (t .args .steps .now) (t .args .tally)
 
-inside : (t : tie.Start) → (t .args .cell .0 < UNIT) × (face t < length (t .args .slots .now))
-inside t =
-    let z = standing (t .pre .1 .booked) .slots in
-    let g = t .pre .1 .good .0 in
-    let s = t .pre .1 .booked .small in
-    let f = number-below (t .args .face) in
-    (omega arith, omega arith)
-
 get-quad-index-requires : tie.Need-get-quad-index-requires
-get-quad-index-requires c κs = inside (c .before .before .before .before)
+get-quad-index-requires c κs = let t = c .before .before .before .before in inside (t .pre) (t .args .cell .0) (number (t .args .face)) (number-below (t .args .face)) (t .pre .good .0)
 
 remove-quad-requires : tie.Need-remove-quad-requires
 remove-quad-requires c κs =
@@ -37,7 +27,7 @@ remove-quad-requires c κs =
     let found = met .before .before in
     let t = found .before .before .before .before .before in
     let e = some-told (slotIn (there t) (face t)) _ (sym (found .get-quad-index .ensures) ∙ ap vertexIn (met .vertex .given .1)) in
-    (subst (λ (q : ℕ). Removable q (there t)) (ap (λ (v : ℕ). v / 4) (e .1) ∙ sym (c .quad .ensures)) (removable (t .pre .1) (e .0)), t .pre .0)
+    (subst (λ (q : ℕ). Removable q (there t)) (ap (λ (v : ℕ). v / 4) (e .1) ∙ sym (c .quad .ensures)) (removable (t .pre) (e .0)), space-left (t .args .steps .now) (t .args .tally) (t .pre))
 
 returns : tie.Need-returns
 returns c =

@@ -1,6 +1,7 @@
 -- `indexing::do_deed` meets its contract: what the mark tells. Assumes nothing.
 use mathlib.Core.Path.{_≡_, sym, ap, _∙_, subst}
 use mathlib.Core.List.{List, map}
+use lib.ListN.{length}
 use Rattle.steps.specs.Steps.{Deed}
 use Rattle.works.specs.declared.Spot.{Spot}
 use Rattle.works.specs.Sets.{spotIn, deedBy}
@@ -16,8 +17,8 @@ there t = indexOf (t .args .links .now) (t .args .slots .now) (t .args .steps .n
 abbrev asked : tie.Start → List Deed
 asked t = map (λ k. deedBy k (t .args .mark)) (spotIn (t .args .spot))
 
-known : (t : tie.Start) {ds : List Deed} → asked t ≡ ds → Ready ds (there t)
-known t e = subst (λ (ds : List Deed). Ready ds (there t)) e (t .pre .1)
+known : (t : tie.Start) {ds : List Deed} → asked t ≡ ds → Ready (length (t .args .steps .now)) ds (there t)
+known t e = subst (λ (ds : List Deed). Ready (length (t .args .steps .now)) ds (there t)) e (t .pre)
 
 ran : (t : tie.Start) {ds : List Deed} → asked t ≡ ds → indexRun ds (there t) ≡ indexRun (asked t) (there t)
 ran t e = sym (ap (λ (ds : List Deed). indexRun ds (there t)) e)
@@ -26,13 +27,13 @@ draw-face-requires : tie.Need-draw-face-requires
 draw-face-requires c κs =
     let test = c .before .before .before in
     let t = test .before .before .before .before .before .before .before in
-    (t .pre .0, test .if1 .taken, known t (spot-shows (t .args .spot) _ _ (ap spotIn (test .before .before .spot .given .1)) (test .if1 .taken)))
+    (test .if1 .taken, known t (spot-shows (t .args .spot) _ _ (ap spotIn (test .before .before .spot .given .1)) (test .if1 .taken)))
 
 cut-face-requires : tie.Need-cut-face-requires
 cut-face-requires c κs =
     let test = c .before .before .before in
     let t = test .before .before .before .before .before .before .before in
-    (t .pre .0, known t (spot-hides (t .args .spot) _ _ (ap spotIn (test .before .before .spot .given .1)) (test .if1 .left)))
+    known t (spot-hides (t .args .spot) _ _ (ap spotIn (test .before .before .spot .given .1)) (test .if1 .left))
 
 returns : tie.Need-returns
 returns c = ran (c .before .before .before .before .before) (ap (λ (x : Spot). map (λ k. deedBy k (c .before .before .before .before .before .args .mark)) (spotIn x)) (c .enum-told .given .1))

@@ -1,13 +1,11 @@
 -- `indexing::draw_face` meets its contract. Assumes nothing.
 use mathlib.Core.Path.{sym, _∙_}
-use Prim.Native.Nat.{ℕ, _<_}
-use native.Mathlib.Omega.{arith}
-use lib.ListN.{length}
-use Rattle.rules.specs.Cells.{UNIT, keyOf}
+use Prim.Native.Nat.{ℕ}
+use Rattle.rules.specs.Cells.{keyOf}
 use Rattle.face.specs.Face.{number}
 use Rattle.face.proofs.Laws.{number-below}
 use Rattle.indexing.specs.Index.{Index, indexOf, slotIn}
-use Rattle.indexing.proofs.Doing.{standing, drawable, show-there, show-new, filled-no, filled-yes}
+use Rattle.indexing.proofs.Doing.{inside, space-left, drawable, show-there, show-new, filled-no, filled-yes}
 use borrow.Author.Needs.{needs}
 use Rattle.indexing.proofs.draw_face.Statement.{statement}
 use Rattle.indexing.proofs.draw_face.Tie as tie
@@ -18,16 +16,8 @@ face t = keyOf (t .args .cell .0) (number (t .args .face))
 abbrev there : tie.Start → Index
 there t = indexOf (t .args .links .now) (t .args .slots .now) (t .args .steps .now) (t .args .tally)
 
-inside : (t : tie.Start) → (t .args .cell .0 < UNIT) × (face t < length (t .args .slots .now))
-inside t =
-    let z = standing (t .pre .2 .booked) .slots in
-    let g = t .pre .2 .good .0 .0 in
-    let s = t .pre .2 .booked .small in
-    let f = number-below (t .args .face) in
-    (omega arith, omega arith)
-
 is-filled-requires : tie.Need-is-filled-requires
-is-filled-requires c κs = inside (c .before .before .before .before)
+is-filled-requires c κs = let t = c .before .before .before .before in inside (t .pre .1) (t .args .cell .0) (number (t .args .face)) (number-below (t .args .face)) (t .pre .1 .good .0 .0)
 
 returns : tie.Need-returns
 returns c =
@@ -38,7 +28,7 @@ append-quad-requires : tie.Need-append-quad-requires
 append-quad-requires c κs =
     let test = c .before .before .before in
     let t = test .before .before .before .before .before .before in
-    (drawable (t .args .cell .0) (number (t .args .face)) (t .pre .2) (filled-no (slotIn (there t) (face t)) (sym (test .before .is-filled .ensures) ∙ test .if1 .left)), t .pre .0, t .pre .1)
+    (drawable (t .args .cell .0) (number (t .args .face)) (t .pre .1) (filled-no (slotIn (there t) (face t)) (sym (test .before .is-filled .ensures) ∙ test .if1 .left)), space-left (t .args .steps .now) (t .args .tally) (t .pre .1), t .pre .0)
 
 returns-2 : tie.Need-returns-2
 returns-2 c =

@@ -1,12 +1,11 @@
--- `indexing::has_room` meets its contract: an entry draws twelve sides at most. Assumes nothing.
-use mathlib.Core.Path.{sym, ap}
-use Prim.Native.Nat.{ℕ}
+-- `indexing::has_room` meets its contract: a side adds two quads at most. Assumes nothing.
+use mathlib.Core.Path.{sym, ap, _∙_}
+use Prim.Native.Nat.{ℕ, _+_, _-_}
 use native.Mathlib.Omega.{arith}
 use lib.Dec.{leb}
 use borrow.Author.Tests.{le-leb}
-use Rattle.rules.specs.Cells.{has, setOf}
-use Rattle.indexing.specs.Room.{isBare, newSide, quadsNeeded}
-use Rattle.indexing.proofs.Bits.{count-le}
+use Rattle.indexing.specs.Room.{total, quadsNeeded}
+use Rattle.indexing.proofs.Room.{grown-few, less-six}
 use borrow.Author.Needs.{needs}
 use Rattle.indexing.proofs.has_room.Statement.{statement}
 use Rattle.indexing.proofs.has_room.Tie as tie
@@ -15,13 +14,18 @@ returns : tie.Need-returns
 unfolding quadsNeeded
 returns c =
     let a = c .before .before .args in
-    let b = count-le 6 (has (setOf (isBare (a .slots .now) (a .cell .0) (a .beside) (a .work .shown)))) in
-    let n = count-le 6 (has (setOf (newSide (a .slots .now) (a .cell .0) (a .work)))) in
     let far = c .if1 .taken in
-    sym (le-leb (quadsNeeded (a .slots .now) (a .cell .0) (a .beside) (a .work) (a .count)) (a .room) (omega arith))
+    sym (le-leb (quadsNeeded (a .slots .now) (a .cell .0) (a .beside) (a .work) (a .count)) (a .room) (omega (arith, grown-few (a .slots .now) (a .cell .0) (a .beside) (a .work))))
 
 returns-2 : tie.Need-returns-2
-returns-2 c = ap (λ (n : ℕ). leb n (c .before .before .before .args .room)) (c .quads-needed .ensures)
+unfolding quadsNeeded total
+returns-2 c =
+    let a = c .before .before .before .before .before .before .before .before .args in
+    less-six _ (a .room) ∙ ap (λ (n : ℕ). leb (a .count + n - 6) (a .room)) (omega arith)
 
 pub has-room-spec : {M : Type 1} → statement M
-has-room-spec = tie.close (tie.spec (λ c. search needs) returns (λ c κs. search needs) returns-2)
+has-room-spec =
+    tie.close
+    (tie.spec (λ c. search needs) returns (λ c κs. search needs) (λ c κs. search needs) (λ c. search needs) (λ c κs. search needs) (λ c. search needs)
+    (λ c κs. search needs) (λ c. search needs) (λ c κs. search needs) (λ c. search needs) (λ c κs. search needs) (λ c. search needs)
+    (λ c. search needs) (λ c. search needs) returns-2)

@@ -6,21 +6,20 @@ use native.Mathlib.Nat.{div-le-self}
 use native.Mathlib.Omega.{arith}
 use lib.Count.{trailingZeros}
 use lib.ListN.{length, getD}
-use Rattle.rules.proofs.ListLaws.{length-table}
 use Rattle.entries.specs.Log.{entryIn}
-use Rattle.steps.specs.Steps.{Deed, stepAt}
+use Rattle.steps.specs.Steps.{Deed}
 use Rattle.works.specs.Sets.{spotIn, spotsBy, act, deedBy, deedAt}
 use Rattle.indexing.specs.Index.{Index, indexOf, indexRun, Ready}
 use Rattle.indexing.proofs.Bits.{Left, left-start, left-none, left-at, left-skip, left-below, left-next}
-use Rattle.indexing.proofs.Doing.{Turning, start, this, skip, turn, done, few-deeds, deed-told, no-deed}
+use Rattle.indexing.proofs.Doing.{Turning, start, this, skip, turn, done, deed-told, no-deed}
 use borrow.Author.Needs.{needs}
 use Rattle.indexing.proofs.index_part.Statement.{statement}
 use Rattle.indexing.proofs.index_part.Tie as tie
 
 abbrev Inv-loop : tie.InvT-loop
 Inv-loop links₀ slots₀ steps₀ entry set part beside left₀ f₀ rest₀ links slots steps left f rest =
-    Turning 1 6 (deedAt beside (entryIn entry) set part) f (indexOf links₀ slots₀ steps₀ left₀) (indexOf links slots steps left)
-    × (length steps ≡ length steps₀) × Left set f rest × (set < 64)
+    Turning (length steps₀) 6 (deedAt beside (entryIn entry) set part) f (indexOf links₀ slots₀ steps₀ left₀) (indexOf links slots steps left)
+    × Left set f rest × (set < 64) × (length links ≡ length links₀) × (length slots ≡ length slots₀) × (length steps ≡ length steps₀)
 
 abbrev μ-loop : tie.MeasureT-loop
 μ-loop links₀ slots₀ steps₀ entry set part beside left₀ f₀ rest₀ links slots steps left f rest = rest
@@ -39,15 +38,15 @@ abbrev here : tie.In-loop Inv-loop μ-loop → Index
 here i = let l = i .before .loop in indexOf (l .links) (l .slots) (l .steps) (l .left)
 
 below : (i : tie.In-loop Inv-loop μ-loop) → i .before .loop .f + low i < 6
-below i = let v = i .before .loop .inv in left-below (v .2) (i .loop-test .taken) refl (v .3)
+below i = let v = i .before .loop .inv in left-below (v .1) (i .loop-test .taken) refl (v .2)
 
 turned : (i : tie.In-loop Inv-loop μ-loop) →
-    let a = begun i .args in Turning 1 6 (deed i) (i .before .loop .f + low i) (indexOf (a .links .now) (a .slots .now) (a .steps .now) (a .tally)) (here i)
+    let a = begun i .args in Turning (length (a .steps .now)) 6 (deed i) (i .before .loop .f + low i) (indexOf (a .links .now) (a .slots .now) (a .steps .now) (a .tally)) (here i)
 turned i =
     let l = i .before .loop in
     let a = begun i .args in
     let b = below i in
-    skip (l .inv .0) (omega arith) (omega arith) (λ k c d. no-deed (a .t4) (entryIn (a .entry)) (a .set) (a .part) k (left-skip (l .inv .2) (i .loop-test .taken) refl k c d))
+    skip (l .inv .0) (omega arith) (omega arith) (λ k c d. no-deed (a .t4) (entryIn (a .entry)) (a .set) (a .part) k (left-skip (l .inv .1) (i .loop-test .taken) refl k c d))
 
 -- what is done there
 told : (c : tie.After-mark-of Inv-loop μ-loop) →
@@ -61,11 +60,11 @@ told c =
     let a = begun i .args in
     let e = entryIn (a .entry) in
     let f = faced .face-at .ensures in
-    deed-told (a .t4) e (a .set) (a .part) _ (c .mark-of .result) (spotted .spot-at .result) (left-at (i .before .loop .inv .2) (i .loop-test .taken) refl)
+    deed-told (a .t4) e (a .set) (a .part) _ (c .mark-of .result) (spotted .spot-at .result) (left-at (i .before .loop .inv .1) (i .loop-test .taken) refl)
     (spotted .spot-at .ensures ∙ ap (spotsBy (a .part % 2) (getD (a .t4) (i .before .loop .f + low i) 0) (a .entry .cell .0)) f) (λ k. c .mark-of .ensures k ∙ ap (λ (n : ℕ). act e (a .part) n k) f)
 
 loop-holds : tie.Need-loop-holds Inv-loop μ-loop
-loop-holds c = let t = c .before .before .before in (start (t .pre .2), refl, left-start (t .pre .1), t .pre .1)
+loop-holds c = let t = c .before .before .before in (start (t .pre .1), left-start (t .pre .0), t .pre .0, refl, refl, refl)
 
 add-face-at : tie.Need-add-face-at Inv-loop μ-loop
 add-face-at c = omega (arith, below c)
@@ -76,15 +75,9 @@ face-at-requires c κs = below c
 do-deed-requires : tie.Need-do-deed-requires Inv-loop μ-loop
 do-deed-requires c κs =
     let i = c .before .before .before .before .before .before in
-    let l = i .before .loop in
-    let t = begun i in
-    let f = turned i .few in
-    let x = length-table (stepAt (l .steps)) (l .left .steps) in
-    let y = length-table (stepAt (t .args .steps .now)) (t .args .tally .steps) in
-    let room = t .pre .0 in
-    let same = l .inv .1 in
-    let b = below i in
-    (omega arith, subst (λ (ds : List Deed). Ready ds (here i)) (sym (told c)) (this (turned i) b))
+    let n = sym (i .before .loop .inv .5) in
+    let d = sym (told c) in
+    subst (λ (x : ℕ × List Deed). Ready (x .0) (x .1) (here i)) (λ j. (n j, d j)) (this (turned i) (below i))
 
 abbrev into : tie.After-slice-known6 Inv-loop μ-loop → tie.In-loop Inv-loop μ-loop
 into c = c .before .before .before .before .before .before .before .before .before .before .before .before .before
@@ -113,34 +106,25 @@ loop-again c =
     let went = c .before .before .before .before .before .before in
     let marked = went .before in
     let i = marked .before .before .before .before .before .before in
-    let l = i .before .loop in
-    let a = begun i .args in (
-      turn (turned i) (below i) (few-deeds (a .t4) (entryIn (a .entry)) (a .set) (a .part) _)
-          (went .do-deed .ensures ∙ ap (λ (ds : List Deed). indexRun ds (here i)) (told marked)),
-      went .do-deed .kept .1 .1 .0 ∙ l .inv .1,
-      left-next (l .inv .2) (i .loop-test .taken) refl,
-      l .inv .3,
+    let l = i .before .loop in (
+      turn (turned i) (below i) (went .do-deed .ensures ∙ ap (λ (ds : List Deed). indexRun ds (here i)) (told marked)),
+      left-next (l .inv .1) (i .loop-test .taken) refl,
+      l .inv .2,
+      went .do-deed .kept .0 ∙ l .inv .3,
+      went .do-deed .kept .1 .0 ∙ l .inv .4,
+      went .do-deed .kept .1 .1 .0 ∙ l .inv .5,
     )
-
-same-length : tie.Need-same-length Inv-loop μ-loop
-same-length c = c .before .loop .inv .0 .kept .links
-
-same-length-2 : tie.Need-same-length-2 Inv-loop μ-loop
-same-length-2 c = c .before .loop .inv .0 .kept .slots
-
-same-length-3 : tie.Need-same-length-3 Inv-loop μ-loop
-same-length-3 c = c .before .loop .inv .1
 
 returns : tie.Need-returns Inv-loop μ-loop
 returns c =
     let l = c .before .loop in
     let a = c .before .before .before .before .before .args in
     let b = l .inv .0 .below in
-    done (skip (l .inv .0) b (omega arith) (λ k u v. no-deed (a .t4) (entryIn (a .entry)) (a .set) (a .part) k (left-none (l .inv .2) (c .loop-test .left) k u))) (omega arith)
+    done (skip (l .inv .0) b (omega arith) (λ k u v. no-deed (a .t4) (entryIn (a .entry)) (a .set) (a .part) k (left-none (l .inv .1) (c .loop-test .left) k u))) (omega arith)
 
 pub index-part-spec : {M : Type 1} → statement M
 index-part-spec =
     tie.close
     (tie.spec Inv-loop μ-loop loop-holds add-face-at face-at-requires (λ c. omega (arith, below (c .before))) (λ c. omega (arith, below (c .before)))
     (λ c. omega (arith, below (c .before))) (λ c. below (c .before)) (λ c κs. search needs) (λ c κs. search needs) do-deed-requires add-f add-f-2
-    cast-rest shr-rest loop-less loop-again same-length same-length-2 same-length-3 returns)
+    cast-rest shr-rest loop-less loop-again (λ c. c .before .loop .inv .3) (λ c. c .before .loop .inv .4) (λ c. c .before .loop .inv .5) returns)

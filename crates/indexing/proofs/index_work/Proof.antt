@@ -4,26 +4,24 @@ use Prim.Native.Nat.{ℕ, _-_, _<_}
 use native.Mathlib.Omega.{arith}
 use lib.ListN.{length}
 use Rattle.rules.specs.Lists.{each}
-use Rattle.rules.proofs.ListLaws.{length-table}
 use Rattle.entries.specs.Log.{entryIn}
-use Rattle.steps.specs.Steps.{stepAt}
 use Rattle.works.specs.Sets.{setIn, deedAt}
 use Rattle.indexing.specs.Index.{indexOf, indexRun, Ready}
-use Rattle.indexing.proofs.Doing.{Turning, start, this, turn, done, few-part}
+use Rattle.indexing.proofs.Doing.{Turning, start, this, turn, done}
 use borrow.Author.Needs.{needs}
 use Rattle.indexing.proofs.index_work.Statement.{statement}
 use Rattle.indexing.proofs.index_work.Tie as tie
 
 abbrev Inv-loop : tie.InvT-loop
 Inv-loop links₀ slots₀ steps₀ beside entry work left₀ part₀ links slots steps left part =
-    Turning 6 4 (λ j. each 6 0 (deedAt beside (entryIn entry) (setIn work j) j)) part (indexOf links₀ slots₀ steps₀ left₀) (indexOf links slots steps left)
-    × (length steps ≡ length steps₀)
+    Turning (length steps₀) 4 (λ j. each 6 0 (deedAt beside (entryIn entry) (setIn work j) j)) part (indexOf links₀ slots₀ steps₀ left₀) (indexOf links slots steps left)
+    × (length links ≡ length links₀) × (length slots ≡ length slots₀) × (length steps ≡ length steps₀)
 
 abbrev μ-loop : tie.MeasureT-loop
 μ-loop links₀ slots₀ steps₀ beside entry work left₀ part₀ links slots steps left part = 4 - part
 
 loop-holds : tie.Need-loop-holds Inv-loop μ-loop
-loop-holds c = (start (c .before .before .before .pre .2), refl)
+loop-holds c = (start (c .before .before .before .pre .1), refl, refl, refl)
 
 index-part-requires : tie.Need-index-part-requires Inv-loop μ-loop
 index-part-requires c κs =
@@ -32,16 +30,11 @@ index-part-requires c κs =
     let l = i .before .loop in
     let t = i .before .before .before .before .before in
     let a = t .args in
-    let f = l .inv .0 .few in
-    let x = length-table (stepAt (l .steps)) (l .left .steps) in
-    let y = length-table (stepAt (a .steps .now)) (a .tally .steps) in
-    let room = t .pre .0 in
-    let same = l .inv .1 in
-    let low = i .loop-test .taken in
-    let e = sym (set .set-of .ensures) in (
-      omega arith,
-      subst (λ (n : ℕ). n < 64) e (t .pre .1 (l .part)),
-      subst (λ (n : ℕ). Ready (each 6 0 (deedAt (a .beside) (entryIn (a .entry)) n (l .part))) (indexOf (l .links) (l .slots) (l .steps) (l .left))) e (this (l .inv .0) low),
+    let e = sym (set .set-of .ensures) in
+    let n = sym (l .inv .3) in (
+      subst (λ (n : ℕ). n < 64) e (t .pre .0 (l .part)),
+      subst (λ (x : ℕ × ℕ). Ready (x .0) (each 6 0 (deedAt (a .beside) (entryIn (a .entry)) (x .1) (l .part))) (indexOf (l .links) (l .slots) (l .steps) (l .left)))
+          (λ j. (n j, e j)) (this (l .inv .0) (i .loop-test .taken)),
     )
 
 loop-again : tie.Need-loop-again Inv-loop μ-loop
@@ -51,20 +44,13 @@ loop-again c =
     let i = set .before in
     let l = i .before .loop in
     let a = i .before .before .before .before .before .args in (
-      turn (l .inv .0) (i .loop-test .taken) (few-part (a .beside) (entryIn (a .entry)) (setIn (a .work) (l .part)) (l .part))
+      turn (l .inv .0) (i .loop-test .taken)
           (went .index-part .ensures
           ∙ ap (λ (n : ℕ). indexRun (each 6 0 (deedAt (a .beside) (entryIn (a .entry)) n (l .part))) (indexOf (l .links) (l .slots) (l .steps) (l .left))) (set .set-of .ensures)),
-      went .index-part .kept .1 .1 .0 ∙ l .inv .1,
+      went .index-part .kept .0 ∙ l .inv .1,
+      went .index-part .kept .1 .0 ∙ l .inv .2,
+      went .index-part .kept .1 .1 .0 ∙ l .inv .3,
     )
-
-same-length : tie.Need-same-length Inv-loop μ-loop
-same-length c = c .before .loop .inv .0 .kept .links
-
-same-length-2 : tie.Need-same-length-2 Inv-loop μ-loop
-same-length-2 c = c .before .loop .inv .0 .kept .slots
-
-same-length-3 : tie.Need-same-length-3 Inv-loop μ-loop
-same-length-3 c = c .before .loop .inv .1
 
 returns : tie.Need-returns Inv-loop μ-loop
 returns c = done (c .before .loop .inv .0) (c .loop-test .left)
@@ -72,5 +58,5 @@ returns c = done (c .before .loop .inv .0) (c .loop-test .left)
 pub index-work-spec : {M : Type 1} → statement M
 index-work-spec =
     tie.close
-    (tie.spec Inv-loop μ-loop loop-holds (λ c κs. search needs) index-part-requires (λ c. omega arith) (λ c. omega arith) loop-again same-length
-    same-length-2 same-length-3 returns)
+    (tie.spec Inv-loop μ-loop loop-holds (λ c κs. search needs) index-part-requires (λ c. omega arith) (λ c. omega arith) loop-again (λ c. c .before .loop .inv .1)
+    (λ c. c .before .loop .inv .2) (λ c. c .before .loop .inv .3) returns)

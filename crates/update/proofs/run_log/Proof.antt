@@ -18,7 +18,7 @@ use Rattle.works.specs.Sets.{meant}
 use Rattle.works.proofs.Meant.{meant-types}
 use Rattle.indexing.specs.Index.{Index}
 use Rattle.update.proofs.Drawing.{bare}
-use Rattle.update.proofs.Running.{Running, run-start, run-inside, run-sets, run-gridded, run-small, run-needed, run-gone, run-ready, run-few, run-replaying, run-on, run-full, run-through, run-ended, run-kept}
+use Rattle.update.proofs.Running.{Running, run-start, run-inside, run-sets, run-gridded, run-small, run-needed, run-ready, run-few, run-replaying, run-on, run-full, run-through, run-ended, run-kept}
 use borrow.Author.Needs.{needs}
 use Rattle.update.proofs.run_log.Statement.{statement}
 use Rattle.update.proofs.run_log.Tie as tie
@@ -83,11 +83,7 @@ has-room-requires c κs =
     let i = looped b in
     let t = begun i in
     let r = i .before .loop .inv .0 in
-    let lt = i .loop-test .taken in
-    let at = b .before .before .read-entry .ensures in
-    let s = sets b in
-    let n = b .cells-beside .ensures in
-    (run-gridded (side t) (t .pre) r lt at s n, run-small (side t) (t .pre) r, run-sets (side t) (t .pre) r lt at s n, run-gone (side t) (t .pre) r lt at s n)
+    (run-gridded (side t) (t .pre) r (i .loop-test .taken) (b .before .before .read-entry .ensures) (sets b) (b .cells-beside .ensures), run-small (side t) (t .pre) r)
 
 kept : (i : tie.In-loop Inv-loop μ-loop) →
     let l = i .before .loop in let a = begun i .args in (length (l .vertices) ≡ length (a .vertices .now)) × (length (l .links) ≡ length (a .links .now)) × (length (l .slots) ≡ length (a .slots .now))
@@ -118,11 +114,7 @@ index-work-requires c κs =
     let l = i .before .loop in
     let lt = i .loop-test .taken in
     let at = b .before .before .read-entry .ensures in
-    let z = l .inv .1 in (
-      omega arith,
-      run-sets (side t) (t .pre) (l .inv .0) lt at (sets b) (b .cells-beside .ensures),
-      run-ready (side t) (t .pre) (l .inv .0) lt at (sets b) (b .cells-beside .ensures) (fits test) (l .steps),
-    )
+    (run-sets (side t) (t .pre) (l .inv .0) lt at (sets b) (b .cells-beside .ensures), run-ready (side t) (t .pre) (l .inv .0) lt at (sets b) (b .cells-beside .ensures) (fits test) (l .steps) (l .inv .1))
 
 slice-aggregate-replay : tie.Need-slice-aggregate-replay Inv-loop μ-loop
 slice-aggregate-replay c =
@@ -140,12 +132,12 @@ replay-requires c κs =
     let lt = i .loop-test .taken in
     let at = b .before .before .read-entry .ensures in
     let is = ap (λ (I : Index). I .steps) (went .index-work .ensures) in
-    let few = run-few (side t) (t .pre) (l .inv .0) lt at (sets b) (b .cells-beside .ensures) (fits test) (l .steps) in
+    let few = run-few (side t) (t .pre) (l .inv .0) lt at (sets b) (b .cells-beside .ensures) (fits test) (l .steps) (l .inv .1) in
     let n = length-table (stepAt (went .index-work .last .1 .1 .0)) (went .index-work .result .steps) in
-    let long = went .index-work .kept .1 .1 .0 ∙ l .inv .1 in (
+    let long = went .index-work .kept .1 .1 .0 in (
       omega (arith, ap length is, n, few, long),
       subst (λ (xs : List Step). Replaying (bare (scene-of t)) xs (shelf (l .vertices) (l .quads))) (sym is)
-          (run-replaying (side t) (t .pre) (l .inv .0) lt at (sets b) (b .cells-beside .ensures) (fits test) (l .steps)),
+          (run-replaying (side t) (t .pre) (l .inv .0) lt at (sets b) (b .cells-beside .ensures) (fits test) (l .steps) (l .inv .1)),
       i .before .before .inverted .ensures,
     )
 
@@ -166,7 +158,7 @@ loop-again c =
     let l = i .before .loop in
     let S = bare (scene-of t) in
     let is = ap (λ (I : Index). I .steps) (went .index-work .ensures) in (
-      run-on (side t) (t .pre) (l .inv .0) (i .loop-test .taken) (b .before .before .read-entry .ensures) (sets b) (b .cells-beside .ensures) (fits test) (l .steps)
+      run-on (side t) (t .pre) (l .inv .0) (i .loop-test .taken) (b .before .before .read-entry .ensures) (sets b) (b .cells-beside .ensures) (fits test) (l .steps) (l .inv .1)
           (went .index-work .ensures)
           (drew .replay .ensures ∙ ap (λ (xs : List Step). replayed (span S) (wordsBy S) xs (shelf (l .vertices) (l .quads))) is),
       went .index-work .kept .1 .1 .0 ∙ l .inv .1,

@@ -1,15 +1,16 @@
 -- `update::update_mesh` meets its contract: a refusal, or the rule's course. Assumes nothing.
 use mathlib.Core.Path.{_≡_, refl, sym, ap, _∙_}
+use mathlib.Core.List.{_++_}
 use Prim.Native.Nat.{ℕ, _*_}
 use native.Mathlib.Omega.{arith}
-use lib.ListN.{length}
+use lib.ListN.{length, drop}
 use lib.Seq.{length-take-le}
 use Rattle.rules.specs.Cells.{cells}
 use Rattle.rules.specs.Mesh.{Lists, listsOf}
 use Rattle.rules.specs.Types.{floats}
 use Rattle.rules.specs.Update.{Tested}
 use Rattle.rules.specs.Answers.{fine, BAD-SIZE, SHORT-SLOTS, BAD-COUNT, BAD-LINKS, BAD-TRIANGLES, BAD-ENTRY}
-use Rattle.rules.specs.Calls.{Scene, faces, room, typesVerdict}
+use Rattle.rules.specs.Calls.{Scene, faces, room, typesVerdict, updateMesh}
 use Rattle.rules.proofs.Checking.{then-fine}
 use Rattle.rules.proofs.Demands.{Room}
 use Rattle.answers.specs.Verdicts.{verdictOf}
@@ -19,10 +20,10 @@ use Rattle.terms.specs.Modes.{testedBy}
 use Rattle.lent.specs.Scenes.{Lent}
 use Rattle.lent.proofs.Admitted.{sized, typed, lent}
 use Rattle.lent.proofs.Linked.{few-linked}
-use Rattle.update.specs.declared.Ran.{Ran}
-use Rattle.update.specs.Runs.{ranOf, laidOut, courseIn}
-use Rattle.update.specs.Outcome.{toldVerdict}
-use Rattle.update.proofs.Whole.{past, at-it, tests, refused-so, lent-ends, lent-logging, lent-mend, lent-outcome}
+use Rattle.update.specs.declared.End.{End}
+use Rattle.update.specs.Runs.{fullAt}
+use Rattle.update.specs.Outcome.{toldVerdict, endedAnswer}
+use Rattle.update.proofs.Whole.{past, at-it, tests, refused-so, lent-ends, logging, mend-ready, ended-so}
 use borrow.Author.Needs.{needs}
 use Rattle.update.proofs.update_mesh.Statement.{statement}
 use Rattle.update.proofs.update_mesh.Tie as tie
@@ -122,21 +123,6 @@ six c = ap (λ (n : ℕ). 6 * n) (counted (c .before .before) .cell-count .ensur
 found : (c : tie.After-room-of) → c .room-of .result ≡ room (scene (whole (c .before))) (lists (whole (c .before)))
 found c = c .room-of .ensures (lists (whole (c .before))) (record { vertices = refl; triangles = refl; links = refl; slots = refl })
 
--- the log's end, as the rule has it
-abbrev roomed : tie.After-run-log → tie.After-room-of
-roomed c = c .before .before .before .before
-
-abbrev Ends : tie.After-run-log → Ran → Type 0
-Ends c x =
-    let t = whole (roomed c .before) in
-    let a = t .args in
-    let l = c .run-log .last in
-    ranOf x (l .0) (l .1 .0) (l .1 .1 .0) ≡ laidOut (scene t) (a .vertices .now) (a .links .now)
-    (courseIn (side t) (scene t) (roomed c .room-of .result) (a .log .now) (a .vertices .now) (a .links .now) (a .quads))
-
-ends : (c : tie.After-run-log) {x : Ran} → c .run-log .result ≡ x → Ends c x
-ends c {x} e = let l = c .run-log .last in ap (λ (y : Ran). ranOf y (l .0) (l .1 .0) (l .1 .1 .0)) (sym e) ∙ c .run-log .ensures
-
 returns : tie.Need-returns
 returns c =
     let t = begun (c .before .before .before) in
@@ -203,41 +189,43 @@ run-log-requires : tie.Need-run-log-requires
 run-log-requires c κs =
     let r = c .before .before .before in
     let t = whole (r .before) in
-    lent-logging (side t) (scene t) (t .args .log .now) (lists t) (t .args .quads) (accepted (r .before)) (six (r .before)) (found r)
+    logging (side t) (scene t) (t .args .log .now) (lists t) (t .args .quads) (accepted (r .before)) (six (r .before)) (found r)
 
 mend-patterns-requires : tie.Need-mend-patterns-requires
 mend-patterns-requires c κs =
-    let met = c .before .before .before in
-    let went = met .before .before .before .before .before .before .before .before in
-    let r = roomed went in
+    let went = c .before .before .before .before .before .before .before .before in
+    let r = went .before .before .before .before in
     let t = whole (r .before) in
-    lent-mend (side t) (scene t) (t .args .log .now) (lists t) (t .args .quads) (accepted (r .before)) (six (r .before)) (found r) (ends went (met .ran .given .1))
+    mend-ready (side t) (scene t) (t .args .log .now) (lists t) (t .args .quads) (accepted (r .before)) (six (r .before)) (found r) (went .run-log .ensures)
 
-mend-patterns-requires-2 : tie.Need-mend-patterns-requires-2
-mend-patterns-requires-2 c κs =
-    let met = c .before .before .before in
-    let went = met .before .before .before .before .before .before .before .before in
-    let r = roomed went in
+-- what is answered, with the lists at exit, by how the log ended
+ended : (c : tie.After-mend-patterns) {end : End} →
+    let went = c .before .before .before .before .before .before .before .before .before in
+    let t = whole (went .before .before .before .before .before) in
+    let l = went .run-log .last in
+    let ran = went .run-log .result in
+    ran .end ≡ end → record {
+      answer = endedAnswer (fullAt end) (ran .count .quads) (ran .count .moved);
+      lists = listsOf (l .0) (c .mend-patterns .last .0) (l .1 .0) (l .1 .1 .0 ++ drop (6 * counted (went .before .before .before .before .before .before .before) .cell-count .result) (t .args .slots .now));
+    } ≡ updateMesh (side t) (scene t) (t .args .log .now) (lists t) (t .args .quads)
+ended c {end} e =
+    let went = c .before .before .before .before .before .before .before .before .before in
+    let r = went .before .before .before .before in
     let t = whole (r .before) in
-    lent-mend (side t) (scene t) (t .args .log .now) (lists t) (t .args .quads) (accepted (r .before)) (six (r .before)) (found r) (ends went (met .ran2 .given .1))
+    let l = went .run-log .last in
+    let ran = went .run-log .result in
+    let n = 6 * counted (r .before .before .before) .cell-count .result in
+    ap (λ (x : End). record {
+      answer = endedAnswer (fullAt x) (ran .count .quads) (ran .count .moved);
+      lists = listsOf (l .0) (c .mend-patterns .last .0) (l .1 .0) (l .1 .1 .0 ++ drop n (t .args .slots .now));
+    }) (sym e)
+    ∙ ended-so (side t) (scene t) (t .args .log .now) (lists t) (t .args .quads) (accepted (r .before)) (six (r .before)) (found r) (went .run-log .ensures) (c .mend-patterns .ensures)
 
 returns-5 : tie.Need-returns-5
-returns-5 c =
-    let mended = c .before .before in
-    let met = mended .before .before .before .before in
-    let went = met .before .before .before .before .before .before .before .before in
-    let r = roomed went in
-    let t = whole (r .before) in
-    lent-outcome (side t) (scene t) (t .args .log .now) (lists t) (t .args .quads) (accepted (r .before)) (six (r .before)) (found r) (ends went (met .ran .given .1)) (mended .mend-patterns .ensures)
+returns-5 c = ended (c .before .before .before .before) (c .enum-told5 .given .1)
 
 returns-6 : tie.Need-returns-6
-returns-6 c =
-    let mended = c .before .before in
-    let met = mended .before .before .before .before in
-    let went = met .before .before .before .before .before .before .before .before in
-    let r = roomed went in
-    let t = whole (r .before) in
-    lent-outcome (side t) (scene t) (t .args .log .now) (lists t) (t .args .quads) (accepted (r .before)) (six (r .before)) (found r) (ends went (met .ran2 .given .1)) (mended .mend-patterns2 .ensures)
+returns-6 c = ended (c .before .before .before .before .before) (c .before .end .given .1)
 
 pub update-mesh-spec : {M : Type 1} → statement M
 update-mesh-spec =
@@ -246,6 +234,6 @@ update-mesh-spec =
     (λ c. search needs) (λ c. search needs) returns-2 (λ c. search needs) triangles-verdict-requires (λ c. search needs) (λ c. search needs)
     (λ c. search needs) (λ c. search needs) returns-3 (λ c. search needs) cast-entry-verdict (λ c κs. search needs) (λ c. search needs)
     (λ c. search needs) (λ c. search needs) (λ c. search needs) returns-4 (λ c. search needs) (λ c. search needs) (λ c. search needs)
-    (λ c κs. search needs) slice-relend-prefix-run-log slice-aggregate-run-log run-log-requires (λ c. search needs) mend-patterns-requires
-    (λ c. search needs) mend-patterns-requires-2 (λ c. search needs) (λ c. search needs) (λ c. search needs) (λ c. search needs) returns-5
-    (λ c. search needs) (λ c. search needs) (λ c. search needs) (λ c. search needs) returns-6)
+    (λ c κs. search needs) slice-relend-prefix-run-log slice-aggregate-run-log run-log-requires mend-patterns-requires (λ c. search needs)
+    (λ c. search needs) (λ c. search needs) (λ c. search needs) (λ c. search needs) (λ c. search needs) returns-5 (λ c. search needs)
+    (λ c. search needs) (λ c. search needs) (λ c. search needs) returns-6)

@@ -20,7 +20,7 @@ returns-2 c =
     let found = told .before .before in
     let a = found .before .before .before .before .args in
     open-voxel (entryIn (a .entry)) (number (a .face)) (typesBy [] (a .covers .now)) (sym (found .before .before .neighbour .ensures) ∙ found .given .given .1)
-    (c .has .ensures) (told .cover-of .ensures) (c .before .opposite .ensures)
+    (c .has .ensures) (told .code-of .ensures) (c .before .opposite .ensures)
 
 pub is-open-spec : {M : Type 1} → statement M
 is-open-spec =

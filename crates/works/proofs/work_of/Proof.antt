@@ -2,6 +2,7 @@
 use mathlib.Core.Path.{_≡_, sym, ap, _∙_}
 use mathlib.Core.Bool.{cond}
 use Prim.Native.Nat.{ℕ}
+use lib.Dec.{eqb}
 use Rattle.rules.specs.Cells.{setOf, has}
 use Rattle.rules.specs.Mesh.{World}
 use Rattle.rules.specs.Update.{Change}
@@ -23,7 +24,7 @@ returns c =
     let told = c .before in
     let cover = told .before .before in
     let t = cover .before .before .before .before in
-    ap (λ (n : ℕ). sets 63 n 0 0) (c .shown-sides .ensures ∙ ap (λ (n : ℕ). setOf (isShown (t .args .kinds .now) n (entryIn (t .args .entry)))) (cover .cover-of .ensures))
+    ap (λ (n : ℕ). sets 63 n 0 0) (c .shown-sides .ensures ∙ ap (λ (n : ℕ). setOf (isShown (t .args .kinds .now) n (entryIn (t .args .entry)))) (cover .code-of2 .ensures))
     ∙ by t (ap changeIn (told .enum-told .given .1))
 
 returns-2 : tie.Need-returns-2
@@ -34,9 +35,9 @@ returns-2 c =
     let cover = told .before .before in
     let cube = cover .before in
     let t = cube .before .before .before in
-    let on = cube .is-normal-cube .ensures in
+    let on = ap (λ (n : ℕ). eqb n 1) (cube .code-of .ensures) in
     let drawn = opened .open-sides .ensures in
-    let gone = hidden .hidden-sides .ensures ∙ ap (λ (n : ℕ). setOf (λ i. has n (testedBy (t .args .tested) i))) (cover .cover-of .ensures) in
+    let gone = hidden .hidden-sides .ensures ∙ ap (λ (n : ℕ). setOf (λ i. has n (testedBy (t .args .tested) i))) (cover .code-of2 .ensures) in
     c .work-if .ensures ∙ (λ i. cond (on i) (sets 63 0 (drawn i) (gone i)) noWork) ∙ by t (ap changeIn (told .enum-told2 .given .1))
 
 returns-3 : tie.Need-returns-3
@@ -49,7 +50,7 @@ returns-4 c =
     let given = c .before in
     let told = given .before in
     let cube = told .before .before .before in
-    let on = cube .is-normal-cube .ensures in
+    let on = ap (λ (n : ℕ). eqb n 1) (cube .code-of .ensures) in
     let drawn = given .given-sides2 .ensures in
     c .work-if2 .ensures ∙ (λ i. cond (on i) (sets 0 0 (drawn i) 0) noWork) ∙ by (cube .before .before .before) (ap changeIn (told .enum-told4 .given .1))
 
