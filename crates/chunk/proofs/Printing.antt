@@ -15,7 +15,7 @@ use Rattle.rules.specs.Types.{floats}
 use Rattle.rules.specs.Mesh.{Quad, Lists, decode, layout}
 use Rattle.rules.specs.Update.{source, Course, entryAt, work, blank}
 use Rattle.rules.specs.Answers.{Verdict, fine, refuse, BAD-SIZE, BAD-GRID, BAD-OUTER, BAD-CELL, SHORT-SLOTS, BAD-COUNT, BAD-ENTRY, NO-ROOM}
-use Rattle.rules.specs.Calls.{Answer, answered, refused, Scene, Outcome, world, span, faces, room, typesVerdict, freshMesh, meshVerdict, meshBy, meshGrid, lentVerdict, bookVerdict, updateVerdict, course, courseAnswer, updateBy, updateMesh}
+use Rattle.rules.specs.Calls.{Answer, answered, refused, Scene, Outcome, world, span, faces, room, typesVerdict, freshMesh, meshVerdict, meshedBy, meshGrid, lentVerdict, bookVerdict, updateVerdict, course, courseAnswer, updateBy, updateMesh}
 use Rattle.rules.specs.Program as rules
 use Rattle.rules.specs.Program.{word, gridIn, logIn, updateAfter, meshLines, refusedLine, linesOf, badFile, typeCount, buildFrom, builtLines, printed}
 use Rattle.rules.proofs.ListLaws.{all-at, all-of}
@@ -144,7 +144,7 @@ module _ (S : Scene) (outer g : List ℕ) (culling : Bool) (B : Lists) where
   meshed-links : length ((meshGrid S outer g culling B) .lists .links) ≡ length (B .links)
   meshed-links = go (meshVerdict S outer g culling B) refl
     where
-      go : (v : Verdict) → meshVerdict S outer g culling B ≡ v → length ((meshBy v S fresh B) .lists .links) ≡ length (B .links)
+      go : (v : Verdict) → meshVerdict S outer g culling B ≡ v → length ((meshedBy v S fresh B) .lists .links) ≡ length (B .links)
       go fine e =
           length-laid 1 (λ q x. linkOf (x .key) ∷ []) (length fresh) fresh (B .links) (one-word fresh) (omega arith) (omega (arith, has-room e))
       go (refuse n p) e = refl

@@ -17,7 +17,7 @@ use Rattle.rules.specs.Mesh.{Lists, layout}
 use Rattle.rules.specs.Update.{Tested, Course}
 use Rattle.rules.specs.Answers as rules
 use Rattle.rules.specs.Answers.{fine, refuse}
-use Rattle.rules.specs.Calls.{CubeOutcome, cubeVerdict, cubeBy, Scene, span, faces, Outcome, freshMesh, meshVerdict, meshBy, updateVerdict, course, courseAnswer, updateBy, checkVerdict, checkBy}
+use Rattle.rules.specs.Calls.{CubeOutcome, cubeVerdict, cubeBy, Scene, span, faces, Outcome, freshMesh, meshVerdict, meshedBy, updateVerdict, course, courseAnswer, updateBy, checkVerdict, checkBy}
 use Rattle.rules.proofs.Refusals.{Within, given, CUBE, MESH, UPDATE-FIRST, CHECK, cube-numbers, mesh-numbers, update-numbers, check-numbers}
 use Rattle.answers.specs.declared.Refusal.{Refusal}
 use Rattle.answers.specs.declared.Refusal.the-variants.{NoRoom}
@@ -118,7 +118,7 @@ what-a-mesh-call-says S outer grid culling entry r exit e =
     go r (meshVerdict S outer grid culling entry) refl (mesh-numbers S outer grid culling entry) e
   where
     go : (r : Meshed) (v : rules.Verdict) → meshVerdict S outer grid culling entry ≡ v → Within MESH v
-        → mesh.outcome r exit ≡ meshBy v S (freshMesh S outer grid culling) entry → MeshSays S outer grid culling entry r exit
+        → mesh.outcome r exit ≡ meshedBy v S (freshMesh S outer grid culling) entry → MeshSays S outer grid culling entry r exit
     go (meshed.Done quads) fine t w e =
         record { accepted = t; counted = ap (λ (o : Outcome). o .answer .quads) e; laid = ap (λ (o : Outcome). o .lists) e }
     go (meshed.Refused why place) fine t w e = absurd (not-zero why (ap (λ (o : Outcome). o .answer .number) e))

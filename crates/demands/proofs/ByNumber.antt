@@ -22,7 +22,7 @@ use Rattle.answers.specs.declared.Verdict.the-variants.{Fine}
 use Rattle.update.specs.declared.Updated.the-variants.{Refused}
 use Rattle.telling.specs.Numbers.{testedFrom, answer, outcome}
 use Rattle.demands.specs.Contracts.{TellsCube, TellsMesh, TellsUpdate, TellsCheck}
-use Rattle.demands.specs.Chunks.{firstOf, gridAfter, FillingLog, AlikeLog, MendableLog}
+use Rattle.demands.specs.Chunks.{firstOf, groundAfter, FillingLog, AlikeLog, MendableLog}
 use Rattle.demands.proofs.Answers.{Stopped, what-an-update-call-says}
 use Rattle.demands.proofs.Lent.{left-is-taken}
 use Rattle.demands.proofs.Mending.{first-filling, first-alike}
@@ -117,29 +117,29 @@ a-fresh-c-mesh-passes S outer grid B a exit number place z e c =
 
 c-mended : (tested : ℕ) (S : Scene) (log grid : List ℕ) (B : Lists) (Q before : ℕ) (a : Answer) (exit : Lists) (number place : ℕ)
     → TellsCheck S [] grid B Q 0 before → FillingLog S grid log → AddsAlike (testedFrom tested) (world S) (entriesOf log)
-    → a .number ≡ 0 → TellsUpdate tested S log B Q a exit → TellsCheck S [] (gridAfter S log grid) exit (a .quads) number place → number ≡ 0
+    → a .number ≡ 0 → TellsUpdate tested S log B Q a exit → TellsCheck S [] (groundAfter S log grid) exit (a .quads) number place → number ≡ 0
 c-mended tested S log grid B Q before a exit number place p h alike z e c =
-    let passes = subst (λ (o : Outcome). checkMesh S [] (gridAfter S log grid) (o .lists) (o .answer .quads) ≡ answered 0 0) (sym e)
+    let passes = subst (λ (o : Outcome). checkMesh S [] (groundAfter S log grid) (o .lists) (o .answer .quads) ≡ answered 0 0) (sym e)
     (mended-accepted (testedFrom tested) S grid log B Q (sym (ap (λ (x : Answer). x .number) p)) (h .honest) (h .mends) alike
     (sym (ap (λ (o : Outcome). o .answer .number) e) ∙ z)) in
     ap (λ (x : Answer). x .number) (c ∙ passes)
 
 pub a-mended-c-mesh-passes : (S : Scene) (log grid : List ℕ) (B : Lists) (Q before : ℕ) (a : Answer) (exit : Lists) (number place : ℕ)
     → TellsCheck S [] grid B Q 0 before → MendableLog S grid log → a .number ≡ 0 → TellsUpdate 0 S log B Q a exit
-    → TellsCheck S [] (gridAfter S log grid) exit (a .quads) number place → number ≡ 0
+    → TellsCheck S [] (groundAfter S log grid) exit (a .quads) number place → number ≡ 0
 a-mended-c-mesh-passes S log grid B Q before a exit number place p h =
     c-mended 0 S log grid B Q before a exit number place p (h .filling) (h .alike)
 
 pub a-c-mesh-mended-with-slabs-passes : (tested : ℕ) (S : Scene) (log grid : List ℕ) (B : Lists) (Q before : ℕ) (a : Answer) (exit : Lists)
     (number place : ℕ) → tested ≢ 0 → TellsCheck S [] grid B Q 0 before → FillingLog S grid log → a .number ≡ 0 → TellsUpdate tested S log B Q a exit
-    → TellsCheck S [] (gridAfter S log grid) exit (a .quads) number place → number ≡ 0
+    → TellsCheck S [] (groundAfter S log grid) exit (a .quads) number place → number ≡ 0
 a-c-mesh-mended-with-slabs-passes tested S log grid B Q before a exit number place d p h =
     c-mended tested S log grid B Q before a exit number place p h (rw (ne-eqb tested 0 d) (itself-alike (world S) (entriesOf log)))
 
 -- out of room: the mesh passes for the grid after the entries that were done
 pub out-of-room-c-and-still-right : (tested : ℕ) (S : Scene) (log grid : List ℕ) (B : Lists) (Q before : ℕ) (a : Answer) (exit : Lists) (number place : ℕ)
     → TellsCheck S [] grid B Q 0 before → FillingLog S grid log → AddsAlike (testedFrom tested) (world S) (entriesOf log) → a .number ≡ 14
-    → TellsUpdate tested S log B Q a exit → TellsCheck S [] (gridAfter S (firstOf (a .place) log) grid) exit (a .quads) number place → number ≡ 0
+    → TellsUpdate tested S log B Q a exit → TellsCheck S [] (groundAfter S (firstOf (a .place) log) grid) exit (a .quads) number place → number ≡ 0
 out-of-room-c-and-still-right tested S log grid B Q before a exit number place p h alike z e c =
     let s = stopped-c tested S log B Q a exit z e in
     let l : a .place ≤ length log / 12 = omega (arith, s .first .inLog) in

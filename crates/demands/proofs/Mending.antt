@@ -26,7 +26,7 @@ use Rattle.terms.specs.declared.Count.{Count}
 use Rattle.update.specs.declared.Updated.{Updated}
 use Rattle.update.specs.declared.Updated.the-variants.{Done, Refused}
 use Rattle.demands.specs.Contracts.{Meshes, Updates, Checks}
-use Rattle.demands.specs.Chunks.{Chunk, Passes, firstOf, gridAfter, FillingLog, AlikeLog, MendableLog, LogFor, mendedTo, Mended, untouched, oneMore}
+use Rattle.demands.specs.Chunks.{Chunk, Passes, firstOf, groundAfter, FillingLog, AlikeLog, MendableLog, LogFor, mendedTo, Mended, untouched, oneMore}
 use Rattle.demands.proofs.Stopped.{entries-first}
 use Rattle.demands.proofs.Answers.{what-an-update-call-says}
 use Rattle.demands.proofs.OneOutcome.{one-update, one-check}
@@ -38,9 +38,9 @@ use Rattle.demands.proofs.Fresh.{fresh-is-fine}
 -- the check says Fine of what the rule of an update leaves
 pub still-fine : (tested : rules.Tested) (S : Scene) (log grid : List ℕ) (B : Lists) (Q : ℕ) → Checks S [] grid B Q Fine → FillingLog S grid log
     → AddsAlike tested (world S) (entriesOf log) → (updateMesh tested S log B Q) .answer .number ≡ 0
-    → Checks S [] (gridAfter S log grid) ((updateMesh tested S log B Q) .lists) ((updateMesh tested S log B Q) .answer .quads) Fine
+    → Checks S [] (groundAfter S log grid) ((updateMesh tested S log B Q) .lists) ((updateMesh tested S log B Q) .answer .quads) Fine
 still-fine tested S log grid B Q passed true-log alike unrefused =
-    fine-is-zero S [] (gridAfter S log grid) ((updateMesh tested S log B Q) .lists) ((updateMesh tested S log B Q) .answer .quads) .1
+    fine-is-zero S [] (groundAfter S log grid) ((updateMesh tested S log B Q) .lists) ((updateMesh tested S log B Q) .answer .quads) .1
     (mended-accepted tested S grid log B Q (ap (λ (a : Answer). a .number) (fine-is-zero S [] grid B Q .0 passed))
     (true-log .honest) (true-log .mends) alike unrefused)
 
@@ -54,15 +54,15 @@ asked Itself S grid log h = (h, itself-alike (world S) (entriesOf log))
 mended-is-fine : (mode : Tested) (S : Scene) (log : List ℕ) (k : Chunk) (exit : Lists) (count : Count) → Passes S k → LogFor mode S (k .grid) log
     → Updates (testedBy mode) S log (k .lists) (k .quads) (Done count) exit → Passes S (mendedTo S log k count exit)
 mended-is-fine mode S log k exit count passed true-log mended =
-    subst (λ (o : Outcome). Checks S [] (gridAfter S log (k .grid)) (o .lists) (o .answer .quads) Fine) (sym mended)
+    subst (λ (o : Outcome). Checks S [] (groundAfter S log (k .grid)) (o .lists) (o .answer .quads) Fine) (sym mended)
     (still-fine (testedBy mode) S log (k .grid) (k .lists) (k .quads) passed (asked mode S (k .grid) log true-log .0)
     (asked mode S (k .grid) log true-log .1) (sym (ap (λ (o : Outcome). o .answer .number) mended)))
 
 mended-passes : (mode : Tested) (S : Scene) (log grid : List ℕ) (B exit : Lists) (Q : ℕ) (count : Count) (r : Verdict)
     → Checks S [] grid B Q Fine → LogFor mode S grid log → Updates (testedBy mode) S log B Q (Done count) exit
-    → Checks S [] (gridAfter S log grid) exit (count .quads) r → r ≡ Fine
+    → Checks S [] (groundAfter S log grid) exit (count .quads) r → r ≡ Fine
 mended-passes mode S log grid B exit Q count r passed true-log mended checked =
-    one-check S [] (gridAfter S log grid) exit (count .quads) r Fine checked
+    one-check S [] (groundAfter S log grid) exit (count .quads) r Fine checked
     (mended-is-fine mode S log (record { grid = grid; lists = B; quads = Q }) exit count passed true-log mended)
 
 -- ---- out of room, and still right
@@ -92,7 +92,7 @@ module _ (S : Scene) (log : List ℕ) (k : ℕ) (inLog : k ≤ length log / 12) 
 -- a log that stops at entry k for want of room leaves a mesh that passes for the grid after its first k entries
 pub out-of-room-and-still-right : (mode : Tested) (S : Scene) (log grid : List ℕ) (B exit : Lists) (Q k : ℕ) (count : Count) (r : Verdict)
     → Checks S [] grid B Q Fine → LogFor mode S grid log → Updates (testedBy mode) S log B Q (Refused NoRoom k count) exit
-    → Checks S [] (gridAfter S (firstOf k log) grid) exit (count .quads) r → r ≡ Fine
+    → Checks S [] (groundAfter S (firstOf k log) grid) exit (count .quads) r → r ≡ Fine
 out-of-room-and-still-right mode S log grid B exit Q k count r passed true-log stopped checked =
     let s = what-an-update-call-says (testedBy mode) S log B Q (Refused NoRoom k count) exit stopped .stopped refl in
     mended-passes mode S (firstOf k log) grid B exit Q count r passed
@@ -103,13 +103,13 @@ out-of-room-and-still-right mode S log grid B exit Q k count r passed true-log s
 -- the source's mode
 pub a-mended-mesh-passes : (S : Scene) (log grid : List ℕ) (B exit : Lists) (Q : ℕ) (count : Count) (r : Verdict)
     → Checks S [] grid B Q Fine → MendableLog S grid log → Updates source S log B Q (Done count) exit
-    → Checks S [] (gridAfter S log grid) exit (count .quads) r → r ≡ Fine
+    → Checks S [] (groundAfter S log grid) exit (count .quads) r → r ≡ Fine
 a-mended-mesh-passes = mended-passes Opposite
 
 -- the new mode: no word about covers
 pub a-mesh-mended-with-slabs-passes : (S : Scene) (log grid : List ℕ) (B exit : Lists) (Q : ℕ) (count : Count) (r : Verdict)
     → Checks S [] grid B Q Fine → FillingLog S grid log → Updates itself S log B Q (Done count) exit
-    → Checks S [] (gridAfter S log grid) exit (count .quads) r → r ≡ Fine
+    → Checks S [] (groundAfter S log grid) exit (count .quads) r → r ≡ Fine
 a-mesh-mended-with-slabs-passes = mended-passes Itself
 
 -- ---- any number of calls, each in either mode

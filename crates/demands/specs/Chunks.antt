@@ -28,8 +28,8 @@ abbrev pub firstOf : ℕ → List ℕ → List ℕ
 firstOf k log = take (12 * k) log
 
 -- the grid that a log leaves
-abbrev pub gridAfter : Scene → List ℕ → List ℕ → List ℕ
-gridAfter S log grid = gridLog (world S) (entriesOf log) grid
+abbrev pub groundAfter : Scene → List ℕ → List ℕ → List ℕ
+groundAfter S log grid = gridLog (world S) (entriesOf log) grid
 
 -- an honest log of Added and Broken alone whose Added put NormalCubes into cells that hold a Null covering nothing: demand 3's in the new mode
 pub record FillingLog (S : Scene) (grid log : List ℕ) : Type 0 where
@@ -51,7 +51,7 @@ LogFor Opposite = MendableLog
 LogFor Itself = FillingLog
 
 abbrev pub mendedTo : Scene → List ℕ → Chunk → Count → Lists → Chunk
-mendedTo S log k count exit = record { grid = gridAfter S log (k .grid); lists = exit; quads = count .quads }
+mendedTo S log k count exit = record { grid = groundAfter S log (k .grid); lists = exit; quads = count .quads }
 
 -- n update calls lead from one chunk to another, each in a mode of its own, for such a log, and answered Done
 pub data Mended (S : Scene) (from : Chunk) : ℕ → Chunk → Type 0 where

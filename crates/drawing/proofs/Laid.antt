@@ -10,7 +10,7 @@ use lib.Seq.{set-append-left}
 use borrow.Author.Tests.{ne-eqb}
 use Rattle.rules.specs.Lists.{each, table}
 use Rattle.rules.specs.Cells.{firstVertex}
-use Rattle.rules.specs.Mesh.{Quad, NONE, at, there, rows, laid, slotOf, slotted}
+use Rattle.rules.specs.Mesh.{Quad, NONE, at, there, rows, laid, slotOf}
 use Rattle.rules.specs.Update.{put}
 use Rattle.rules.proofs.ListLaws.{All, all-append, length-table}
 use Rattle.rules.proofs.Quads.{Once, run-once}

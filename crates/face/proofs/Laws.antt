@@ -6,7 +6,7 @@ use native.Mathlib.Omega.{arith}
 use lib.Dec.{eqb, ltb}
 use lib.Bits.{bitAnd, and-high}
 use borrow.Author.Tests.{ltb-false, eqb-true}
-use Rattle.rules.specs.Cells.{UNIT, opposite, code, linkWord, cellIn, codeIn, keyOf, keyIn, linkOf}
+use Rattle.rules.specs.Cells.{UNIT, code, linkWord, cellIn, codeIn, keyOf, linkOf}
 use Rattle.face.specs.declared.Face.{Face}
 use Rattle.face.specs.declared.Face.the-variants.{Top, Bottom, Right, Left, Back, Forward}
 use Rattle.face.specs.declared.FoundFace.the-variants as Found
@@ -19,14 +19,6 @@ number-below Right = omega arith
 number-below Left = omega arith
 number-below Back = omega arith
 number-below Forward = omega arith
-
-pub faceAt-number : (f : Face) → faceAt (number f) ≡ Found.Face f
-faceAt-number Top = refl
-faceAt-number Bottom = refl
-faceAt-number Right = refl
-faceAt-number Left = refl
-faceAt-number Back = refl
-faceAt-number Forward = refl
 
 pub faceAt-past : (n : ℕ) → 5 < n → faceAt n ≡ Found.Nothing
 faceAt-past zero h = absurd (omega arith)
@@ -74,36 +66,8 @@ word-of-high u h =
 
 -- ---- what is packed is read again
 
-pub cell-link : (c f : ℕ) → c < UNIT → cellIn (linkWord c f) ≡ c
-cell-link c f h = omega arith
-
-pub code-link : (c f : ℕ) → c < UNIT → codeIn (linkWord c f) ≡ code f
-code-link c f h = omega arith
-
-pub face-link : (c : ℕ) (f : Face) → c < UNIT → faceOfCode (codeIn (linkWord c (number f))) ≡ Found.Face f
-face-link c f h = ap faceOfCode (code-link c (number f) h) ∙ face-of-code f
-  where
-    face-of-code : (f : Face) → faceOfCode (code (number f)) ≡ Found.Face f
-    face-of-code Top = refl
-    face-of-code Bottom = refl
-    face-of-code Right = refl
-    face-of-code Left = refl
-    face-of-code Back = refl
-    face-of-code Forward = refl
-
-pub key-link : (c f : ℕ) → c < UNIT → f < 6 → keyIn (linkWord c f) ≡ keyOf c f
-key-link c f h k = omega arith
-
 pub link-key : (c f : ℕ) → f < 6 → linkOf (keyOf c f) ≡ linkWord c f
 link-key c f h = omega arith
-
-pub link-back : (word : ℕ) → codeIn word ≤ 5 → linkOf (keyIn word) ≡ word
-link-back word h = link-key (cellIn word) (code (codeIn word)) (omega arith) ∙ omega arith
-
-pub opposite-opposite : (f : ℕ) → opposite (opposite f) ≡ f
-opposite-opposite zero = refl
-opposite-opposite (suc zero) = refl
-opposite-opposite (suc (suc f)) = ap (λ (n : ℕ). suc (suc n)) (opposite-opposite f)
 
 -- the face of a number
 pub face-number : (n : ℕ) (face : Face) → n < 6 → faceAt n ≡ Found.Face face → number face ≡ n

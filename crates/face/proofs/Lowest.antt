@@ -6,7 +6,7 @@ use native.Mathlib.Omega.{arith}
 use lib.Bits.{bitAnd, and-lt}
 use lib.Count.{trailingZeros}
 use lib.Dec.{eqb, ltb, leb}
-use borrow.Author.Tests.{ne-eqb, ltb-true, le-leb, lt-leb, leb-true, leb-false}
+use borrow.Author.Tests.{ne-eqb, ltb-true, le-leb, lt-leb, leb-true}
 use Rattle.rules.specs.Lists.{every}
 use Rattle.rules.specs.Cells.{has}
 use Rattle.rules.proofs.ListLaws.{split, and-true, every-true, not-false}

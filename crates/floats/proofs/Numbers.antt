@@ -62,10 +62,6 @@ no-nan-bits b t =
     let h : b % 0x8000_0000 < 0x7f80_0000 = ltb→lt _ _ t in
     rw (nanBits-above, le-ltb 0x7f80_0000 (b % 0x8000_0000) (omega arith)) tt
 
--- the test in other words: the exponent's field is not all ones
-pub finite-field : (b : ℕ) → T (finite b) → b / 0x80_0000 % 256 ≡ 255 → ⊥
-finite-field b t e = let h : b % 0x8000_0000 < 0x7f80_0000 = ltb→lt _ _ t in omega arith
-
 pub field-finite : (b : ℕ) → (b / 0x80_0000 % 256 ≡ 255 → ⊥) → T (finite b)
 field-finite b n = let h : b % 0x8000_0000 < 0x7f80_0000 = omega arith in lt→ltb (b % 0x8000_0000) 0x7f80_0000 h
 

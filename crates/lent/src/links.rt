@@ -12,7 +12,7 @@ ghost use Prim.Native.Nat.{ℕ, _*_, _^_, _≤_, _<_};
 ghost use lib.ListN.{length};
 ghost use Rattle.rules.specs.Lists.{lowest};
 ghost use Rattle.rules.specs.Mesh.{listsOf, bookOf};
-ghost use Rattle.rules.specs.Answers.{badLink, filled, BAD-LINKS};
+ghost use Rattle.rules.specs.Answers.{badLink, slotsFilled, BAD-LINKS};
 ghost use Rattle.answers.specs.Verdicts.{verdictOf};
 ghost use Rattle.lent.specs.Scenes.{Lent};
 
@@ -53,7 +53,7 @@ fn lowest_bad_link(cells: u32, links: &[u32], slots: &[u32], count: usize) -> us
 // How many of the first n slots are filled.
 fn filled_slots(slots: &[u32], n: usize) -> u32
     requires { ⌜ (n ≤ length (now slots)) × (n < 2 ^ 32) ⌝ }
-    ensures { λ r. ⌜ r ≡ filled n (bookOf [] (now (slots .entry))) ⌝ }
+    ensures { λ r. ⌜ r ≡ slotsFilled n (bookOf [] (now (slots .entry))) ⌝ }
 {
     let mut full = n as u32;
     let mut k: usize = 0;

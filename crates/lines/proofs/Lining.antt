@@ -14,7 +14,7 @@ use Rattle.rules.specs.Mesh.{Quad, Lists, decoded, decode}
 use Rattle.rules.specs.Calls.{Answer, answered, refused}
 use Rattle.rules.specs.Program.{QUADS, MOVED, REFUSED, AT, decimal, quadLines, meshLines, refusedLine}
 use Rattle.rules.proofs.ListLaws.{All}
-use Rattle.lines.specs.Written.{Wrote, Room, quadLine, quadOf, quadsOf}
+use Rattle.lines.specs.Written.{Wrote, Room, quadLine, linkedQuad, quadsOf}
 use Rattle.rules.proofs.Rows.{each-more}
 use Rattle.lines.proofs.Writing.{Three, wrote-none, wrote-then, wrote-as, room-as, room-first, room-next}
 use Rattle.lines.proofs.Decimals.{length-digits, length-decimal}
@@ -74,7 +74,7 @@ module _ {links : List ℕ} {at : ℕ} {before now : List ℕ} {next i : ℕ} (b
   lines-more : i < length links → linesFrom i links ≡ line ++ linesFrom (i + 1) links
   lines-more h =
       ap (λ (l : List ℕ). quadLines i (quadsOf l)) (drop-cons links i 0 h)
-      ∙ sym (quad-first i (quadOf (getD links i 0)) (quadsOf (drop (suc i) links)))
+      ∙ sym (quad-first i (linkedQuad (getD links i 0)) (quadsOf (drop (suc i) links)))
       ∙ rw add-one refl
 
   pub begun-room : i < length links → Room line next now

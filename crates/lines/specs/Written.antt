@@ -30,11 +30,11 @@ unfoldable pub quadLine : ℕ → ℕ → ℕ → List ℕ
 quadLine number cell face = decimal number ++ (32 ∷ decimal cell) ++ (32 ∷ decimal face) ++ (10 ∷ [])
 
 -- the quads that links tell of, without their words, which no line shows
-abbrev pub quadOf : ℕ → Quad
-quadOf link = record { key = keyIn link; words = [] }
+abbrev pub linkedQuad : ℕ → Quad
+linkedQuad link = record { key = keyIn link; words = [] }
 
 abbrev pub quadsOf : List ℕ → List Quad
-quadsOf links = map quadOf links
+quadsOf links = map linkedQuad links
 
 -- each link is of a face
 abbrev pub OfFaces : List ℕ → Type 0

@@ -23,7 +23,7 @@ use Rattle.drawing.proofs.Turns.{rows-then, kept-rows, named-then, kept-named}
 use Rattle.listing.specs.Fresh.{setsFrom, asked, cellKeys, keysOf, Entered}
 use Rattle.listing.proofs.Sets.{count-next, rank-most, rank-below}
 use Rattle.listing.proofs.Rows.{asked-step, asked-le, asked-few}
-use Rattle.listing.proofs.Keys.{count-keys, length-cell, length-keys, keys-none, keys-more, map-cell}
+use Rattle.listing.proofs.Keys.{count-keys, length-keys, keys-none, keys-more, map-cell}
 
 -- ---- faces after those that are there
 pub none-after : (base : ℕ) (word : ℕ → ℕ) (ls ss ts : List ℕ) (m : ℕ) → Entered base word [] ls ss ts ls ss ts m m

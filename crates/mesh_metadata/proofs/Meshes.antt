@@ -11,7 +11,7 @@ use lib.Seq.{getD-take, getD-drop, getD-append-add, getD-set-same, getD-set-othe
 use lib.Dec.{eqb}
 use borrow.Author.Tests.{le-leb, lt-leb, le-ltb, lt-ltb, eq-eqb, ne-eqb, leb-false, eqb-true}
 use Rattle.rules.specs.Lists.{table, only, isNil, count}
-use Rattle.rules.specs.Cells.{firstVertex, onlyIf}
+use Rattle.rules.specs.Cells.{firstVertex}
 use Rattle.rules.specs.Mesh.{Quad, at, there, placeOf, NONE, slotOf}
 use Rattle.rules.specs.Update.{blank, shifts, removeAt}
 use Rattle.rules.proofs.ListLaws.{All, all-at, split, length-table, getD-table, table-is}
@@ -20,7 +20,7 @@ use Rattle.rules.proofs.Laying.{Fits, keyAt, is-there, distinct-of-once, place-
 use Rattle.rules.proofs.Index.{isFull, Named, no-other}
 use Rattle.vav.specs.Rows.{sourceOf}
 use Rattle.vav.proofs.Laws.{source-bounds}
-use Rattle.mesh_metadata.specs.Index.{vertexOf, shifted, renum}
+use Rattle.mesh_metadata.specs.Index.{shifted, renum}
 use Rattle.mesh_metadata.proofs.Slots.{order}
 
 map-at : (f : ℕ → ℕ) (S : List ℕ) (k : ℕ) → k < length S → getD (map f S) k 0 ≡ f (getD S k 0)
@@ -133,17 +133,6 @@ place-past k (x ∷ m) b h = go (eqb k (x .key)) h (place-past k m b)
         → cond t 0 (suc (placeOf k (m ++ b))) ≡ suc (length m) + placeOf k b
     go true h r = absurd (true≢false h)
     go false h r = let e = r h in omega arith
-
--- LAW: no face has a quad yet
-pub slots-none : (n : ℕ) → table n (slotOf []) ≡ replicate n NONE
-slots-none n = table-is (slotOf []) n (replicate n NONE) 0 (length-replicate n NONE) (λ k l. getD-replicate n k NONE 0 l)
-
--- LAW: what a slot's word tells of a face
-pub vertex-there : (m : List Quad) (k : ℕ) → firstVertex (length m) < NONE
-    → vertexOf (slotOf m k) ≡ onlyIf (there k m) (firstVertex (placeOf k m))
-vertex-there m k small =
-    split (λ t. there k m ≡ t → vertexOf (cond t (firstVertex (placeOf k m)) NONE) ≡ onlyIf t (firstVertex (placeOf k m))) (there k m)
-    (λ t e. let w = placed k m e .within in rw (ne-eqb (firstVertex (placeOf k m)) NONE (λ f. omega arith))) (λ t e. refl) refl
 
 module _ (m : List Quad) (o : Once m) where
   module _ (q : ℕ) (h : q < length m) where

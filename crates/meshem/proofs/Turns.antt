@@ -1,14 +1,13 @@
 -- A face that is drawn has its cube. Assumes nothing.
-use mathlib.Core.Path.{_≡_, refl, sym, ap, subst}
-use mathlib.Core.Bool.{Bool, true, false, cond}
+use mathlib.Core.Path.{_≡_, refl, sym, subst}
+use mathlib.Core.Bool.{Bool, true, false}
 use mathlib.Core.List.{List, [], _∷_, map}
-use Prim.Native.Nat.{ℕ, zero, suc, _+_, _-_, _*_, _/_, _≤_, _<_}
-use native.Mathlib.Nat.{le-refl, add-zero, add-suc}
+use Prim.Native.Nat.{ℕ, _+_, _-_, _*_, _/_, _≤_, _<_}
 use native.Mathlib.Omega.{arith}
 use lib.ListN.{length, getD}
 use borrow.Author.Tests.{eqb-true, eq-eqb}
 use Rattle.rules.specs.Lists.{count}
-use Rattle.rules.specs.Cells.{cells, coordinates, keyOf, has, rank, quadsOf}
+use Rattle.rules.specs.Cells.{cells, coordinates, keyOf, quadsOf}
 use Rattle.rules.specs.Types.{floats, cubeOf}
 use Rattle.rules.specs.Mesh.{World, typeAt, isNormalCube, drawn}
 use Rattle.rules.specs.Calls.{Scene, world}

@@ -17,7 +17,6 @@ use terms::Lengths;
 use terms::MeshingAlgorithm;
 use terms::Scene;
 use util::Row;
-ghost use mathlib.Core.Path.{_≡_};
 ghost use Rattle.meshem.specs.Outcome.{Meshes};
 ghost use Rattle.terms.specs.Modes.{isCulling};
 ghost use Rattle.terms.specs.Loans.{sceneLent, before, after};

@@ -38,10 +38,6 @@ vertexWord cube n d a v k =
 abbrev pub vertexWords : List ℕ → ℕ → Triple → Triple → ℕ → List ℕ
 vertexWords cube n d a v = table n (vertexWord cube n d a v)
 
--- the quad of face f of cell c, which stands at `a`
-abbrev pub quadOf : List ℕ → ℕ → Triple → Triple → ℕ → ℕ → Quad
-quadOf cube n d a c f = record { key = keyOf c f; words = quadWords cube n d f a }
-
 -- a cube of finite positions, which d and the coordinates `a` move
 pub record Drawable (cube : List ℕ) (floats : ℕ) (a d : Triple) : Type 0 where
   pub words : Words cube floats

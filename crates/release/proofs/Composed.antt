@@ -21,7 +21,7 @@ use Rattle.update.specs.declared.Updated.{Updated}
 use Rattle.update.specs.declared.Updated.the-variants as updated
 use Rattle.update.specs.Outcome.{answerOf}
 use Rattle.demands.specs.Contracts.{Meshes}
-use Rattle.demands.specs.Chunks.{gridAfter, FillingLog, LogFor}
+use Rattle.demands.specs.Chunks.{groundAfter, FillingLog, LogFor}
 use Rattle.release.specs.Composed.{Ending, meshedBy, endsWith, onlyAfter, verdictBy, checkedAfter, checkedOn, makeEnding, mendPromise, mendEnding}
 use Rattle.demands.proofs.Telling.{numbered}
 use Rattle.demands.proofs.Answers.{what-a-mesh-call-says}
@@ -81,7 +81,7 @@ module _ (tested : Tested) (S : Scene) (grid log left : List ℕ) (B : Lists) (Q
   mended p e = e ∙ (λ i. onlyAfter (sym p i) B (checkedOn S [] left (updateMesh tested S log B Q)))
 
   -- LAW: after a log of demand 3 the second check refuses nothing
-  pub second-check-idle : FillingLog S grid log → AddsAlike tested (world S) (entriesOf log) → left ≡ gridAfter S log grid
+  pub second-check-idle : FillingLog S grid log → AddsAlike tested (world S) (entriesOf log) → left ≡ groundAfter S log grid
       → (mendEnding tested S grid log left B Q) .verdict ≡ mendPromise tested S grid log B Q
   unfolding _then_
   second-check-idle h al l = first (checkVerdict S [] grid B Q) refl
@@ -106,7 +106,7 @@ module _ (tested : Tested) (S : Scene) (grid log left : List ℕ) (B : Lists) (Q
 
 pub promised : (mode : code.Tested) (S : Scene) (grid log left : List ℕ) (B : Lists) (Q : ℕ) {o : Ending} → o ≡ mendEnding (testedBy mode) S grid log left B Q
     → (o ≡ mendEnding (testedBy mode) S grid log left B Q)
-    × (LogFor mode S grid log → left ≡ gridAfter S log grid → o .verdict ≡ mendPromise (testedBy mode) S grid log B Q)
+    × (LogFor mode S grid log → left ≡ groundAfter S log grid → o .verdict ≡ mendPromise (testedBy mode) S grid log B Q)
 promised mode S grid log left B Q e = (
   e,
   λ h l. let a = asked mode S grid log h in

@@ -28,7 +28,7 @@ use Rattle.update.specs.declared.Updated.the-variants.{Done, Refused}
 use Rattle.update.specs.Outcome.{outcomeOf}
 use Rattle.answers.specs.declared.Verdict.the-variants.{Fine}
 use Rattle.demands.specs.Contracts.{Meshes, Updates, Checks}
-use Rattle.demands.specs.Chunks.{gridAfter, LogFor}
+use Rattle.demands.specs.Chunks.{groundAfter, LogFor}
 use Rattle.release.specs.OneByOne.{Progress, through, halted, wentOf, onward, entryLog, calls, verdictOn, passedOn, endsOn, chain, chainPromise, chainEnding}
 use Rattle.release.specs.Composed.{Ending, endsWith, onlyAfter, checkedAfter}
 use Rattle.release.proofs.Composed.{refusal}
@@ -171,7 +171,7 @@ calls-pass tested S log (suc n) i grid B Q h p ho me al =
 
 -- LAW: after a call for each entry of a log of demand 3, each of them answered, the check says Fine for the grid that the log left
 pub one-by-one : (mode : code.Tested) (S : Scene) (log grid : List ℕ) (B : Lists) (Q : ℕ) → Checks S [] grid B Q Fine → LogFor mode S grid log
-    → PassesOn S (gridAfter S log grid) (calls (testedBy mode) S log 0 (length log / 12) B Q)
+    → PassesOn S (groundAfter S log grid) (calls (testedBy mode) S log 0 (length log / 12) B Q)
 one-by-one mode S log grid B Q p h =
     let a = asked mode S grid log h in
     calls-pass (testedBy mode) S log (length log / 12) 0 grid B Q (omega arith) p (a .0 .honest) (a .0 .mends) (a .1)
@@ -188,7 +188,7 @@ module _ (mode : code.Tested) (S : Scene) (grid log left : List ℕ) (B : Lists)
   pub chained : (exit : Lists) (quads : ℕ) {o : Ending} → Meshes S [] grid true B (meshed.Done quads) exit
       → o ≡ endsOn S left (calls (testedBy mode) S log 0 (length log / 12) exit quads)
       → (o ≡ chainEnding (testedBy mode) S grid log left B)
-      × (LogFor mode S grid log → left ≡ gridAfter S log grid → o .verdict ≡ chainPromise (testedBy mode) S grid log B)
+      × (LogFor mode S grid log → left ≡ groundAfter S log grid → o .verdict ≡ chainPromise (testedBy mode) S grid log B)
   unfolding _then_
   chained exit quads e c =
       let done : Outcome → Progress = λ o. calls (testedBy mode) S log 0 (length log / 12) (o .lists) (o .answer .quads) in
@@ -203,7 +203,7 @@ module _ (mode : code.Tested) (S : Scene) (grid log left : List ℕ) (B : Lists)
 
   pub unmade : (exit : Lists) (why : Refusal) (place : ℕ) → Meshes S [] grid true B (meshed.Refused why place) exit
       → (endsWith (refuse (numberOf why) place) exit ≡ chainEnding (testedBy mode) S grid log left B)
-      × (LogFor mode S grid log → left ≡ gridAfter S log grid → refuse (numberOf why) place ≡ chainPromise (testedBy mode) S grid log B)
+      × (LogFor mode S grid log → left ≡ groundAfter S log grid → refuse (numberOf why) place ≡ chainPromise (testedBy mode) S grid log B)
   unfolding _then_
   unmade exit why place e =
       let t = sym (what-a-mesh-call-says S [] grid true B (meshed.Refused why place) exit e .0 .told) in (

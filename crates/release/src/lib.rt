@@ -15,7 +15,7 @@ ghost use Rattle.answers.specs.Verdicts.{verdictOf};
 ghost use Rattle.meshem.specs.Outcome.{answerOf};
 ghost use Rattle.terms.specs.Loans.{sceneLent, before, after};
 ghost use Rattle.terms.specs.Modes.{testedBy};
-ghost use Rattle.demands.specs.Chunks.{LogFor, gridAfter};
+ghost use Rattle.demands.specs.Chunks.{LogFor, groundAfter};
 ghost use Rattle.release.specs.Composed.{meshedBy, endsWith, checkedAfter, makeEnding, mendPromise, mendEnding};
 
 pub mod one_by_one; // one_by_one.rt: a call for each entry of a log
@@ -129,7 +129,7 @@ pub fn mend_and_check(
         ≡ mendEnding (testedBy tested) (sceneLent scene kinds covers cubes) (now (grid .entry)) (now (log .entry)) (now (left .entry))
         (before vertices triangles links slots) quads)
         × (LogFor tested (sceneLent scene kinds covers cubes) (now (grid .entry)) (now (log .entry))
-        → now (left .entry) ≡ gridAfter (sceneLent scene kinds covers cubes) (now (log .entry)) (now (grid .entry))
+        → now (left .entry) ≡ groundAfter (sceneLent scene kinds covers cubes) (now (log .entry)) (now (grid .entry))
         → verdictOf r ≡ mendPromise (testedBy tested) (sceneLent scene kinds covers cubes) (now (grid .entry)) (now (log .entry))
         (before vertices triangles links slots) quads) ⌝ }
 {

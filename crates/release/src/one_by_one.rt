@@ -14,7 +14,7 @@ ghost use lib.ListN.{length};
 ghost use Rattle.answers.specs.Verdicts.{verdictOf};
 ghost use Rattle.terms.specs.Loans.{sceneLent, before, after};
 ghost use Rattle.terms.specs.Modes.{testedBy};
-ghost use Rattle.demands.specs.Chunks.{LogFor, gridAfter};
+ghost use Rattle.demands.specs.Chunks.{LogFor, groundAfter};
 ghost use Rattle.release.specs.Composed.{endsWith};
 ghost use Rattle.release.specs.OneByOne.{wentOf, calls, chainPromise, chainEnding};
 
@@ -90,7 +90,7 @@ pub fn make_mend_and_check(
         (now (grid .entry)) (now (log .entry)) (now (left .entry))
         (before vertices triangles links slots))
         × (LogFor tested (sceneLent scene kinds covers cubes) (now (grid .entry)) (now (log .entry))
-        → now (left .entry) ≡ gridAfter (sceneLent scene kinds covers cubes)
+        → now (left .entry) ≡ groundAfter (sceneLent scene kinds covers cubes)
         (now (log .entry)) (now (grid .entry))
         → verdictOf r ≡ chainPromise (testedBy tested) (sceneLent scene kinds covers cubes)
         (now (grid .entry)) (now (log .entry))

@@ -13,7 +13,7 @@ use Rattle.rules.specs.Lists.{table, row, same, lowest}
 use Rattle.rules.specs.Cells.{cells, cellIn, codeIn, keyOf, firstVertex}
 use Rattle.rules.specs.Mesh.{Quad, World, Lists, NONE, typeAt, drawn, at, there, placeOf, pattern, decoded, decode, layout, slotOf}
 use Rattle.rules.specs.Update.{blank}
-use Rattle.rules.specs.Answers.{Verdict, fine, refuse, _then_, refuseIf, refuseLowest, slotAt, badLink, filled, BAD-LINKS, BAD-TRIANGLES, wrongFace, WRONG-SET, wrongVertex, WRONG-VERTEX}
+use Rattle.rules.specs.Answers.{Verdict, fine, refuse, _then_, refuseIf, refuseLowest, slotAt, badLink, slotsFilled, BAD-LINKS, BAD-TRIANGLES, wrongFace, WRONG-SET, wrongVertex, WRONG-VERTEX}
 use Rattle.rules.specs.Check.{linked, Right}
 use Rattle.rules.proofs.ListLaws.{All, all-at, both-ways, or-false, not-true, lowest-none, lowest-good, same-true, same-refl, length-table, getD-table}
 use Rattle.rules.proofs.Quads.{Once, placed, absent}
@@ -53,7 +53,7 @@ pub record Book (n : ℕ) (B : Lists) (Q : ℕ) : Type 0 where
   pub codes : (q : ℕ) → q < Q → codeIn (getD (B .links) q 0) ≤ 5
   pub inside : (q : ℕ) → q < Q → cellIn (getD (B .links) q 0) < n
   pub named : (q : ℕ) → q < Q → slotAt B (linked B q) ≡ firstVertex q
-  pub few : filled (6 * n) B ≤ Q
+  pub few : slotsFilled (6 * n) B ≤ Q
   pub triangles : (q : ℕ) → q < Q → row 6 (B .triangles) q ≡ pattern q
 
 module _ (n : ℕ) (B : Lists) (Q : ℕ) where
@@ -76,14 +76,14 @@ module _ (n : ℕ) (B : Lists) (Q : ℕ) where
   pub book-of-fine : (BAD-LINKS n B Q then BAD-TRIANGLES B Q) ≡ fine → Book n B Q
   unfolding BAD-LINKS
   book-of-fine e =
-      let t = then-fine (refuseLowest 11 Q (badLink n B) then refuseIf (ltb Q (filled (6 * n) B)) 11 Q) (BAD-TRIANGLES B Q) e in
-      let l = then-fine (refuseLowest 11 Q (badLink n B)) (refuseIf (ltb Q (filled (6 * n) B)) 11 Q) (t .0) in
+      let t = then-fine (refuseLowest 11 Q (badLink n B) then refuseIf (ltb Q (slotsFilled (6 * n) B)) 11 Q) (BAD-TRIANGLES B Q) e in
+      let l = then-fine (refuseLowest 11 Q (badLink n B)) (refuseIf (ltb Q (slotsFilled (6 * n) B)) 11 Q) (t .0) in
       let k : (q : ℕ) → q < Q → badLink n B q ≡ false = lowest-fine 11 Q (badLink n B) (l .0) in
       record {
         codes = λ q h. link-fine q (k q h) .0;
         inside = λ q h. link-fine q (k q h) .1;
         named = λ q h. link-fine q (k q h) .2;
-        few = ltb-false Q (filled (6 * n) B) (if-fine (ltb Q (filled (6 * n) B)) 11 Q (l .1));
+        few = ltb-false Q (slotsFilled (6 * n) B) (if-fine (ltb Q (slotsFilled (6 * n) B)) 11 Q (l .1));
         triangles = λ q h. same-true (row 6 (B .triangles) q) (pattern q)
             (not-true (same (row 6 (B .triangles) q) (pattern q)) (lowest-fine 12 Q (λ q. not (same (row 6 (B .triangles) q) (pattern q))) (t .1) q h));
       }
@@ -93,7 +93,7 @@ module _ (n : ℕ) (B : Lists) (Q : ℕ) where
   fine-of-book b =
       fine-then (fine-then
       (fine-lowest 11 Q (badLink n B) (λ q h. fine-link q (b .codes q h) (b .inside q h) (b .named q h)))
-      (fine-if (ltb Q (filled (6 * n) B)) 11 Q (le-ltb Q (filled (6 * n) B) (b .few))))
+      (fine-if (ltb Q (slotsFilled (6 * n) B)) 11 Q (le-ltb Q (slotsFilled (6 * n) B) (b .few))))
       (fine-lowest 12 Q (λ q. not (same (row 6 (B .triangles) q) (pattern q)))
       (λ q h. rw (b .triangles q h, same-refl (pattern q))))
 
@@ -129,7 +129,7 @@ module _ (n : ℕ) (B : Lists) (Q : ℕ) where
   pub few-filled : 6 * n ≤ length (B .slots) → ((q : ℕ) → q < Q → codeIn (getD (B .links) q 0) ≤ 5)
       → ((q : ℕ) → q < Q → cellIn (getD (B .links) q 0) < n) → ((q : ℕ) → q < Q → slotAt B (linked B q) ≡ firstVertex q)
       → ((k : ℕ) → k < 6 * n → slotAt B k ≢ NONE → (q : ℕ) × (q < Q) × (slotAt B k ≡ firstVertex q) × (linked B q ≡ k))
-      → filled (6 * n) B ≤ Q
+      → slotsFilled (6 * n) B ≤ Q
   few-filled room codes inside named naming =
       let len = length-table (linked B) Q in
       let m = no-more (table Q (linked B)) (6 * n) (B .slots) (names-of room codes inside named)

@@ -15,11 +15,11 @@ use borrow.Author.Tests.{eqb-true, eq-eqb, ltb-false, le-ltb, leb-false, lt-leb}
 use Rattle.rules.specs.Lists.{only, member}
 use Rattle.rules.specs.Cells.{cells, keyOf}
 use Rattle.rules.specs.Types.{floats, quadWord, quadWords, cubeOf}
-use Rattle.rules.specs.Mesh.{Quad, Lists, typeAt, drawn, allSides, culled, at, decode, layout, meshBy as quadsOf}
+use Rattle.rules.specs.Mesh.{Quad, Lists, typeAt, drawn, allSides, culled, at, decode, layout, meshBy}
 use Rattle.rules.specs.Update.{Change, Broken, Added, CullFaces, AddFaces, Entry, entryAt, Tested, work, Course, blank, u32At, emptyType, gridBy, gridAfter, gridLog, TrueBy, Honest, Mends, AddsAlike}
 use Rattle.rules.specs.Answers.{Verdict, fine, refuse, _then_, refuseIf, refuseLowest, outOf, badLimits, BAD-SIZE, BAD-GRID, badCounts, badType, BAD-TYPES, BAD-NUMBER, NOT-A-CUBE, BAD-OUTER, BAD-CELL, SHORT-SLOTS, roomOf, BAD-COUNT, badEntry, BAD-ENTRY, NO-ROOM}
 use Rattle.rules.specs.Check.{linked, Holds, Right}
-use Rattle.rules.specs.Calls.{Answer, answered, Scene, wordsIn, world, span, faces, room, typesVerdict, freshMesh, meshVerdict, meshBy, meshGrid, lentVerdict, updateVerdict, entriesOf, course, courseAnswer, updateBy, updateMesh, openVerdict, bookVerdict, faceVerdict, checkVerdict, checkBy, checkMesh}
+use Rattle.rules.specs.Calls.{Answer, answered, Scene, wordsIn, world, span, faces, room, typesVerdict, freshMesh, meshVerdict, meshedBy, meshGrid, lentVerdict, updateVerdict, entriesOf, course, courseAnswer, updateBy, updateMesh, openVerdict, bookVerdict, faceVerdict, checkVerdict, checkBy, checkMesh}
 use Rattle.rules.proofs.ListLaws.{All, all-of, all-each, split, both-ways, or-false, not-true, length-table, length-each}
 use Rattle.rules.proofs.Laying.{Fits, length-vertices, length-triangles, length-links, length-slots, once-of-distinct, decode-layout}
 use Rattle.rules.proofs.Checking.{then-fine, fine-then, if-fine, fine-if, lowest-fine, fine-lowest, Book, book-of-fine, fine-of-book, book-of-laid, length-decode, key-decode, words-decode, distinct-decode, right-of-fine, fine-of-right, shows-of-right, right-of-shows}
@@ -206,7 +206,7 @@ module _ (S : Scene) (outer g : List ℕ) (culling : Bool) (B : Lists) (accepted
   whole : length g ≡ cells (S .size)
   whole = eqb-true (length g) (cells (S .size)) (not-true _ (if-fine (not (eqb (length g) (cells (S .size)))) 2 0 (opened .grid)))
 
-  fresh-is : (c : Bool) → freshMesh S outer g c ≡ quadsOf (world S) (drawnBy c) g
+  fresh-is : (c : Bool) → freshMesh S outer g c ≡ meshBy (world S) (drawnBy c) g
   fresh-is true = refl
   fresh-is false = refl
 
@@ -249,8 +249,8 @@ fresh-accepted S outer g B e = go (meshVerdict S outer g true B) refl e
         laid-accepted S B (length (culled (world S) outer g)) (culled (world S) outer g) (o .size) (o .slots) (sane S outer g true B v) outer g
         (o .grid) (o .types) (o .faces-named) (o .cells) (fresh-shows (world S) (snd S outer g true B v) outer g (whole S outer g true B v))
 
-    go : (v : Verdict) → meshVerdict S outer g true B ≡ v → (meshBy v S (culled (world S) outer g) B) .answer .number ≡ 0
-        → checkMesh S outer g ((meshBy v S (culled (world S) outer g) B) .lists) ((meshBy v S (culled (world S) outer g) B) .answer .quads) ≡ answered 0 0
+    go : (v : Verdict) → meshVerdict S outer g true B ≡ v → (meshedBy v S (culled (world S) outer g) B) .answer .number ≡ 0
+        → checkMesh S outer g ((meshedBy v S (culled (world S) outer g) B) .lists) ((meshedBy v S (culled (world S) outer g) B) .answer .quads) ≡ answered 0 0
     go fine v e = ap checkBy (passes v)
     go (refuse n p) v e = absurd (refused-not-zero n p v e)
       where

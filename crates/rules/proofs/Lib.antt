@@ -9,7 +9,6 @@ pub mod Quads
 pub mod Mending
 pub mod Ordered
 pub mod Laying
-pub mod Slotting
 pub mod Index
 pub mod Checking
 pub mod Courses

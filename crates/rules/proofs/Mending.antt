@@ -14,8 +14,8 @@ use lib.Seq.{getD-set-same, getD-set-other}
 use borrow.Author.Tests.{eq-eqb, ne-eqb, eqb-true}
 use Rattle.rules.specs.Lists.{each, only, member}
 use Rattle.rules.specs.Cells.{cells, opposite, neighbour, keyOf}
-use Rattle.rules.specs.Mesh.{Quad, World, typeAt, isNormalCube, covering, shown, drawn, allSides, quadsBy, meshBy, culled, at}
-use Rattle.rules.specs.Update.{Change, Broken, Added, CullFaces, AddFaces, Entry, givenAt, outside, run, Work, Tested, quadOf, sides, quads, hide, reveal, all, isOpen, added, broken, workBy, cuts, puts, ops, isEmpty, emptyType, gridBy, standing, Told, TrueBy, Fills, MendsBy, Alike, AlikeBy}
+use Rattle.rules.specs.Mesh.{Quad, World, typeAt, isNormalCube, covering, shown, drawn, allSides, quadsBy, meshBy, culled, at, quadOf}
+use Rattle.rules.specs.Update.{Change, Broken, Added, CullFaces, AddFaces, Entry, givenAt, outside, run, Work, Tested, sides, quads, hide, reveal, all, isOpen, added, broken, workBy, cuts, puts, ops, isEmpty, emptyType, gridBy, standing, Told, TrueBy, Fills, MendsBy, Alike, AlikeBy}
 use Rattle.rules.proofs.ListLaws.{Reads, read-none, read-one, members, and-true, lowest-bad}
 use Rattle.rules.proofs.Neighbours.{Beside, beside, opposite-twice, opposite-lt}
 use Rattle.rules.proofs.Quads.{quadsAt, Once, orElse, orElse-nil, at-cuts, at-puts, run-append}

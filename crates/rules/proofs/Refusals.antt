@@ -12,7 +12,7 @@ use Rattle.rules.specs.Cube.{Shape}
 use Rattle.rules.specs.Mesh.{Lists}
 use Rattle.rules.specs.Update.{Tested, Course}
 use Rattle.rules.specs.Answers.{Verdict, fine, refuse, _then_, refuseIf, BAD-NUMBER, BAD-TEXTURE, BAD-TYPES, BAD-LINKS, BAD-ENTRY}
-use Rattle.rules.specs.Calls.{cubeVerdict, cubeBy, generateVoxelMesh, Scene, typesVerdict, meshVerdict, meshBy, meshGrid, freshMesh, updateVerdict, course, courseAnswer, updateBy, updateMesh, bookVerdict, checkVerdict, checkBy, checkMesh}
+use Rattle.rules.specs.Calls.{cubeVerdict, cubeBy, generateVoxelMesh, Scene, typesVerdict, meshVerdict, meshedBy, meshGrid, freshMesh, updateVerdict, course, courseAnswer, updateBy, updateMesh, bookVerdict, checkVerdict, checkBy, checkMesh}
 use Rattle.rules.proofs.ListLaws.{split, member-append}
 
 -- ---- one numbered refusal
@@ -100,7 +100,7 @@ cube-number q out = go (cubeVerdict q out) (cube-numbers q out)
 pub mesh-number : (S : Scene) (outer g : List ℕ) (culling : Bool) (B : Lists) → member ((meshGrid S outer g culling B) .answer .number) (0 ∷ MESH) ≡ true
 mesh-number S outer g culling B = go (meshVerdict S outer g culling B) (mesh-numbers S outer g culling B)
   where
-    go : (v : Verdict) → Within MESH v → member ((meshBy v S (freshMesh S outer g culling) B) .answer .number) (0 ∷ MESH) ≡ true
+    go : (v : Verdict) → Within MESH v → member ((meshedBy v S (freshMesh S outer g culling) B) .answer .number) (0 ∷ MESH) ≡ true
     go fine w = refl
     go (refuse n p) w = own-number MESH (refuse n p) w
 
@@ -145,7 +145,7 @@ pub mesh-refused : (S : Scene) (outer g : List ℕ) (culling : Bool) (B : Lists)
     → (meshGrid S outer g culling B) .answer .number ≢ 0 → (meshGrid S outer g culling B) .lists ≡ B
 mesh-refused S outer g culling B h = go (meshVerdict S outer g culling B) h
   where
-    go : (v : Verdict) → (meshBy v S (freshMesh S outer g culling) B) .answer .number ≢ 0 → (meshBy v S (freshMesh S outer g culling) B) .lists ≡ B
+    go : (v : Verdict) → (meshedBy v S (freshMesh S outer g culling) B) .answer .number ≢ 0 → (meshedBy v S (freshMesh S outer g culling) B) .lists ≡ B
     go fine d = absurd (d refl)
     go (refuse n p) d = refl
 

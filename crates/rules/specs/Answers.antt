@@ -126,11 +126,14 @@ badLink cells B q =
     let word = getD (B .links) q 0 in
     ltb 5 (codeIn word) || leb cells (cellIn word) || not (eqb (slotAt B (keyIn word)) (firstVertex q))
 
-abbrev pub filled : ℕ → Lists → ℕ
-filled n B = count n (λ k. not (eqb (slotAt B k) NONE))
+abbrev pub isFilled : List ℕ → ℕ → Bool
+isFilled slots k = not (eqb (getD slots k NONE) NONE)
+
+abbrev pub slotsFilled : ℕ → Lists → ℕ
+slotsFilled n B = count n (isFilled (B .slots))
 
 unfoldable pub BAD-LINKS : ℕ → Lists → ℕ → Verdict
-BAD-LINKS cells B Q = refuseLowest 11 Q (badLink cells B) then refuseIf (ltb Q (filled (6 * cells) B)) 11 Q
+BAD-LINKS cells B Q = refuseLowest 11 Q (badLink cells B) then refuseIf (ltb Q (slotsFilled (6 * cells) B)) 11 Q
 
 -- ---- 12: pattern, the lowest quad
 
@@ -158,8 +161,11 @@ NO-ROOM floats B quads = refuseIf (ltb (roomOf floats B) quads) 14 0
 
 -- ---- 15: a face missing or extra, the lowest 6·cell + face
 
+abbrev pub differ : Bool → Bool → Bool
+differ a b = cond a (not b) b
+
 unfoldable pub wrongFace : World → List ℕ → List ℕ → List Quad → ℕ → Bool
-wrongFace W outer g m k = cond (drawn W outer g (k / 6) (k % 6)) (not (there k m)) (there k m)
+wrongFace W outer g m k = differ (drawn W outer g (k / 6) (k % 6)) (there k m)
 
 abbrev pub WRONG-SET : World → List ℕ → List ℕ → List Quad → Verdict
 WRONG-SET W outer g m = refuseLowest 15 (6 * cells (W .size)) (wrongFace W outer g m)

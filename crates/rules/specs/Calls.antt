@@ -67,8 +67,11 @@ abbrev pub room : Scene → Lists → ℕ
 room S B = roomOf (floats (S .types)) B
 
 -- 3, 4 (no padding is given) and 6
+abbrev pub registryVerdict : Types → Triple → Triple → Verdict
+registryVerdict T d centre = BAD-TYPES T then BAD-NUMBER d centre 0 then NOT-A-CUBE T centre
+
 abbrev pub typesVerdict : Scene → Verdict
-typesVerdict S = BAD-TYPES (S .types) then BAD-NUMBER (S .d) (S .centre) 0 then NOT-A-CUBE (S .types) (S .centre)
+typesVerdict S = registryVerdict (S .types) (S .d) (S .centre)
 
 pub record Outcome : Type 0 where
   pub answer : Answer
@@ -84,12 +87,12 @@ meshVerdict S outer g culling B =
     BAD-SIZE (S .size) then BAD-GRID (S .size) g then typesVerdict S then BAD-OUTER outer then BAD-CELL (S .types) g
     then SHORT-SLOTS (S .size) B then NO-ROOM (floats (S .types)) B (length (freshMesh S outer g culling))
 
-abbrev pub meshBy : Verdict → Scene → List Quad → Lists → Outcome
-meshBy fine S m B = record { answer = answered (length m) 0; lists = layout (faces S) (span S) (length m) m B }
-meshBy (refuse n p) S m B = record { answer = refused n p; lists = B }
+abbrev pub meshedBy : Verdict → Scene → List Quad → Lists → Outcome
+meshedBy fine S m B = record { answer = answered (length m) 0; lists = layout (faces S) (span S) (length m) m B }
+meshedBy (refuse n p) S m B = record { answer = refused n p; lists = B }
 
 abbrev pub meshGrid : Scene → List ℕ → List ℕ → Bool → Lists → Outcome
-meshGrid S outer g culling B = meshBy (meshVerdict S outer g culling B) S (freshMesh S outer g culling) B
+meshGrid S outer g culling B = meshedBy (meshVerdict S outer g culling B) S (freshMesh S outer g culling) B
 
 -- ---- Update: 2, 3, 4, 6, 9 to 14
 

@@ -5,7 +5,7 @@ use mathlib.Core.List.{List, [], _∷_, _++_}
 use mathlib.Core.Option.{Option, none, some}
 use lib.ListN.{length, getD, drop, replicate}
 use lib.Dec.{eqb}
-use Rattle.rules.specs.Lists.{each, table, only, row, isNil, member}
+use Rattle.rules.specs.Lists.{each, table, only, row, isNil, member, filled}
 use Rattle.rules.specs.Cells.{Size, cells, opposite, neighbour, keyOf, keyIn, linkOf, firstVertex, has}
 
 -- a quad: the face it shows, 6 · cell + face, and the words of its four vertices
@@ -41,8 +41,12 @@ shown W outer g f (some n) = not (covering W (typeAt g n) (opposite f))
 abbrev pub drawn : World → List ℕ → List ℕ → ℕ → ℕ → Bool
 drawn W outer g c f = isNormalCube W (typeAt g c) && shown W outer g f (neighbour (W .size) c f)
 
+-- face f of cell c as a quad of type t, and of the type that the cell has
+abbrev pub quadOf : World → ℕ → ℕ → ℕ → Quad
+quadOf W t c f = record { key = keyOf c f; words = W .wordsOf t f c }
+
 abbrev pub quadAt : World → List ℕ → ℕ → ℕ → Quad
-quadAt W g c f = record { key = keyOf c f; words = W .wordsOf (typeAt g c) f c }
+quadAt W g c f = quadOf W (typeAt g c) c f
 
 abbrev pub quadsBy : World → (ℕ → ℕ → Bool) → List ℕ → ℕ → List Quad
 quadsBy W test g c = each 6 0 (λ f. only (test c f) (quadAt W g c f))
@@ -112,7 +116,7 @@ slotOf m k = cond (there k m) (firstVertex (placeOf k m)) NONE
 
 -- the slots of n faces, then what was there
 unfoldable pub slotted : ℕ → List Quad → List ℕ → List ℕ
-slotted n m old = table n (slotOf m) ++ drop n old
+slotted n m old = filled n (slotOf m) old
 
 -- Per quad: four vertices (s words), six triangle words, one link word. Per cell: six slots
 abbrev pub layout : ℕ → ℕ → ℕ → List Quad → Lists → Lists

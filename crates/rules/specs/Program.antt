@@ -80,15 +80,16 @@ pub data Built : Type 0 where
   stopped : Answer → Built
   built : List ℕ → Built
 
-abbrev pub buildOne : CubeOutcome → ℕ → List ℕ → Built → Built
-buildOne o zero before next = next
-buildOne o (suc n) before next = stopped (o .answer)
+-- a cube that is refused stops it
+abbrev pub buildOne : CubeOutcome → ℕ → Built → Built
+buildOne o zero next = next
+buildOne o (suc n) next = stopped (o .answer)
 
 -- types t, t + 1, .., n of them, after the cubes before them
 unfoldable pub buildFrom : List ℕ → ℕ → ℕ → List ℕ → Built
 buildFrom file t zero before = built before
 buildFrom file t (suc n) before =
-    buildOne (cubeIn file t) ((cubeIn file t) .answer .number) before (buildFrom file (suc t) n (before ++ (cubeIn file t) .out))
+    buildOne (cubeIn file t) ((cubeIn file t) .answer .number) (buildFrom file (suc t) n (before ++ (cubeIn file t) .out))
 
 abbrev pub sceneIn : List ℕ → List ℕ → Scene
 sceneIn file cubes =

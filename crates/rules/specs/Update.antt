@@ -8,7 +8,7 @@ use lib.ListN.{length, getD, set, take, drop}
 use lib.Dec.{eqb, leb, ltb}
 use Rattle.rules.specs.Lists.{each, only, part, lowest}
 use Rattle.rules.specs.Cells.{opposite, neighbour, keyOf}
-use Rattle.rules.specs.Mesh.{Quad, World, typeAt, isNormalCube, covering, there, placeOf}
+use Rattle.rules.specs.Mesh.{Quad, World, typeAt, isNormalCube, covering, there, placeOf, quadOf}
 
 -- ---- a log entry, 12 bytes
 
@@ -122,9 +122,6 @@ source = opposite
 -- i itself (02, Q-2)
 abbrev pub itself : Tested
 itself i = i
-
-abbrev pub quadOf : World → ℕ → ℕ → ℕ → Quad
-quadOf W t c f = record { key = keyOf c f; words = W .wordsOf t f c }
 
 -- the sides of a cell of which p holds: their keys, or their quads for a type
 abbrev pub sides : ℕ → (ℕ → Bool) → List ℕ

@@ -7,7 +7,7 @@ use mathlib.Core.List.{List}
 use Prim.Native.Nat.{ℕ, zero, suc, _+_, _*_, _/_, _%_, _<_}
 use native.Mathlib.Nat.{zero-add}
 use native.Mathlib.Omega.{arith}
-use lib.Dec.{T, eqb, lit<}
+use lib.Dec.{T, lit<}
 use lib.Ieee.{Float, binary32, eq, lt}
 use lib.Ieee.Fits.{add-fits, sub-fits, and-l, and-r, and-i}
 use lib.Ieee.Bits.{ofBits-toBits, is-true, is-false}

@@ -7,19 +7,13 @@ use mathlib.Core.Option.{Option, none, some}
 use lib.Dec as Dec
 use Rattle.rules.specs.Floats.{finite}
 use mathlib.Core.List.{List}
-use Rattle.rules.specs.Cells.{Triple}
 use Rattle.rules.specs.Cube.{floatsOf}
 use Rattle.rules.specs.Types.{Types, positionOf}
-use Rattle.rules.specs.Answers.{Verdict, _then_, BAD-TYPES, BAD-NUMBER, NOT-A-CUBE}
 use Rattle.types.specs.declared.Class.{Class}
 use Rattle.types.specs.declared.Class.the-variants.{Of, Nothing}
 
 abbrev pub typesOf : Bool → List ℕ → List ℕ → List ℕ → Types
 typesOf coloured kinds covers cubes = record { coloured = coloured; kinds = kinds; covers = covers; cubes = cubes }
-
--- 3, 4 (no padding is given) and 6
-abbrev pub typesVerdict : Types → Triple → Triple → Verdict
-typesVerdict T d centre = BAD-TYPES T then BAD-NUMBER d centre 0 then NOT-A-CUBE T centre
 
 -- 24 vertices of 8 to 12 words
 pub record Words (cube : List ℕ) (floats : ℕ) : Type 0 where

@@ -6,6 +6,7 @@ use floats::is_finite_bits;
 use voxel_mesh::corner_of;
 use voxel_mesh::floats_of;
 use voxel_mesh::triangle_words;
+ghost use Rattle.rules.specs.Calls.{registryVerdict};
 ghost use mathlib.Core.Path.{_≡_};
 ghost use mathlib.Core.Bool.{Bool};
 ghost use mathlib.Core.List.{List};
@@ -19,7 +20,7 @@ ghost use Rattle.rules.specs.Types.{positionOf, classOn, classAt, classOf, isOf
 ghost use Rattle.rules.specs.Answers.{badCounts, badType, notACube};
 ghost use Rattle.answers.specs.Verdicts.{verdictOf};
 ghost use Rattle.floats.specs.Triples.{tripleOf};
-ghost use Rattle.types.specs.Tests.{typesOf, classIn, isSome, typesVerdict, Words, Placed, Counted};
+ghost use Rattle.types.specs.Tests.{typesOf, classIn, isSome, Words, Placed, Counted};
 
 fn has_bad_counts(kinds: &[u8], covers: &[u8], cubes: &[u32], coloured: bool) -> bool
     ensures { λ r. ⌜ r ≡ badCounts (typesOf coloured (now (kinds .entry)) (now (covers .entry)) (now (cubes .entry))) ⌝ }
@@ -245,7 +246,7 @@ pub fn types_verdict(
     centre: Triple,
 ) -> Verdict
     ensures { λ r. ⌜ verdictOf r ≡
-        typesVerdict (typesOf coloured (now (kinds .entry)) (now (covers .entry)) (now (cubes .entry))) (tripleOf d) (tripleOf centre) ⌝ }
+        registryVerdict (typesOf coloured (now (kinds .entry)) (now (covers .entry)) (now (cubes .entry))) (tripleOf d) (tripleOf centre) ⌝ }
 {
     if has_bad_counts(kinds, covers, cubes, coloured) {
         return Verdict::Refuse(Refusal::BadTypes, 255);

@@ -81,11 +81,6 @@ past-more s k highest old h l = go (decLt k highest)
               ∙ ap (λ (r : List ℕ). take s (drop (s * highest) old) ++ r) (drop-drop s (s * highest) old ∙ ap (λ (n : ℕ). drop n old) w)),
         )
 
--- LAW: no quad yet
-pub none-laid : (s : ℕ) (enc : ℕ → Quad → List ℕ) (old : List ℕ) → laid s enc 0 [] old ≡ old
-unfolding laid
-none-laid s enc old = let z : s * 0 ≡ 0 = omega arith in rw z
-
 module _ (s : ℕ) (enc : ℕ → Quad → List ℕ) (highest : ℕ) (old : List ℕ) where
   -- a quad more: its row past those that are there
   rows-snoc : (m : List Quad) (x : Quad) (rest : List ℕ) → rows enc 0 (m ++ (x ∷ [])) ++ rest ≡ rows enc 0 m ++ (enc (length m) x ++ rest)
@@ -116,21 +111,6 @@ module _ (s : ℕ) (enc : ℕ → Quad → List ℕ) (highest : ℕ) (old : List
       (put-mid (rows enc 0 m) (enc (length m) x) (past s (suc (length m)) highest old) (s * length m) s
       (length-rows s enc 0 m sized) wide (zeros s) (length-replicate s 0)
       ∙ ap (λ (r : List ℕ). rows enc 0 m ++ r) (past-less s (length m) highest old h))
-
--- LAW: where rows depend on their place only, a removal zeroes the last
-pub pattern-laid : (s : ℕ) (p : ℕ → List ℕ) (highest : ℕ) (old : List ℕ) (m kept : List Quad) → ((q : ℕ) → length (p q) ≡ s)
-    → suc (length kept) ≡ length m → length m ≤ highest
-    → put (s * (length m - 1)) (zeros s) (laid s (λ q x. p q) highest m old) ≡ laid s (λ q x. p q) highest kept old
-unfolding laid
-pattern-laid s p highest old m kept wide e h =
-    let k : length m - 1 ≡ length kept = omega arith in
-    let n : length m ≡ length (kept ++ (blank ∷ [])) = simp length-append (omega arith) in
-    rw (k, rows-of-places p 0 m (kept ++ (blank ∷ [])) n, n)
-    (last-laid s (λ q x. p q) highest old kept blank (sized kept) (wide (length kept)) (omega arith))
-  where
-    sized : (m : List Quad) → Sized s (λ q x. p q) m
-    sized [] = tt
-    sized (x ∷ m) = (wide, sized m)
 
 -- ---- rows that do not depend on their place
 module _ (s : ℕ) (e : Quad → List ℕ) (highest : ℕ) (old : List ℕ) where

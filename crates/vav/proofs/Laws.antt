@@ -1,22 +1,20 @@
 -- Laws of `put`, `part` and `freed`. Assumes nothing.
 use mathlib.Core.Path.{_≡_, refl, sym, ap, _∙_}
-use mathlib.Core.Logic.{_≢_, _⊎_, inl, inr, ⊎-elim}
 use Prim.Native.Nat.{ℕ, suc, _+_, _-_, _*_, _≤_, _<_}
 use mathlib.Core.Bool.{cond}
 use mathlib.Core.List.{List, [], _∷_, _++_, append-assoc, append-nil}
 use native.Mathlib.Numerals.{add-one}
 use native.Mathlib.Nat.{add-zero, mul-le-mul-left}
 use native.Mathlib.Omega.{arith}
-use native.Mathlib.Decide.{decLt}
 use lib.ListN.{length, take, drop, getD, set, replicate, length-append, length-take, length-drop, length-replicate, List·getD-append, take-append-drop, drop-of-length-le, replicate-append-replicate}
-use lib.Seq.{ext-getD, sets, sets-eq, take-at, drop-at, drop-append-add, take-suc, drop-cons, getD-drop, getD-take, set-at, set-split, length-take-le, getD-append-add, drop-drop}
+use lib.Seq.{sets, sets-eq, take-at, drop-at, drop-append-add, take-suc, drop-cons, getD-drop, getD-take, set-at, set-split, length-take-le, getD-append-add, drop-drop}
 use borrow.Author.Tests.{leb-false}
 use borrow.Rule.Slice.PartMut.{putMid}
-use Rattle.rules.specs.Lists.{part, row}
+use Rattle.rules.specs.Lists.{part}
 use Rattle.rules.specs.Update.{shifts}
 use Rattle.rules.specs.Update as rule
 use Rattle.rules.proofs.ListLaws.{split}
-use Rattle.vav.specs.Rows.{put, zeros, sourceOf, movedBy, freed}
+use Rattle.vav.specs.Rows.{put, zeros, sourceOf, freed}
 
 pub length-part : (at n : ℕ) (xs : List ℕ) → at + n ≤ length xs → length (part at n xs) ≡ n
 length-part at n xs h = length-take-le n (drop at xs) (simp length-drop (omega arith))
@@ -162,7 +160,7 @@ source-bounds q Q h =
     (λ s e. (omega arith, omega arith)) (λ s e. (omega (arith, leb-false (Q - q) 6 e), omega arith)) refl
 
 -- as many rows move as the rule says
-pub moved-is : (q Q : ℕ) → q < Q → movedBy q Q ≡ rule.movedBy Q q
+pub moved-is : (q Q : ℕ) → q < Q → Q - sourceOf q Q ≡ rule.movedBy Q q
 moved-is q Q h =
     split (λ b. Q - cond b (suc q) (Q - 1) ≡ cond b (Q - 1 - q) 1) (shifts Q q) (λ e. omega arith) (λ e. omega arith)
 
@@ -194,100 +192,10 @@ pub length-freed : (n q Q : ℕ) (xs : List ℕ) → q < Q → n * Q ≤ length 
 unfolding freed
 length-freed n q Q xs h l =
     let s = spans n q Q (sourceOf q Q) h refl in
-    let ys = part (n * sourceOf q Q) (n * movedBy q Q) xs in
-    let p : length ys ≡ n * movedBy q Q = length-part (n * sourceOf q Q) (n * movedBy q Q) xs (omega arith) in
+    let ys = part (n * sourceOf q Q) (n * (Q - sourceOf q Q)) xs in
+    let p : length ys ≡ n * (Q - sourceOf q Q) = length-part (n * sourceOf q Q) (n * (Q - sourceOf q Q)) xs (omega arith) in
     let a : length (put (n * q) ys xs) ≡ length xs = length-put (n * q) ys xs (omega arith) in
     let z : length (zeros n) ≡ n = length-replicate n 0 in
     length-put (n * (Q - 1)) (zeros n) (put (n * q) ys xs) (omega arith) ∙ a
 
 -- ---- rows
-
--- a row ends where a later one starts, or before
-pub row-below : (n i j : ℕ) → i < j → n * i + n ≤ n * j
-row-below n i j h = omega (arith, mul-le-mul-left n h)
-
--- two rows with the same words
-pub row-same : (n : ℕ) (xs ys : List ℕ) (i j : ℕ) → n * i + n ≤ length xs → n * j + n ≤ length ys
-    → ((k : ℕ) → k < n → getD xs (n * i + k) 0 ≡ getD ys (n * j + k) 0) → row n xs i ≡ row n ys j
-row-same n xs ys i j a b h =
-    let l : length (row n xs i) ≡ n = length-part (n * i) n xs a in
-    let r : length (row n ys j) ≡ n = length-part (n * j) n ys b in
-    ext-getD 0 (row n xs i) (row n ys j) (l ∙ sym r)
-    (λ k m. let w : k < n = omega arith in part-at (n * i) n xs k w ∙ h k w ∙ sym (part-at (n * j) n ys k w))
-
--- the row that was put
-pub row-put : (n q : ℕ) (ys xs : List ℕ) → length ys ≡ n → n * q + n ≤ length xs → row n (put (n * q) ys xs) q ≡ ys
-unfolding put
-row-put n q ys xs e h = part-mid (take (n * q) xs) ys (drop (n * q + length ys) xs) (n * q) n (length-take-le (n * q) xs (omega arith)) e
-
-module _ (n q Q : ℕ) (xs : List ℕ) (h : q < Q) (fit : n * Q ≤ length xs) where
-  abbrev from : ℕ
-  from = sourceOf q Q
-
-  abbrev moving : List ℕ
-  moving = part (n * from) (n * (Q - from)) xs
-
-  length-moving : length moving ≡ n * (Q - from)
-  length-moving = let s = spans n q Q from h refl in length-part (n * from) (n * (Q - from)) xs (omega arith)
-
-  length-moved : length (put (n * q) moving xs) ≡ length xs
-  length-moved = let s = spans n q Q from h refl in length-put (n * q) moving xs (omega (arith, length-moving))
-
-  -- a word of a row that is not the last
-  word-freed : (i k : ℕ) → i < Q - 1 → k < n → getD (freed n q Q xs) (n * i + k) 0 ≡ getD (put (n * q) moving xs) (n * i + k) 0
-  unfolding freed
-  word-freed i k l b =
-      let s = spans n q Q from h refl in
-      put-before (n * (Q - 1)) (zeros n) (put (n * q) moving xs) (n * i + k) (omega (arith, length-moved))
-      (omega (arith, row-below n i (Q - 1) l))
-
-  -- LAW: a row that does not move
-  pub row-stays : (i : ℕ) → i < from → i ≢ q → row n (freed n q Q xs) i ≡ row n xs i
-  row-stays i l d =
-      let w = row-below n i Q (omega (arith, source-bounds q Q h)) in
-      row-same n (freed n q Q xs) xs i i (omega (arith, length-freed n q Q xs h fit)) (omega arith)
-      (λ k m. word-freed i k last m ∙ word k m (decLt i q))
-    where
-      -- all the later rows move, or the last alone
-      cases : (from ≡ suc q) ⊎ (from ≡ Q - 1)
-      cases = split (λ b. (cond b (suc q) (Q - 1) ≡ suc q) ⊎ (cond b (suc q) (Q - 1) ≡ Q - 1)) (shifts Q q) (λ e. inl refl) (λ e. inr refl)
-
-      last : i < Q - 1
-      last = ⊎-elim (λ e. omega arith) (λ e. omega arith) cases
-
-      past : (i < q → ⊥) → q + (Q - from) ≤ i
-      past g = ⊎-elim (λ e. absurd (d (omega arith))) (λ e. omega arith) cases
-
-      word : (k : ℕ) → k < n → Dec (i < q) → getD (put (n * q) moving xs) (n * i + k) 0 ≡ getD xs (n * i + k) 0
-      word k m (yes b) =
-          let s = spans n q Q from h refl in
-          put-before (n * q) moving xs (n * i + k) (omega arith) (omega (arith, row-below n i q b))
-      word k m (no b) =
-          let s = spans n q Q from h refl in
-          put-past (n * q) moving xs (n * i + k) (omega arith) (omega (arith, length-moving, mul-le-mul-left n (past b)))
-
-  -- LAW: a row that moves
-  pub row-moves : (j : ℕ) → from ≤ j → j < Q → row n (freed n q Q xs) (q + (j - from)) ≡ row n xs j
-  row-moves j l b =
-      let s = spans n q Q from h refl in
-      let c = source-bounds q Q h in
-      let i : q + (j - from) < Q - 1 = omega arith in
-      let w = row-below n (q + (j - from)) Q (omega arith) in
-      let v = row-below n j Q b in
-      row-same n (freed n q Q xs) xs (q + (j - from)) j (omega (arith, length-freed n q Q xs h fit)) (omega arith)
-      (λ k m.
-      let e : n * (q + (j - from)) + k ≡ n * q + (n * (j - from) + k) = omega arith in
-      let f : from + (j - from) ≡ j = omega arith in
-      let g : n * from + (n * (j - from) + k) ≡ n * j + k = omega (arith, ap (λ (r : ℕ). n * r) f) in
-      let y : n * (j - from) + k < n * (Q - from) = omega (arith, row-below n (j - from) (Q - from) (omega arith)) in
-      word-freed (q + (j - from)) k i m
-      ∙ ap (λ (r : ℕ). getD (put (n * q) moving xs) r 0) e
-      ∙ put-within (n * q) moving xs (n * (j - from) + k) (omega arith) (omega (arith, length-moving))
-      ∙ part-at (n * from) (n * (Q - from)) xs (n * (j - from) + k) y
-      ∙ ap (λ (r : ℕ). getD xs r 0) g)
-
-  -- LAW: the freed last row
-  pub row-last : row n (freed n q Q xs) (Q - 1) ≡ zeros n
-  unfolding freed
-  row-last = let s = spans n q Q from h refl in row-put n (Q - 1) (zeros n) (put (n * q) moving xs) (length-replicate n 0)
-      (omega (arith, length-moved))

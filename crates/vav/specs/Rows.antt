@@ -18,9 +18,6 @@ zeros n = replicate n 0
 abbrev pub sourceOf : ℕ → ℕ → ℕ
 sourceOf q Q = cond (shifts Q q) (suc q) (Q - 1)
 
-abbrev pub movedBy : ℕ → ℕ → ℕ
-movedBy q Q = Q - sourceOf q Q
-
 -- Q rows, with row q freed: those that move go to q and on, and the freed last place is zeroed
 unfoldable pub freed : ℕ → ℕ → ℕ → List ℕ → List ℕ
-freed n q Q xs = put (n * (Q - 1)) (zeros n) (put (n * q) (part (n * sourceOf q Q) (n * movedBy q Q) xs) xs)
+freed n q Q xs = put (n * (Q - 1)) (zeros n) (put (n * q) (part (n * sourceOf q Q) (n * (Q - sourceOf q Q)) xs) xs)

@@ -58,7 +58,7 @@ module _ (file : List ℕ) (t : ℕ) (a : Answer) (X out : List ℕ) (long : len
   built-more : (n : ℕ) (before : List ℕ) → a .number ≡ 0 → buildFrom file t (suc n) before ≡ buildFrom file (suc t) n (before ++ out)
   unfolding buildFrom
   built-more n before e =
-      ap (λ (k : ℕ). buildOne (cubeIn file t) k before (buildFrom file (suc t) n (before ++ (cubeIn file t) .out)))
+      ap (λ (k : ℕ). buildOne (cubeIn file t) k (buildFrom file (suc t) n (before ++ (cubeIn file t) .out)))
       (ap (λ (a : Answer). a .number) answer-is ∙ e)
       ∙ ap (λ (l : List ℕ). buildFrom file (suc t) n (before ++ l)) (out-is e)
 
@@ -72,7 +72,7 @@ module _ (file : List ℕ) (t : ℕ) (a : Answer) (X out : List ℕ) (long : len
       go (suc k) h e =
           ap (λ (k : ℕ). builtBy k a registry) e
           ∙ ap stopped (sym answer-is)
-          ∙ ap (λ (k : ℕ). buildOne (cubeIn file t) k before (buildFrom file (suc t) n (before ++ (cubeIn file t) .out)))
+          ∙ ap (λ (k : ℕ). buildOne (cubeIn file t) k (buildFrom file (suc t) n (before ++ (cubeIn file t) .out)))
           (sym (ap (λ (a : Answer). a .number) answer-is ∙ e))
 
 -- ---- type by type

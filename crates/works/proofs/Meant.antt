@@ -10,9 +10,9 @@ use lib.ListN.{getD}
 use borrow.Author.Tests.{ne-eqb}
 use Rattle.rules.specs.Lists.{each, only}
 use Rattle.rules.specs.Cells.{Size, cells, opposite, neighbour, keyOf, has, setOf}
-use Rattle.rules.specs.Mesh.{Quad, World, NONE, isNormalCube, covering}
+use Rattle.rules.specs.Mesh.{Quad, World, NONE, isNormalCube, covering, quadOf}
 use Rattle.rules.specs.Update as rule
-use Rattle.rules.specs.Update.{Entry, Change, Tested, Broken, Added, CullFaces, AddFaces, Op, put, cut, cuts, puts, ops, givenAt, quadOf, sides, quads, all, isOpen, withGiven, reveal, nothing, added, workBy, work}
+use Rattle.rules.specs.Update.{Entry, Change, Tested, Broken, Added, CullFaces, AddFaces, Op, put, cut, cuts, puts, ops, givenAt, sides, quads, all, isOpen, withGiven, reveal, nothing, added, workBy, work}
 use Rattle.rules.proofs.Sets.{has-setOf, setOf-lt}
 use Rattle.rules.proofs.Neighbours.{beside, opposite-lt}
 use Rattle.rules.proofs.ListLaws.{and-true, each-same, getD-table}

@@ -1,12 +1,12 @@
 -- `drawing::vertex_row` meets its contract: before face i, the faces before it are written. Assumes nothing.
 use mathlib.Core.List.{[]}
-use Prim.Native.Nat.{ℕ, _+_, _-_, _*_, _≤_}
+use Prim.Native.Nat.{_+_, _-_, _≤_}
 use native.Mathlib.Nat.{mul-le-mul-left}
 use native.Mathlib.Omega.{arith}
 use denote.Ref.{now}
 use lib.ListN.{length}
 use borrow.Author.Needs.{needs}
-use Rattle.rules.specs.Calls.{Scene, span}
+use Rattle.rules.specs.Calls.{span}
 use Rattle.rules.proofs.Demands.{words-sized}
 use Rattle.terms.specs.Scenes.{sceneOf}
 use Rattle.drawing.specs.Written.{sideRow}

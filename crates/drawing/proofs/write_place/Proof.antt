@@ -34,12 +34,6 @@ add-end c = omega (arith, plain c)
 mul-write-quad : tie.Need-mul-write-quad
 mul-write-quad c = omega (arith, plain c)
 
-sub-write-quad : tie.Need-sub-write-quad
-sub-write-quad c = search needs
-
-part-write-quad-start : tie.Need-part-write-quad-start
-part-write-quad-start c = search needs
-
 part-write-quad-end : tie.Need-part-write-quad-end
 part-write-quad-end c = omega (arith, plain c)
 
@@ -51,9 +45,6 @@ write-quad-requires c κs =
       length-lent (32 * a .q) 32 (a .vertices .now) (omega (arith, plain (c .before))),
     )
 
-same-length : tie.Need-same-length
-same-length c = search needs
-
 returns : tie.Need-returns
 returns c =
     let wrote = c .before .before in
@@ -64,33 +55,6 @@ returns c =
     lent (32 * a .q) 32 (a .vertices .now) (wrote .write-quad .last .0) (quadWords (a .cube .now) 8 d (number (a .face)) at)
     (wrote .write-quad .ensures) (length-quad (a .cube .now) 8 d (number (a .face)) at)
     ∙ ap (λ (n : ℕ). put (4 * n * a .q) (quadWords (a .cube .now) n d (number (a .face)) at) (a .vertices .now)) (sym (then1 .if1 .taken))
-
-mul-words : tie.Need-mul-words
-mul-words c = search needs
-
-mul-start-2 : tie.Need-mul-start-2
-mul-start-2 c = search needs
-
-add-end-2 : tie.Need-add-end-2
-add-end-2 c = search needs
-
-mul-write-quad-2 : tie.Need-mul-write-quad-2
-mul-write-quad-2 c = search needs
-
-sub-write-quad-2 : tie.Need-sub-write-quad-2
-sub-write-quad-2 c = search needs
-
-part-write-quad-start-2 : tie.Need-part-write-quad-start-2
-part-write-quad-start-2 c = search needs
-
-part-write-quad-end-2 : tie.Need-part-write-quad-end-2
-part-write-quad-end-2 c = search needs
-
-write-quad-requires-2 : tie.Need-write-quad-requires-2
-write-quad-requires-2 c κs = search needs
-
-same-length-2 : tie.Need-same-length-2
-same-length-2 c = search needs
 
 returns-2 : tie.Need-returns-2
 returns-2 c =
@@ -105,23 +69,6 @@ returns-2 c =
 pub write-place-spec : {M : Type 1} → statement M
 write-place-spec =
     tie.close
-    (tie.spec
-    mul-start
-    add-end
-    mul-write-quad
-    sub-write-quad
-    part-write-quad-start
-    part-write-quad-end
-    write-quad-requires
-    same-length
-    returns
-    mul-words
-    mul-start-2
-    add-end-2
-    mul-write-quad-2
-    sub-write-quad-2
-    part-write-quad-start-2
-    part-write-quad-end-2
-    write-quad-requires-2
-    same-length-2
-    returns-2)
+    (tie.spec mul-start add-end mul-write-quad (λ c. search needs) (λ c. search needs) part-write-quad-end write-quad-requires (λ c. search needs)
+    returns (λ c. search needs) (λ c. search needs) (λ c. search needs) (λ c. search needs) (λ c. search needs) (λ c. search needs)
+    (λ c. search needs) (λ c κs. search needs) (λ c. search needs) returns-2)

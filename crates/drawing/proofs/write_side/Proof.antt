@@ -1,20 +1,18 @@
 -- `drawing::write_side` meets its contract: the cell's type has its cube in the middle of the registry. Assumes nothing.
-use mathlib.Core.Path.{_≡_, refl, sym, ap, _∙_}
+use mathlib.Core.Path.{_≡_, refl, _∙_}
 use mathlib.Core.List.{[]}
-use Prim.Native.Nat.{ℕ, _+_, _-_, _*_, _/_, _%_, _≤_}
+use Prim.Native.Nat.{_+_, _-_, _*_, _/_, _%_, _≤_}
 use native.Mathlib.Nat.{mul-le-mul}
 use native.Mathlib.Omega.{arith}
 use denote.Ref.{now}
-use lib.ListN.{length, getD}
+use lib.ListN.{length}
 use borrow.Author.Needs.{needs}
 use Rattle.rules.specs.Lists.{part}
 use Rattle.rules.specs.Cells.{coordinates}
 use Rattle.rules.specs.Types.{cubeOf}
-use Rattle.rules.specs.Mesh.{typeAt}
 use Rattle.rules.specs.Calls.{Scene}
 use Rattle.vav.proofs.Laws.{part-lent}
 use Rattle.voxel_mesh.proofs.Shapes.{few}
-use Rattle.rules.proofs.ListLaws.{within}
 use Rattle.util.specs.Grid.{cordsOf}
 use Rattle.util.proofs.Rows.{row-cords}
 use Rattle.terms.specs.Scenes.{sceneOf}

@@ -24,24 +24,6 @@ loop-holds : tie.Need-loop-holds Inv-loop μ-loop
 unfolding every
 loop-holds c = (omega arith, refl)
 
-add-bad-neighbour : tie.Need-add-bad-neighbour Inv-loop μ-loop
-add-bad-neighbour c = search needs
-
-add-bad-neighbour-2 : tie.Need-add-bad-neighbour-2 Inv-loop μ-loop
-add-bad-neighbour-2 c = search needs
-
-shared-slice-read-bad-neighbour : tie.Need-shared-slice-read-bad-neighbour Inv-loop μ-loop
-shared-slice-read-bad-neighbour c = search needs
-
-bad-neighbour-requires : tie.Need-bad-neighbour-requires Inv-loop μ-loop
-bad-neighbour-requires c κs = search needs
-
-add-f : tie.Need-add-f Inv-loop μ-loop
-add-f c = search needs
-
-loop-less : tie.Need-loop-less Inv-loop μ-loop
-loop-less c = search needs
-
 loop-again : tie.Need-loop-again Inv-loop μ-loop
 loop-again c =
     let l = c .before .before .before .loop in
@@ -57,15 +39,5 @@ returns c =
 pub bad-neighbours-spec : {M : Type 1} → statement M
 bad-neighbours-spec =
     tie.close
-    (tie.spec
-    Inv-loop
-    μ-loop
-    loop-holds
-    add-bad-neighbour
-    add-bad-neighbour-2
-    shared-slice-read-bad-neighbour
-    bad-neighbour-requires
-    add-f
-    loop-less
-    loop-again
-    returns)
+    (tie.spec Inv-loop μ-loop loop-holds (λ c. search needs) (λ c. search needs) (λ c. search needs) (λ c κs. search needs) (λ c. search needs)
+    (λ c. search needs) loop-again returns)

@@ -23,9 +23,6 @@ loop-holds c =
     let n : length (a .log .now) / 12 ≡ length (a .log .now) / 12 - 0 = omega arith in
     (omega arith, ap (λ (k : ℕ). lowestFrom 0 k (badEntry (a .cells) (a .types) (a .log .now))) n)
 
-bad-entry-requires : tie.Need-bad-entry-requires Inv-loop μ-loop
-bad-entry-requires c κs = search needs
-
 returns : tie.Need-returns Inv-loop μ-loop
 returns c =
     let l = c .before .before .before .loop in
@@ -33,12 +30,6 @@ returns c =
     let bad = badEntry (a .cells) (a .types) (a .log .now) in
     let e : bad (l .k) ≡ true = cc (c .if1 .taken) in
     sym (l .inv .1 ∙ lowest-here (l .k) (length (a .log .now) / 12) bad (omega arith) e)
-
-add-k : tie.Need-add-k Inv-loop μ-loop
-add-k c = search needs
-
-loop-less : tie.Need-loop-less Inv-loop μ-loop
-loop-less c = search needs
 
 loop-again : tie.Need-loop-again Inv-loop μ-loop
 loop-again c =
@@ -59,13 +50,4 @@ returns-2 c =
 pub first-bad-entry-spec : {M : Type 1} → statement M
 first-bad-entry-spec =
     tie.close
-    (tie.spec
-    Inv-loop
-    μ-loop
-    loop-holds
-    bad-entry-requires
-    returns
-    add-k
-    loop-less
-    loop-again
-    returns-2)
+    (tie.spec Inv-loop μ-loop loop-holds (λ c κs. search needs) returns (λ c. search needs) (λ c. search needs) loop-again returns-2)

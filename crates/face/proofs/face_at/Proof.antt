@@ -5,15 +5,6 @@ use Rattle.face.proofs.Laws.{face-number, face-nothing}
 use Rattle.face.proofs.face_at.Statement.{statement}
 use Rattle.face.proofs.face_at.Tie as tie
 
-from-number-requires : tie.Need-from-number-requires
-from-number-requires c κs = search needs
-
-enum-known-face : tie.Need-enum-known-face
-enum-known-face c = search needs
-
-enum-told : tie.Need-enum-told
-enum-told c = search needs
-
 returns : tie.Need-returns
 returns c =
     let found = c .before .before .before in
@@ -28,4 +19,5 @@ returns-2 c =
 
 pub face-at-spec : {M : Type 1} → statement M
 face-at-spec =
-    tie.close (tie.spec from-number-requires enum-known-face enum-told returns returns-2)
+    tie.close
+    (tie.spec (λ c κs. search needs) (λ c. search needs) (λ c. search needs) returns returns-2)

@@ -5,11 +5,10 @@ use Rattle.face.proofs.Laws.{word-of-high}
 use Rattle.face.proofs.face_of.Statement.{statement}
 use Rattle.face.proofs.face_of.Tie as tie
 
-from-u32-requires : tie.Need-from-u32-requires
-from-u32-requires c κs = search needs
-
 returns : tie.Need-returns
 returns c = c .from-u32 .ensures ∙ word-of-high (c .before .args .link) (omega arith)
 
 pub face-of-spec : {M : Type 1} → statement M
-face-of-spec = tie.close (tie.spec from-u32-requires returns)
+face-of-spec =
+    tie.close
+    (tie.spec (λ c κs. search needs) returns)

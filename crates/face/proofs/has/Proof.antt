@@ -6,9 +6,6 @@ use Rattle.face.proofs.Laws.{number-below}
 use Rattle.face.proofs.has.Statement.{statement}
 use Rattle.face.proofs.has.Tie as tie
 
-number-requires : tie.Need-number-requires
-number-requires c κs = search needs
-
 cast-result : tie.Need-cast-result
 cast-result c = omega (arith, number-below (c .before .args .face))
 
@@ -19,4 +16,6 @@ returns : tie.Need-returns
 returns c = ap (has (c .before .args .set)) (c .number .ensures)
 
 pub has-spec : {M : Type 1} → statement M
-has-spec = tie.close (tie.spec number-requires cast-result shr-result returns)
+has-spec =
+    tie.close
+    (tie.spec (λ c κs. search needs) cast-result shr-result returns)

@@ -6,9 +6,6 @@ use Rattle.face.specs.Face.{number}
 use Rattle.face.proofs.link.Statement.{statement}
 use Rattle.face.proofs.link.Tie as tie
 
-to-u32-requires : tie.Need-to-u32-requires
-to-u32-requires c κs = search needs
-
 returns : tie.Need-returns
 returns c =
     let t = c .before .before in
@@ -16,4 +13,6 @@ returns c =
     ∙ or-shifted-r (code (number (t .args .face))) 29 (t .args .cell .0) (t .pre)
 
 pub link-spec : {M : Type 1} → statement M
-link-spec = tie.close (tie.spec to-u32-requires returns)
+link-spec =
+    tie.close
+    (tie.spec (λ c κs. search needs) returns)

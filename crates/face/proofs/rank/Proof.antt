@@ -7,18 +7,6 @@ use native.Mathlib.Omega.{arith}
 use Rattle.face.proofs.rank.Statement.{statement}
 use Rattle.face.proofs.rank.Tie as tie
 
-mul-at : tie.Need-mul-at
-mul-at c = search needs
-
-number-requires : tie.Need-number-requires
-number-requires c κs = search needs
-
-cast-at : tie.Need-cast-at
-cast-at c = search needs
-
-add-at : tie.Need-add-at
-add-at c = search needs
-
 element-copy-out-result : tie.Need-element-copy-out-result
 element-copy-out-result c = omega (arith, number-below (c .before .args .face))
 
@@ -29,4 +17,6 @@ returns c =
     s .pre .1 (s .args .set) (f .result) (s .pre .0) (omega (arith, number-below (s .args .face))) ∙ ap (rank (s .args .set)) (f .ensures)
 
 pub rank-spec : {M : Type 1} → statement M
-rank-spec = tie.close (tie.spec mul-at number-requires cast-at add-at element-copy-out-result returns)
+rank-spec =
+    tie.close
+    (tie.spec (λ c. search needs) (λ c κs. search needs) (λ c. search needs) (λ c. search needs) element-copy-out-result returns)

@@ -8,9 +8,6 @@ use borrow.Author.Needs.{needs}
 use Rattle.floats.proofs.corner_word.Statement.{statement}
 use Rattle.floats.proofs.corner_word.Tie as tie
 
-corner-requires : tie.Need-corner-requires
-corner-requires c κs = search needs
-
 float-to-bits-result : tie.Need-float-to-bits-result
 float-to-bits-result c = rw (c .corner .ensures) (no-nan (corner-number (c .before .args .high) _ _ (c .before .pre .0)
     (c .before .pre .1)))
@@ -20,4 +17,6 @@ unfolding cornerWord
 returns c = ap (λ (x : Float). toBits binary32 x) (c .corner .ensures)
 
 pub corner-word-spec : {M : Type 1} → statement M
-corner-word-spec = tie.close (tie.spec corner-requires float-to-bits-result returns)
+corner-word-spec =
+    tie.close
+    (tie.spec (λ c κs. search needs) float-to-bits-result returns)

@@ -5,9 +5,6 @@ use native.Mathlib.Omega.{arith}
 use Rattle.floats.proofs.uv_end.Statement.{statement}
 use Rattle.floats.proofs.uv_end.Tie as tie
 
-uv-start-requires : tie.Need-uv-start-requires
-uv-start-requires c κs = search needs
-
 int-to-float-wide : tie.Need-int-to-float-wide
 int-to-float-wide c = whole-casts _ (omega arith)
 
@@ -19,4 +16,5 @@ returns c = simp (c .before .uv-start .ensures)
 
 pub uv-end-spec : {M : Type 1} → statement M
 uv-end-spec =
-    tie.close (tie.spec uv-start-requires int-to-float-wide float-from-bits-result returns)
+    tie.close
+    (tie.spec (λ c κs. search needs) int-to-float-wide float-from-bits-result returns)

@@ -7,17 +7,11 @@ use borrow.Author.Needs.{needs}
 use Rattle.floats.proofs.uv_word.Statement.{statement}
 use Rattle.floats.proofs.uv_word.Tie as tie
 
-uv-end-requires : tie.Need-uv-end-requires
-uv-end-requires c κs = search needs
-
 float-to-bits-result : tie.Need-float-to-bits-result
 float-to-bits-result c =
     let a = c .before .before .args in
     let p = c .before .before .pre in
     rw (c .uv-end .ensures) (no-nan (end-number (a .tile) (a .atlas) (a .padding) (p .0) (p .1) (p .2) (p .3) (a .named)))
-
-uv-start-requires : tie.Need-uv-start-requires
-uv-start-requires c κs = search needs
 
 float-to-bits-result-2 : tie.Need-float-to-bits-result-2
 float-to-bits-result-2 c =
@@ -37,10 +31,4 @@ returns-2 c = simp (c .before .if1 .left, c .uv-start .ensures)
 pub uv-word-spec : {M : Type 1} → statement M
 uv-word-spec =
     tie.close
-    (tie.spec
-    uv-end-requires
-    float-to-bits-result
-    uv-start-requires
-    float-to-bits-result-2
-    returns
-    returns-2)
+    (tie.spec (λ c κs. search needs) float-to-bits-result (λ c κs. search needs) float-to-bits-result-2 returns returns-2)

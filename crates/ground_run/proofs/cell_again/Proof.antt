@@ -7,9 +7,6 @@ use Rattle.rules.proofs.Neighbours.{inside-of}
 use Rattle.ground_run.proofs.cell_again.Statement.{statement}
 use Rattle.ground_run.proofs.cell_again.Tie as tie
 
-three-d-cords-requires : tie.Need-three-d-cords-requires
-three-d-cords-requires c κs = search needs
-
 one-d-cords-requires : tie.Need-one-d-cords-requires
 one-d-cords-requires c κs =
     let t = c .before in
@@ -20,8 +17,7 @@ one-d-cords-requires c κs =
     let i = inside-of (sizeOf (t .args .dims)) (t .args .cell) (t .pre .0 .sides .wide) (t .pre .0 .sides .long) (t .pre .1) in
     (t .pre .0, omega arith, omega arith, omega arith)
 
-returns : tie.Need-returns
-returns c = search needs
-
 pub cell-again-spec : {M : Type 1} → statement M
-cell-again-spec = tie.close (tie.spec three-d-cords-requires one-d-cords-requires returns)
+cell-again-spec =
+    tie.close
+    (tie.spec (λ c κs. search needs) one-d-cords-requires (λ c. search needs))

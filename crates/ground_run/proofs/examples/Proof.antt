@@ -10,28 +10,13 @@ use borrow.Author.Needs.{needs}
 use Rattle.ground_run.proofs.examples.Statement.{statement}
 use Rattle.ground_run.proofs.examples.Tie as tie
 
-size-requires : tie.Need-size-requires
-size-requires c κs = search needs
-
-bad-limits-requires : tie.Need-bad-limits-requires
-bad-limits-requires c κs = search needs
-
 expect-requires : tie.Need-expect-requires
 unfolding badLimits
 expect-requires c κs = ap not (c .bad-limits .ensures ∙ ap badLimits (c .before .size .ensures))
 
-size-requires-2 : tie.Need-size-requires-2
-size-requires-2 c κs = search needs
-
-bad-limits-requires-2 : tie.Need-bad-limits-requires-2
-bad-limits-requires-2 c κs = search needs
-
 expect-requires-2 : tie.Need-expect-requires-2
 unfolding badLimits
 expect-requires-2 c κs = c .bad-limits2 .ensures ∙ ap badLimits (c .before .size2 .ensures)
-
-size-requires-3 : tie.Need-size-requires-3
-size-requires-3 c κs = search needs
 
 found-requires : tie.Need-found-requires
 unfolding badLimits
@@ -43,28 +28,11 @@ expect-requires-3 c κs =
     eq-eqb (c .found .result) 4
     (c .found .ensures ∙ ap (λ (s : Size). Option·getD (neighbour s 0 0) 4294967295) (c .before .size3 .ensures))
 
-link-requires : tie.Need-link-requires
-link-requires c κs = search needs
-
 expect-requires-4 : tie.Need-expect-requires-4
 expect-requires-4 c κs = eq-eqb (c .link .result) 2684354565 (c .link .ensures)
-
-returns : tie.Need-returns
-returns c = search needs
 
 pub examples-spec : {M : Type 1} → statement M
 examples-spec =
     tie.close
-    (tie.spec
-    size-requires
-    bad-limits-requires
-    expect-requires
-    size-requires-2
-    bad-limits-requires-2
-    expect-requires-2
-    size-requires-3
-    found-requires
-    expect-requires-3
-    link-requires
-    expect-requires-4
-    returns)
+    (tie.spec (λ c κs. search needs) (λ c κs. search needs) expect-requires (λ c κs. search needs) (λ c κs. search needs) expect-requires-2
+    (λ c κs. search needs) found-requires expect-requires-3 (λ c κs. search needs) expect-requires-4 (λ c. search needs))

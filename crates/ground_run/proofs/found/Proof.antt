@@ -9,15 +9,6 @@ use Rattle.ground_run.proofs.found.Tie as tie
 abbrev orNone : Option ℕ → ℕ
 orNone o = Option·getD o 4294967295
 
-get-neighbor-requires : tie.Need-get-neighbor-requires
-get-neighbor-requires c κs = search needs
-
-enum-known-neighbor : tie.Need-enum-known-neighbor
-enum-known-neighbor c = search needs
-
-enum-told : tie.Need-enum-told
-enum-told c = search needs
-
 returns : tie.Need-returns
 returns c = sym (ap orNone (sym (c .before .before .before .get-neighbor .ensures) ∙ ap cellIn (c .before .neighbor .given .1)))
 
@@ -25,4 +16,6 @@ returns-2 : tie.Need-returns-2
 returns-2 c = sym (ap orNone (sym (c .before .before .get-neighbor .ensures) ∙ ap cellIn (c .enum-told .given .1)))
 
 pub found-spec : {M : Type 1} → statement M
-found-spec = tie.close (tie.spec get-neighbor-requires enum-known-neighbor enum-told returns returns-2)
+found-spec =
+    tie.close
+    (tie.spec (λ c κs. search needs) (λ c. search needs) (λ c. search needs) returns returns-2)

@@ -5,15 +5,11 @@ use Rattle.ground_run.proofs.Grids.{grid}
 use Rattle.ground_run.proofs.is_cell.Statement.{statement}
 use Rattle.ground_run.proofs.is_cell.Tie as tie
 
-size-requires : tie.Need-size-requires
-size-requires c κs = search needs
-
 cell-again-requires : tie.Need-cell-again-requires
 unfolding badLimits
 cell-again-requires c κs = grid _ (c .size .ensures) refl (c .before .pre)
 
-returns : tie.Need-returns
-returns c = search needs
-
 pub is-cell-spec : {M : Type 1} → statement M
-is-cell-spec = tie.close (tie.spec size-requires cell-again-requires returns)
+is-cell-spec =
+    tie.close
+    (tie.spec (λ c κs. search needs) cell-again-requires (λ c. search needs))

@@ -5,15 +5,11 @@ use Rattle.ground_run.proofs.Grids.{grid}
 use Rattle.ground_run.proofs.is_neighbor.Statement.{statement}
 use Rattle.ground_run.proofs.is_neighbor.Tie as tie
 
-size-requires : tie.Need-size-requires
-size-requires c κs = search needs
-
 found-requires : tie.Need-found-requires
 unfolding badLimits
 found-requires c κs = grid _ (c .size .ensures) refl (c .before .pre)
 
-returns : tie.Need-returns
-returns c = search needs
-
 pub is-neighbor-spec : {M : Type 1} → statement M
-is-neighbor-spec = tie.close (tie.spec size-requires found-requires returns)
+is-neighbor-spec =
+    tie.close
+    (tie.spec (λ c κs. search needs) found-requires (λ c. search needs))

@@ -6,17 +6,10 @@ use Rattle.lines.proofs.Writing.{wrote-one}
 use Rattle.lines.proofs.write_byte.Statement.{statement}
 use Rattle.lines.proofs.write_byte.Tie as tie
 
-slice-write-out : tie.Need-slice-write-out
-slice-write-out c = search needs
-
-add-result : tie.Need-add-result
-add-result c = search needs
-
-same-length : tie.Need-same-length
-same-length c = search needs
-
 returns : tie.Need-returns
 returns c = wrote-one (c .args .at) (c .args .byte) (now (c .args .out)) (omega (arith, c .pre .fits))
 
 pub write-byte-spec : {M : Type 1} → statement M
-write-byte-spec = tie.close (tie.spec slice-write-out add-result same-length returns)
+write-byte-spec =
+    tie.close
+    (tie.spec (λ c. search needs) (λ c. search needs) (λ c. search needs) returns)

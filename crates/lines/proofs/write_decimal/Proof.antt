@@ -18,9 +18,6 @@ abbrev μ-loop : tie.MeasureT-loop
 inside : (c : tie.At-loop Inv-loop μ-loop) → c .loop .last < length (c .loop .out)
 inside c = last-inside _ _ _ (omega arith) (c .before .before .before .pre) (c .loop .inv)
 
-decimal-length-requires : tie.Need-decimal-length-requires Inv-loop μ-loop
-decimal-length-requires c κs = search needs
-
 add-end : tie.Need-add-end Inv-loop μ-loop
 add-end c = omega arith
 
@@ -31,9 +28,6 @@ loop-holds : tie.Need-loop-holds Inv-loop μ-loop
 loop-holds c =
     let a = c .before .before .args in
     rw (c .decimal-length .ensures) (shown-start (a .n) (a .at) (now (a .out)) (omega arith) (c .before .before .pre))
-
-digit-requires : tie.Need-digit-requires Inv-loop μ-loop
-digit-requires c κs = search needs
 
 slice-write-out : tie.Need-slice-write-out Inv-loop μ-loop
 slice-write-out c = inside (c .before .before)
@@ -46,9 +40,6 @@ loop-less c = omega arith
 
 loop-again : tie.Need-loop-again Inv-loop μ-loop
 loop-again c = shown-more _ _ _ (omega arith) (c .before .before .before .before .before .pre) (c .before .before .loop .inv) (c .before .loop-test .taken) (c .digit .ensures)
-
-digit-requires-2 : tie.Need-digit-requires-2 Inv-loop μ-loop
-digit-requires-2 c κs = search needs
 
 slice-write-out-2 : tie.Need-slice-write-out-2 Inv-loop μ-loop
 slice-write-out-2 c = inside (c .before .before)
@@ -68,19 +59,5 @@ returns c =
 pub write-decimal-spec : {M : Type 1} → statement M
 write-decimal-spec =
     tie.close
-    (tie.spec
-    Inv-loop
-    μ-loop
-    decimal-length-requires
-    add-end
-    sub-last
-    loop-holds
-    digit-requires
-    slice-write-out
-    sub-last-2
-    loop-less
-    loop-again
-    digit-requires-2
-    slice-write-out-2
-    same-length
-    returns)
+    (tie.spec Inv-loop μ-loop (λ c κs. search needs) add-end sub-last loop-holds (λ c κs. search needs) slice-write-out sub-last-2 loop-less
+    loop-again (λ c κs. search needs) slice-write-out-2 same-length returns)

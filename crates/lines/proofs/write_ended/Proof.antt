@@ -12,12 +12,10 @@ write-decimal-requires c κs = let s = c .before .before in room-first (decimal 
 write-byte-requires : tie.Need-write-byte-requires
 write-byte-requires c κs = let s = c .before .before .before .before .before .before in room-next (decimal (s .args .n)) (s .args .end ∷ []) (s .pre) (c .before .before .before .write-decimal .ensures)
 
-same-length : tie.Need-same-length
-same-length c = search needs
-
 returns : tie.Need-returns
 returns c = let s = c .before .before .before .before .before .before .before .before .before in wrote-then (decimal (s .args .n)) (s .args .end ∷ []) (s .pre) (c .before .before .before .before .before .before .write-decimal .ensures) (c .before .before .write-byte .ensures)
 
 pub write-ended-spec : {M : Type 1} → statement M
 write-ended-spec =
-    tie.close (tie.spec write-decimal-requires write-byte-requires same-length returns)
+    tie.close
+    (tie.spec write-decimal-requires write-byte-requires (λ c. search needs) returns)

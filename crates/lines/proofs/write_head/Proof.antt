@@ -5,23 +5,14 @@ use borrow.Author.Needs.{needs}
 use Rattle.lines.proofs.write_head.Statement.{statement}
 use Rattle.lines.proofs.write_head.Tie as tie
 
-slice-aggregate-write-named : tie.Need-slice-aggregate-write-named
-slice-aggregate-write-named c = search needs
-
 write-named-requires : tie.Need-write-named-requires
 write-named-requires c κs = let s = c .before .before .before in room-one (headPieces (s .args .quads) (s .args .moved)) (s .pre)
-
-slice-aggregate-write-named-2 : tie.Need-slice-aggregate-write-named-2
-slice-aggregate-write-named-2 c = search needs
 
 write-named-requires-2 : tie.Need-write-named-requires-2
 write-named-requires-2 c κs = let s = c .before .before .before .before .before .before .before .before in room-two (headPieces (s .args .quads) (s .args .moved)) (s .pre) (c .before .before .before .before .write-named .ensures)
 
 write-byte-requires : tie.Need-write-byte-requires
 write-byte-requires c κs = let s = c .before .before .before .before .before .before .before .before .before .before .before .before in room-three (headPieces (s .args .quads) (s .args .moved)) (s .pre) (c .before .before .before .before .before .before .before .before .write-named .ensures) (c .before .before .before .write-named2 .ensures)
-
-same-length : tie.Need-same-length
-same-length c = search needs
 
 returns : tie.Need-returns
 returns c =
@@ -32,11 +23,4 @@ returns c =
 pub write-head-spec : {M : Type 1} → statement M
 write-head-spec =
     tie.close
-    (tie.spec
-    slice-aggregate-write-named
-    write-named-requires
-    slice-aggregate-write-named-2
-    write-named-requires-2
-    write-byte-requires
-    same-length
-    returns)
+    (tie.spec (λ c. search needs) write-named-requires (λ c. search needs) write-named-requires-2 write-byte-requires (λ c. search needs) returns)

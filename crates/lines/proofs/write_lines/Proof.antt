@@ -11,13 +11,11 @@ write-head-requires c κs = let s = c .before .before .before in head-room (s .a
 write-quads-requires : tie.Need-write-quads-requires
 write-quads-requires c κs = let s = c .before .before .before .before .before .before .before in (s .pre .0, quads-room (s .args .quads) (s .args .moved) (now (s .args .links)) (s .pre .1) (c .before .before .before .write-head .ensures))
 
-same-length : tie.Need-same-length
-same-length c = search needs
-
 returns : tie.Need-returns
 returns c =
     let s = c .before .before .before .before .before .before .before .before .before .before in lines-written (s .args .quads) (s .args .moved) (now (s .args .links)) (s .pre .1) (c .before .before .before .before .before .before .write-head .ensures) (c .before .before .write-quads .ensures)
 
 pub write-lines-spec : {M : Type 1} → statement M
 write-lines-spec =
-    tie.close (tie.spec write-head-requires write-quads-requires same-length returns)
+    tie.close
+    (tie.spec write-head-requires write-quads-requires (λ c. search needs) returns)

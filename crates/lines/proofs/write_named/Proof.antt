@@ -12,12 +12,10 @@ write-text-requires c κs = let s = c .before .before .before in room-first (now
 write-decimal-requires : tie.Need-write-decimal-requires
 write-decimal-requires c κs = let s = c .before .before .before .before .before .before .before in room-next (now (s .args .name)) (decimal (s .args .n)) (s .pre) (c .before .before .before .write-text .ensures)
 
-same-length : tie.Need-same-length
-same-length c = search needs
-
 returns : tie.Need-returns
 returns c = let s = c .before .before .before .before .before .before .before .before .before .before in wrote-then (now (s .args .name)) (decimal (s .args .n)) (s .pre) (c .before .before .before .before .before .before .write-text .ensures) (c .before .before .write-decimal .ensures)
 
 pub write-named-spec : {M : Type 1} → statement M
 write-named-spec =
-    tie.close (tie.spec write-text-requires write-decimal-requires same-length returns)
+    tie.close
+    (tie.spec write-text-requires write-decimal-requires (λ c. search needs) returns)

@@ -15,9 +15,6 @@ write-ended-requires-3 : tie.Need-write-ended-requires-3
 write-ended-requires-3 c κs =
     let s = c .before .before .before .before .before .before .before .before .before .before in room-three (quadPieces (s .args .number) (s .args .cell) (s .args .face)) (s .pre) (c .before .before .before .before .before .before .before .write-ended .ensures) (c .before .before .before .write-ended2 .ensures)
 
-same-length : tie.Need-same-length
-same-length c = search needs
-
 returns : tie.Need-returns
 returns c =
     let s = c .before .before .before .before .before .before .before .before .before .before .before .before .before in
@@ -27,9 +24,4 @@ returns c =
 pub write-quad-spec : {M : Type 1} → statement M
 write-quad-spec =
     tie.close
-    (tie.spec
-    write-ended-requires
-    write-ended-requires-2
-    write-ended-requires-3
-    same-length
-    returns)
+    (tie.spec write-ended-requires write-ended-requires-2 write-ended-requires-3 (λ c. search needs) returns)

@@ -17,9 +17,6 @@ abbrev μ-loop : tie.MeasureT-loop
 loop-holds : tie.Need-loop-holds Inv-loop μ-loop
 loop-holds c = begun-none _ _ _ (c .before .before .pre .1)
 
-mul-write-link : tie.Need-mul-write-link Inv-loop μ-loop
-mul-write-link c = search needs
-
 shared-slice-read-write-link : tie.Need-shared-slice-read-write-link Inv-loop μ-loop
 shared-slice-read-write-link c = omega arith
 
@@ -49,15 +46,5 @@ returns c = begun-all (c .before .loop .inv) (omega arith)
 pub write-quads-spec : {M : Type 1} → statement M
 write-quads-spec =
     tie.close
-    (tie.spec
-    Inv-loop
-    μ-loop
-    loop-holds
-    mul-write-link
-    shared-slice-read-write-link
-    write-link-requires
-    add-i
-    loop-less
-    loop-again
-    same-length
+    (tie.spec Inv-loop μ-loop loop-holds (λ c. search needs) shared-slice-read-write-link write-link-requires add-i loop-less loop-again same-length
     returns)

@@ -34,9 +34,6 @@ size s = sizeOf (s .args .dims)
 abbrev sets : tie.Start Inv-loop μ-loop → ℕ → ℕ
 sets s = setAt (s .args .culling) (worldOf (size s) (now (s .args .kinds)) (now (s .args .covers))) (facesOf (s .args .look .outer)) (now (s .args .grid))
 
-cast-width : tie.Need-cast-width Inv-loop μ-loop
-cast-width c = search needs
-
 cell-count-requires : tie.Need-cell-count-requires Inv-loop μ-loop
 cell-count-requires c κs = start (c .before) .pre .0 .grid .within .sides
 
@@ -92,9 +89,6 @@ counted c =
     let s = given i in
     c .quads-in .ensures ∙ asked-row (sets s) (i .before .before .loop .row .first) (s .args .dims .width) (r .side-row .last .0) (long-enough r) (r .side-row .ensures)
 
-cast-n : tie.Need-cast-n Inv-loop μ-loop
-cast-n c = search needs
-
 add-n : tie.Need-add-n Inv-loop μ-loop
 add-n c =
     let i = c .before .before .before .before .before .before in
@@ -134,20 +128,5 @@ returns c =
 pub count-quads-spec : {M : Type 1} → statement M
 count-quads-spec =
     tie.close
-    (tie.spec
-    Inv-loop
-    μ-loop
-    cast-width
-    cell-count-requires
-    loop-holds
-    side-row-requires
-    slice-reshare-prefix-quads-in
-    slice-aggregate-quads-in
-    quads-in-requires
-    cast-n
-    add-n
-    next-requires
-    loop-less
-    loop-again
-    same-length
-    returns)
+    (tie.spec Inv-loop μ-loop (λ c. search needs) cell-count-requires loop-holds side-row-requires slice-reshare-prefix-quads-in
+    slice-aggregate-quads-in quads-in-requires (λ c. search needs) add-n next-requires loop-less loop-again same-length returns)

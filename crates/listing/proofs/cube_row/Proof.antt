@@ -24,9 +24,6 @@ Inv-loop sets₀ grid kinds first width at x₀ sets x = (x ≤ width) × Passed
 abbrev μ-loop : tie.MeasureT-loop
 μ-loop sets₀ grid kinds first width at x₀ sets x = width - x
 
-cast-width : tie.Need-cast-width Inv-loop μ-loop
-cast-width c = search needs
-
 loop-holds : tie.Need-loop-holds Inv-loop μ-loop
 loop-holds c = (omega arith, passed _ _)
 
@@ -39,14 +36,8 @@ inside c = let pre = c .before .before .before .before .before .before .pre in o
 shared-slice-read-wide : tie.Need-shared-slice-read-wide Inv-loop μ-loop
 shared-slice-read-wide c = inside (c .before)
 
-wide-requires : tie.Need-wide-requires Inv-loop μ-loop
-wide-requires c κs = search needs
-
 shared-slice-read-bit-if : tie.Need-shared-slice-read-bit-if Inv-loop μ-loop
 shared-slice-read-bit-if c = omega (arith, c .before .wide .ensures, c .before .before .before .before .before .before .before .before .before .pre .0 .typed _ (inside (c .before .before .before)))
-
-bit-if-requires : tie.Need-bit-if-requires Inv-loop μ-loop
-bit-if-requires c κs = search needs
 
 slice-write-sets : tie.Need-slice-write-sets Inv-loop μ-loop
 slice-write-sets c = omega (arith, c .before .before .before .before .loop-test .taken, c .before .before .before .before .before .loop .inv .1 .long, c .before .before .before .before .before .before .before .before .before .before .pre .2)
@@ -77,19 +68,5 @@ returns c =
 pub cube-row-spec : {M : Type 1} → statement M
 cube-row-spec =
     tie.close
-    (tie.spec
-    Inv-loop
-    μ-loop
-    cast-width
-    loop-holds
-    add-wide
-    shared-slice-read-wide
-    wide-requires
-    shared-slice-read-bit-if
-    bit-if-requires
-    slice-write-sets
-    add-x
-    loop-less
-    loop-again
-    same-length
-    returns)
+    (tie.spec Inv-loop μ-loop (λ c. search needs) loop-holds add-wide shared-slice-read-wide (λ c κs. search needs) shared-slice-read-bit-if
+    (λ c κs. search needs) slice-write-sets add-x loop-less loop-again same-length returns)

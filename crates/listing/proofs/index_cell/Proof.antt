@@ -1,9 +1,7 @@
 -- `listing::index_cell` meets its contract: before each turn, the faces below the lowest that is left are entered. Assumes nothing.
-use mathlib.Core.Path.{_≡_, refl, sym, ap, _∙_}
-use mathlib.Core.List.{List}
-use Prim.Native.Nat.{ℕ, _+_, _-_, _*_, _≤_, _<_}
+use mathlib.Core.Path.{_≡_, refl, ap, _∙_}
+use Prim.Native.Nat.{ℕ, _+_, _-_, _≤_, _<_}
 use native.Mathlib.Omega.{arith}
-use denote.Ref.{now}
 use lib.Bits.{and-le-r}
 use lib.Count.{trailingZeros}
 use lib.ListN.{length, set}

@@ -1,5 +1,5 @@
 -- `listing::index_row` meets its contract: before cell x, the faces of the cells before it are entered. Assumes nothing.
-use mathlib.Core.Path.{_≡_, refl}
+use mathlib.Core.Path.{_≡_}
 use Prim.Native.Nat.{_-_, _≤_}
 use native.Mathlib.Omega.{arith}
 use denote.Ref.{now}

@@ -62,9 +62,6 @@ counted c =
     c .quads-in-few .ensures
     ∙ asked-row (setsFrom 0 list) x (t .result - x) (drop x list) (part-long list x (t .result) (t .ensures .2)) (λ k h. getD-drop x list k 0 ∙ ap (λ (i : ℕ). getD list i 0) (omega arith))
 
-cast-n : tie.Need-cast-n Inv-loop μ-loop
-cast-n c = search needs
-
 add-n : tie.Need-add-n Inv-loop μ-loop
 add-n c =
     let s = c .before .before .before .before .before .before in
@@ -93,17 +90,5 @@ returns c =
 pub quads-in-spec : {M : Type 1} → statement M
 quads-in-spec =
     tie.close
-    (tie.spec
-    Inv-loop
-    μ-loop
-    loop-holds
-    few-to-requires
-    sub-quads-in-few
-    part-quads-in-few-start
-    part-quads-in-few-end
-    quads-in-few-requires
-    cast-n
-    add-n
-    loop-less
-    loop-again
-    returns)
+    (tie.spec Inv-loop μ-loop loop-holds few-to-requires sub-quads-in-few part-quads-in-few-start part-quads-in-few-end quads-in-few-requires
+    (λ c. search needs) add-n loop-less loop-again returns)

@@ -22,9 +22,6 @@ loop-holds : tie.Need-loop-holds Inv-loop μ-loop
 unfolding asked
 loop-holds c = (omega arith, refl)
 
-shared-slice-read-quads-of : tie.Need-shared-slice-read-quads-of Inv-loop μ-loop
-shared-slice-read-quads-of c = search needs
-
 quads-of-requires : tie.Need-quads-of-requires Inv-loop μ-loop
 quads-of-requires c κs = c .before .before .before .before .pre .1 _ (c .before .loop-test .taken)
 
@@ -62,15 +59,4 @@ returns c =
 pub quads-in-few-spec : {M : Type 1} → statement M
 quads-in-few-spec =
     tie.close
-    (tie.spec
-    Inv-loop
-    μ-loop
-    loop-holds
-    shared-slice-read-quads-of
-    quads-of-requires
-    cast-n
-    add-n
-    add-x
-    loop-less
-    loop-again
-    returns)
+    (tie.spec Inv-loop μ-loop loop-holds (λ c. search needs) quads-of-requires cast-n add-n add-x loop-less loop-again returns)

@@ -12,9 +12,6 @@ use Rattle.listing.proofs.side_row.Tie as tie
 drawn-row-requires : tie.Need-drawn-row-requires
 drawn-row-requires c κs = c .before .before .before .before .before .before .before .pre
 
-same-length : tie.Need-same-length
-same-length c = search needs
-
 returns : tie.Need-returns
 unfolding setAt
 returns c x h =
@@ -32,13 +29,12 @@ cube-row-requires c κs =
       s .pre .2,
     )
 
-same-length-2 : tie.Need-same-length-2
-same-length-2 c = search needs
-
 returns-2 : tie.Need-returns-2
 returns-2 c x h =
     let s = c .before .before .before .before .before .before .before .before .before .before in
     rw (c .before .before .before .before .if1 .left) (c .before .before .cube-row .ensures (now (s .args .covers)) (facesOf (s .args .look .outer)) x h)
 
 pub side-row-spec : {M : Type 1} → statement M
-side-row-spec = tie.close (tie.spec drawn-row-requires same-length returns cube-row-requires same-length-2 returns-2)
+side-row-spec =
+    tie.close
+    (tie.spec drawn-row-requires (λ c. search needs) returns cube-row-requires (λ c. search needs) returns-2)

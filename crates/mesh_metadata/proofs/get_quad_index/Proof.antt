@@ -9,18 +9,6 @@ use borrow.Author.Needs.{needs}
 use Rattle.mesh_metadata.proofs.get_quad_index.Statement.{statement}
 use Rattle.mesh_metadata.proofs.get_quad_index.Tie as tie
 
-key-requires : tie.Need-key-requires
-key-requires c κs = search needs
-
-wide-requires : tie.Need-wide-requires
-wide-requires c κs = search needs
-
-mul-vertex : tie.Need-mul-vertex
-mul-vertex c = search needs
-
-shared-slice-read-vertex : tie.Need-shared-slice-read-vertex
-shared-slice-read-vertex c = search needs
-
 returns : tie.Need-returns
 returns c =
     let t = c .before .before .before .before .before in
@@ -39,4 +27,4 @@ returns-2 c =
 pub get-quad-index-spec : {M : Type 1} → statement M
 get-quad-index-spec =
     tie.close
-    (tie.spec key-requires wide-requires mul-vertex shared-slice-read-vertex returns returns-2)
+    (tie.spec (λ c κs. search needs) (λ c κs. search needs) (λ c. search needs) (λ c. search needs) returns returns-2)

@@ -20,26 +20,11 @@ Inv-loop slots₀ links q count from i₀ slots i =
 abbrev μ-loop : tie.MeasureT-loop
 μ-loop slots₀ links q count from i₀ slots i = count - i
 
-source-requires : tie.Need-source-requires Inv-loop μ-loop
-source-requires c κs = search needs
-
 loop-holds : tie.Need-loop-holds Inv-loop μ-loop
 loop-holds c =
     let t = c .before .before .before in
     let b = source-bounds (t .args .q) (t .args .count) (t .pre .0) in
     (omega arith, omega arith, omega arith, none-shifted (t .args .q) (c .source .result) (t .args .slots .now), refl)
-
-cast-t11 : tie.Need-cast-t11 Inv-loop μ-loop
-cast-t11 c = search needs
-
-sub-t13 : tie.Need-sub-t13 Inv-loop μ-loop
-sub-t13 c = search needs
-
-sub-t14 : tie.Need-sub-t14 Inv-loop μ-loop
-sub-t14 c = search needs
-
-cast-t15 : tie.Need-cast-t15 Inv-loop μ-loop
-cast-t15 c = search needs
 
 change-quad-index-requires : tie.Need-change-quad-index-requires Inv-loop μ-loop
 change-quad-index-requires c κs =
@@ -50,12 +35,6 @@ change-quad-index-requires c κs =
     let r = k .room in
     let m = k .slot (l .i) (omega arith) in
     (omega arith, k .code (l .i) (omega arith), omega arith, omega arith)
-
-add-i : tie.Need-add-i Inv-loop μ-loop
-add-i c = search needs
-
-loop-less : tie.Need-loop-less Inv-loop μ-loop
-loop-less c = search needs
 
 loop-again : tie.Need-loop-again Inv-loop μ-loop
 loop-again c =
@@ -73,9 +52,6 @@ loop-again c =
       h .kept .0 ∙ l .inv .4,
     )
 
-cast-t20 : tie.Need-cast-t20 Inv-loop μ-loop
-cast-t20 c = search needs
-
 remove-quad-requires : tie.Need-remove-quad-requires Inv-loop μ-loop
 remove-quad-requires c κs =
     let t = c .before .before .before .before .before .before in
@@ -84,9 +60,6 @@ remove-quad-requires c κs =
     let r = k .room in
     let m = k .slot (t .args .q) (t .pre .0) in
     (omega arith, k .code (t .args .q) (t .pre .0), omega arith)
-
-same-length : tie.Need-same-length Inv-loop μ-loop
-same-length c = search needs
 
 returns : tie.Need-returns Inv-loop μ-loop
 returns c =
@@ -103,20 +76,5 @@ returns c =
 pub renumber-spec : {M : Type 1} → statement M
 renumber-spec =
     tie.close
-    (tie.spec
-    Inv-loop
-    μ-loop
-    source-requires
-    loop-holds
-    cast-t11
-    sub-t13
-    sub-t14
-    cast-t15
-    change-quad-index-requires
-    add-i
-    loop-less
-    loop-again
-    cast-t20
-    remove-quad-requires
-    same-length
-    returns)
+    (tie.spec Inv-loop μ-loop (λ c κs. search needs) loop-holds (λ c. search needs) (λ c. search needs) (λ c. search needs) (λ c. search needs)
+    change-quad-index-requires (λ c. search needs) (λ c. search needs) loop-again (λ c. search needs) remove-quad-requires (λ c. search needs) returns)

@@ -143,12 +143,6 @@ module _ (l : tie.Else1 Inv-loop μ-loop) (c : ℕ) (h : c ≤ cells (scene (beg
   links-room : let s = begin (counted l) in asked (sets (counted l)) 0 c ≤ length (now (s .args .links))
   links-room = let s = begin (counted l) in room-for (scene s) (lists s) (asked (sets (counted l)) 0 c) (omega (arith, below, fits l)) .links
 
-input-verdict-requires : tie.Need-input-verdict-requires Inv-loop μ-loop
-input-verdict-requires c κs = search needs
-
-enum-known-told : tie.Need-enum-known-told Inv-loop μ-loop
-enum-known-told c = search needs
-
 returns : tie.Need-returns Inv-loop μ-loop
 returns c =
     let v = c .before .before .before in
@@ -156,38 +150,20 @@ returns c =
     sym (refusing (scene s) (now (s .args .outer)) (now (s .args .grid)) (isCulling (s .args .algorithm)) (lists s)
     (sym (v .input-verdict .ensures (lists s) refl) ∙ ap verdictOf (c .before .told .given .1)))
 
-enum-told : tie.Need-enum-told Inv-loop μ-loop
-enum-told c = search needs
-
-is-culling-requires : tie.Need-is-culling-requires Inv-loop μ-loop
-is-culling-requires c κs = search needs
-
 outer-set-requires : tie.Need-outer-set-requires Inv-loop μ-loop
 outer-set-requires c κs = known (c .before .before) .face
 
 look-of-requires : tie.Need-look-of-requires Inv-loop μ-loop
 look-of-requires c κs = let k = known (c .before .before .before) in (k .typed .covered, k .typed .counted .few)
 
-slice-aggregate-sides-along : tie.Need-slice-aggregate-sides-along Inv-loop μ-loop
-slice-aggregate-sides-along c = search needs
-
 sides-along-requires : tie.Need-sides-along-requires Inv-loop μ-loop
 sides-along-requires c κs = let w = known (typed (c .before)) .within .sides .widest in (w, w)
-
-slice-aggregate-count-quads : tie.Need-slice-aggregate-count-quads Inv-loop μ-loop
-slice-aggregate-count-quads c = search needs
-
-slice-aggregate-count-quads-2 : tie.Need-slice-aggregate-count-quads-2 Inv-loop μ-loop
-slice-aggregate-count-quads-2 c = search needs
 
 count-quads-requires : tie.Need-count-quads-requires Inv-loop μ-loop
 count-quads-requires c κs =
     let f = c .before .before .before .before .before in
     let k = known (typed f) in
     (rows-known f, k .within .sides .widest, c .before .before .before .sides-along .ensures)
-
-room-of-requires : tie.Need-room-of-requires Inv-loop μ-loop
-room-of-requires c κs = search needs
 
 returns-2 : tie.Need-returns-2 Inv-loop μ-loop
 returns-2 c =
@@ -197,17 +173,8 @@ returns-2 c =
     sym (no-room (scene s) (now (s .args .outer)) (now (s .args .grid)) (isCulling (s .args .algorithm)) (lists s) (passed (typed (counting q)))
     (omega (arith, c .if1 .taken, room-is r, quads-are q)))
 
-cast-width : tie.Need-cast-width Inv-loop μ-loop
-cast-width c = search needs
-
 cell-count-requires : tie.Need-cell-count-requires Inv-loop μ-loop
 cell-count-requires c κs = known (typed (counting (counted (c .before)))) .within .sides
-
-cast-six : tie.Need-cast-six Inv-loop μ-loop
-cast-six c = search needs
-
-mul-six : tie.Need-mul-six Inv-loop μ-loop
-mul-six c = search needs
 
 -- the faces have their slots
 slots-end : (c : tie.After-cell-count Inv-loop μ-loop) → 6 * c .cell-count .result ≤ length (now (begin (counted (c .before .before)) .args .slots))
@@ -219,18 +186,12 @@ slice-relend-prefix-new c = slots-end c
 slice-aggregate-new : tie.Need-slice-aggregate-new Inv-loop μ-loop
 slice-aggregate-new c = sym (length-take-le _ (now (begin (counted (c .before .before .before)) .args .slots)) (slots-end (c .before)))
 
-new-requires : tie.Need-new-requires Inv-loop μ-loop
-new-requires c κs = search needs
-
 write-patterns-requires : tie.Need-write-patterns-requires Inv-loop μ-loop
 write-patterns-requires c κs =
     let l = c .before .before .before .before .before .before .before in
     let q = counted l in
     let s = begin q in
     (room-for (scene s) (lists s) (q .count-quads .result) (fits l) .triangles, omega (arith, few-quads q))
-
-ranks-requires : tie.Need-ranks-requires Inv-loop μ-loop
-ranks-requires c κs = search needs
 
 loop-holds : tie.Need-loop-holds Inv-loop μ-loop
 loop-holds c =
@@ -257,9 +218,6 @@ ends i = let q = done-with i in row-end (scene (begin q) .size) (known (typed (c
 
 slice-aggregate-side-row : tie.Need-slice-aggregate-side-row Inv-loop μ-loop
 slice-aggregate-side-row c = sym (c .before .before .before .loop .inv .3)
-
-slice-aggregate-side-row-2 : tie.Need-slice-aggregate-side-row-2 Inv-loop μ-loop
-slice-aggregate-side-row-2 c = search needs
 
 side-row-requires : tie.Need-side-row-requires Inv-loop μ-loop
 side-row-requires c κs =
@@ -438,9 +396,6 @@ same-length c =
     let l = c .before .before .loop in
     kept-vertices _ _ _ _ _ _ (l .inv .2) (vertices-room (c .before .before .before .before .before .before .before .before .before .before .before .before .before .before) (l .row .first) (l .inv .0))
 
-same-length-2 : tie.Need-same-length-2 Inv-loop μ-loop
-same-length-2 c = search needs
-
 same-length-3 : tie.Need-same-length-3 Inv-loop μ-loop
 same-length-3 c =
     let l = c .before .before .loop in
@@ -469,49 +424,15 @@ returns-3 c =
 pub mesh-grid-spec : {M : Type 1} → statement M
 mesh-grid-spec =
     tie.close
-    (tie.spec
-    Inv-loop
-    μ-loop
-    input-verdict-requires
-    enum-known-told
-    returns
-    enum-told
-    is-culling-requires
-    outer-set-requires
-    look-of-requires
-    slice-aggregate-sides-along
-    sides-along-requires
-    slice-aggregate-count-quads
-    slice-aggregate-count-quads-2
-    count-quads-requires
-    room-of-requires
-    returns-2
-    cast-width
-    cell-count-requires
-    cast-six
-    mul-six
-    slice-relend-prefix-new
-    slice-aggregate-new
-    new-requires
-    write-patterns-requires
-    ranks-requires
-    loop-holds
-    slice-aggregate-side-row
-    slice-aggregate-side-row-2
-    side-row-requires
+    (tie.spec Inv-loop μ-loop (λ c κs. search needs) (λ c. search needs) returns (λ c. search needs) (λ c κs. search needs) outer-set-requires
+    look-of-requires (λ c. search needs) sides-along-requires (λ c. search needs) (λ c. search needs) count-quads-requires (λ c κs. search needs)
+    returns-2 (λ c. search needs) cell-count-requires (λ c. search needs) (λ c. search needs) slice-relend-prefix-new slice-aggregate-new
+    (λ c κs. search needs) write-patterns-requires (λ c κs. search needs) loop-holds slice-aggregate-side-row (λ c. search needs) side-row-requires
     (λ c. sym (c .before .before .before .before .before .before .before .before .before .loop .inv .4))
     (λ c. long-enough (c .before .before .before .before .before))
     (λ c. let r = c .before .before .before .before .before .before in sym (length-take-le _ (r .side-row .last .0) (long-enough r)))
-    index-row-requires
-    (λ c. within-list (c .before .before .before .before .before .before))
-    (λ c. sym (length-listed (c .before .before .before .before .before .before .before)))
-    vertex-row-requires
+    index-row-requires (λ c. within-list (c .before .before .before .before .before .before))
+    (λ c. sym (length-listed (c .before .before .before .before .before .before .before))) vertex-row-requires
     (λ c. let k = c .before .before .before .before .before .before .before .before .before .before in omega (arith, result-is k, few-after (told k)))
     (λ c κs. let i = turn (told (c .before .before .before .before .before .before .before .before .before .before)) in (known (typed (counting (done-with i))) .within, row i))
-    loop-less
-    loop-again
-    same-length
-    same-length-2
-    same-length-3
-    same-length-4
-    returns-3)
+    loop-less loop-again same-length (λ c. search needs) same-length-3 same-length-4 returns-3)

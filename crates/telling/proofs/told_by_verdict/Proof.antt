@@ -3,21 +3,6 @@ use borrow.Author.Needs.{needs}
 use Rattle.telling.proofs.told_by_verdict.Statement.{statement}
 use Rattle.telling.proofs.told_by_verdict.Tie as tie
 
-enum-told : tie.Need-enum-told
-enum-told c = search needs
-
-done-requires : tie.Need-done-requires
-done-requires c κs = search needs
-
-enum-known-verdict : tie.Need-enum-known-verdict
-enum-known-verdict c = search needs
-
-number-requires : tie.Need-number-requires
-number-requires c κs = search needs
-
-refused-requires : tie.Need-refused-requires
-refused-requires c κs = search needs
-
 returns : tie.Need-returns
 returns c = rw (c .before .enum-told .given .1) (c .done .ensures)
 
@@ -27,11 +12,4 @@ returns-2 c = rw (c .before .before .before .verdict .given .1, ← c .before .n
 pub told-by-verdict-spec : {M : Type 1} → statement M
 told-by-verdict-spec =
     tie.close
-    (tie.spec
-    enum-told
-    done-requires
-    enum-known-verdict
-    number-requires
-    refused-requires
-    returns
-    returns-2)
+    (tie.spec (λ c. search needs) (λ c κs. search needs) (λ c. search needs) (λ c κs. search needs) (λ c κs. search needs) returns returns-2)

@@ -5,18 +5,6 @@ use borrow.Author.Needs.{needs}
 use Rattle.types.proofs.class_at.Statement.{statement}
 use Rattle.types.proofs.class_at.Tie as tie
 
-along-requires : tie.Need-along-requires
-along-requires c κs = search needs
-
-position-of-requires : tie.Need-position-of-requires
-position-of-requires c κs = search needs
-
-position-of-requires-2 : tie.Need-position-of-requires-2
-position-of-requires-2 c κs = search needs
-
-position-of-requires-3 : tie.Need-position-of-requires-3
-position-of-requires-3 c κs = search needs
-
 class-on-requires : tie.Need-class-on-requires
 class-on-requires c κs =
     let start = c .before .before .before .before .before in
@@ -40,10 +28,4 @@ returns c = simp (
 pub class-at-spec : {M : Type 1} → statement M
 class-at-spec =
     tie.close
-    (tie.spec
-    along-requires
-    position-of-requires
-    position-of-requires-2
-    position-of-requires-3
-    class-on-requires
-    returns)
+    (tie.spec (λ c κs. search needs) (λ c κs. search needs) (λ c κs. search needs) (λ c κs. search needs) class-on-requires returns)

@@ -16,9 +16,6 @@ returns : tie.Need-returns
 unfolding badCounts
 returns c = simp (c .if1 .taken)
 
-floats-of-requires : tie.Need-floats-of-requires
-floats-of-requires c κs = search needs
-
 mul-result : tie.Need-mul-result
 mul-result c = omega (arith, c .floats-of .ensures, few (c .before .before .before .before .before .args .coloured))
 
@@ -36,4 +33,5 @@ returns-2 c = simp (c .before .if1 .left, c .floats-of .ensures)
 
 pub has-bad-counts-spec : {M : Type 1} → statement M
 has-bad-counts-spec =
-    tie.close (tie.spec returns floats-of-requires mul-result mul-result-2 returns-2)
+    tie.close
+    (tie.spec returns (λ c κs. search needs) mul-result mul-result-2 returns-2)

@@ -29,9 +29,6 @@ all-placed : (c : tie.Else1 Inv-loop μ-loop) →
     (k / 3) (k % 3))) ≡ true
 all-placed c = sym (c .before .is-placed .ensures) ∙ not-false _ (c .if1 .left)
 
-is-placed-requires : tie.Need-is-placed-requires Inv-loop μ-loop
-is-placed-requires c κs = search needs
-
 returns : tie.Need-returns Inv-loop μ-loop
 unfolding isCube
 returns c = simp (← c .before .is-placed .ensures, not-true (c .before .is-placed .result) (c .if1 .taken))
@@ -64,15 +61,5 @@ returns-2 c = let e : c .before .loop .face ≡ 6 = omega arith in rw (all-place
 pub is-cube-spec : {M : Type 1} → statement M
 is-cube-spec =
     tie.close
-    (tie.spec
-    Inv-loop
-    μ-loop
-    is-placed-requires
-    returns
-    (λ c κs. search needs)
-    loop-holds
-    is-classed-requires
-    add-face
-    loop-less
-    loop-again
+    (tie.spec Inv-loop μ-loop (λ c κs. search needs) returns (λ c κs. search needs) loop-holds is-classed-requires add-face loop-less loop-again
     returns-2)

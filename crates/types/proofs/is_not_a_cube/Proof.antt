@@ -26,15 +26,9 @@ within c =
     let start = c .before .before .before .before .before in
     rw (c .floats-of .ensures, start .pre .0 .whole) (row-within _ _ _ (start .pre .2))
 
-shared-slice-read-if1 : tie.Need-shared-slice-read-if1
-shared-slice-read-if1 c = search needs
-
 returns : tie.Need-returns
 unfolding notACube
 returns c = λ covers. simp (ne-eqb _ _ (c .if1 .taken))
-
-floats-of-requires : tie.Need-floats-of-requires
-floats-of-requires c κs = search needs
 
 mul-span : tie.Need-mul-span
 mul-span c = omega (arith, words c)
@@ -47,12 +41,6 @@ add-end c = omega (arith, words c, within c)
 
 mul-is-cube : tie.Need-mul-is-cube
 mul-is-cube c = omega (arith, within c)
-
-sub-is-cube : tie.Need-sub-is-cube
-sub-is-cube c = search needs
-
-part-is-cube-start : tie.Need-part-is-cube-start
-part-is-cube-start c = search needs
 
 part-is-cube-end : tie.Need-part-is-cube-end
 part-is-cube-end c = omega (arith, within c)
@@ -81,16 +69,5 @@ returns-2 c =
 pub is-not-a-cube-spec : {M : Type 1} → statement M
 is-not-a-cube-spec =
     tie.close
-    (tie.spec
-    shared-slice-read-if1
-    returns
-    floats-of-requires
-    mul-span
-    mul-start
-    add-end
-    mul-is-cube
-    sub-is-cube
-    part-is-cube-start
-    part-is-cube-end
-    is-cube-requires
-    returns-2)
+    (tie.spec (λ c. search needs) returns (λ c κs. search needs) mul-span mul-start add-end mul-is-cube (λ c. search needs) (λ c. search needs)
+    part-is-cube-end is-cube-requires returns-2)

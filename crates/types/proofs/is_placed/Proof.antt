@@ -20,12 +20,6 @@ loop-holds : tie.Need-loop-holds Inv-loop μ-loop
 unfolding every
 loop-holds c = (omega arith, refl)
 
-position-of-requires : tie.Need-position-of-requires Inv-loop μ-loop
-position-of-requires c κs = search needs
-
-is-finite-bits-requires : tie.Need-is-finite-bits-requires Inv-loop μ-loop
-is-finite-bits-requires c κs = search needs
-
 add-k : tie.Need-add-k Inv-loop μ-loop
 add-k c = omega arith
 
@@ -50,13 +44,4 @@ returns c = let e : c .before .loop .k ≡ 72 = omega arith in rw e at (c .befor
 pub is-placed-spec : {M : Type 1} → statement M
 is-placed-spec =
     tie.close
-    (tie.spec
-    Inv-loop
-    μ-loop
-    loop-holds
-    position-of-requires
-    is-finite-bits-requires
-    add-k
-    loop-less
-    loop-again
-    returns)
+    (tie.spec Inv-loop μ-loop loop-holds (λ c κs. search needs) (λ c κs. search needs) add-k loop-less loop-again returns)

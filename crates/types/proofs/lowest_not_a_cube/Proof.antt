@@ -23,9 +23,6 @@ abbrev μ-loop : tie.MeasureT-loop
 loop-holds : tie.Need-loop-holds Inv-loop μ-loop
 loop-holds c = (omega arith, λ covers. searched _ _)
 
-is-not-a-cube-requires : tie.Need-is-not-a-cube-requires Inv-loop μ-loop
-is-not-a-cube-requires c κs = search needs
-
 returns : tie.Need-returns Inv-loop μ-loop
 returns c = λ covers. found _ _ _ (c .before .before .loop-test .taken) (c .before .before .before .loop .inv .1 covers)
     (sym (c .before .is-not-a-cube .ensures covers) ∙ c .if1 .taken)
@@ -49,13 +46,4 @@ returns-2 c = λ covers. ended _ _ _ (c .loop-test .left) (c .before .loop .inv 
 pub lowest-not-a-cube-spec : {M : Type 1} → statement M
 lowest-not-a-cube-spec =
     tie.close
-    (tie.spec
-    Inv-loop
-    μ-loop
-    loop-holds
-    is-not-a-cube-requires
-    returns
-    add-t
-    loop-less
-    loop-again
-    returns-2)
+    (tie.spec Inv-loop μ-loop loop-holds (λ c κs. search needs) returns add-t loop-less loop-again returns-2)

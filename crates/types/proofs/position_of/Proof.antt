@@ -21,9 +21,7 @@ mul-result-2 c = omega (arith, below c)
 shared-slice-read-result : tie.Need-shared-slice-read-result
 shared-slice-read-result c = omega (arith, below (c .before))
 
-returns : tie.Need-returns
-returns c = search needs
-
 pub position-of-spec : {M : Type 1} → statement M
 position-of-spec =
-    tie.close (tie.spec mul-result add-result mul-result-2 shared-slice-read-result returns)
+    tie.close
+    (tie.spec mul-result add-result mul-result-2 shared-slice-read-result (λ c. search needs))

@@ -39,9 +39,6 @@ numbers c =
     rw (c .before .before .is-finite .ensures, c .before .is-finite2 .ensures) at
     (not-false (c .before .before .is-finite .result && c .before .is-finite2 .result) (c .if3 .left))
 
-has-bad-counts-requires : tie.Need-has-bad-counts-requires
-has-bad-counts-requires c κs = search needs
-
 returns : tie.Need-returns
 unfolding _then_ refuseIf BAD-TYPES
 returns c = simp (← c .before .has-bad-counts .ensures, c .if1 .taken)
@@ -54,12 +51,6 @@ unfolding _then_ refuseIf BAD-TYPES
 returns-2 c =
     let t = types (c .before .before .before .before) in
     simp (counts (c .before .before), ← c .before .lowest-bad-type .ensures (t .coloured) (t .cubes), lt-ltb _ _ (c .if2 .taken))
-
-is-finite-requires : tie.Need-is-finite-requires
-is-finite-requires c κs = search needs
-
-is-finite-requires-2 : tie.Need-is-finite-requires-2
-is-finite-requires-2 c κs = search needs
 
 returns-3 : tie.Need-returns-3
 unfolding _then_ refuseIf BAD-TYPES BAD-NUMBER
@@ -107,14 +98,5 @@ returns-5 c =
 pub types-verdict-spec : {M : Type 1} → statement M
 types-verdict-spec =
     tie.close
-    (tie.spec
-    has-bad-counts-requires
-    returns
-    lowest-bad-type-requires
-    returns-2
-    is-finite-requires
-    is-finite-requires-2
-    returns-3
-    lowest-not-a-cube-requires
-    returns-4
-    returns-5)
+    (tie.spec (λ c κs. search needs) returns lowest-bad-type-requires returns-2 (λ c κs. search needs) (λ c κs. search needs) returns-3
+    lowest-not-a-cube-requires returns-4 returns-5)

@@ -3,12 +3,6 @@ use borrow.Author.Tests.{lt-ltb, le-ltb}
 use Rattle.util.proofs.ahead.Statement.{statement}
 use Rattle.util.proofs.ahead.Tie as tie
 
-add-if1 : tie.Need-add-if1
-add-if1 c = search needs
-
-add-t8 : tie.Need-add-t8
-add-t8 c = search needs
-
 returns : tie.Need-returns
 returns c = rw (lt-ltb _ _ (c .if1 .taken))
 
@@ -16,4 +10,6 @@ returns-2 : tie.Need-returns-2
 returns-2 c = rw (le-ltb _ _ (c .if1 .left))
 
 pub ahead-spec : {M : Type 1} → statement M
-ahead-spec = tie.close (tie.spec add-if1 add-t8 returns returns-2)
+ahead-spec =
+    tie.close
+    (tie.spec (λ c. search needs) (λ c. search needs) returns returns-2)

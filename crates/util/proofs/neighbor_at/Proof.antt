@@ -12,48 +12,30 @@ use Rattle.util.proofs.neighbor_at.Tie as tie
 mul-layer : tie.Need-mul-layer
 mul-layer c = omega (arith, layer-fits (sizeOf (c .before .args .dims)) (c .before .pre .0 .sides))
 
-enum-told : tie.Need-enum-told
-enum-told c = search needs
-
 ahead-requires : tie.Need-ahead-requires
 ahead-requires c κs =
     let at = c .before .before .before in
     steps _ _ (at .pre .0) (at .pre .1) (at .pre .2) .top
-
-enum-told-2 : tie.Need-enum-told-2
-enum-told-2 c = search needs
 
 behind-requires : tie.Need-behind-requires
 behind-requires c κs =
     let at = c .before .before .before in
     steps _ _ (at .pre .0) (at .pre .1) (at .pre .2) .bottom
 
-enum-told-3 : tie.Need-enum-told-3
-enum-told-3 c = search needs
-
 ahead-requires-2 : tie.Need-ahead-requires-2
 ahead-requires-2 c κs =
     let at = c .before .before .before in
     steps _ _ (at .pre .0) (at .pre .1) (at .pre .2) .right
-
-enum-told-4 : tie.Need-enum-told-4
-enum-told-4 c = search needs
 
 behind-requires-2 : tie.Need-behind-requires-2
 behind-requires-2 c κs =
     let at = c .before .before .before in
     steps _ _ (at .pre .0) (at .pre .1) (at .pre .2) .left
 
-enum-told-5 : tie.Need-enum-told-5
-enum-told-5 c = search needs
-
 ahead-requires-3 : tie.Need-ahead-requires-3
 ahead-requires-3 c κs =
     let at = c .before .before .before in
     steps _ _ (at .pre .0) (at .pre .1) (at .pre .2) .back
-
-enum-told-6 : tie.Need-enum-told-6
-enum-told-6 c = search needs
 
 behind-requires-3 : tie.Need-behind-requires-3
 behind-requires-3 c κs =
@@ -99,23 +81,6 @@ returns-6 c =
 pub neighbor-at-spec : {M : Type 1} → statement M
 neighbor-at-spec =
     tie.close
-    (tie.spec
-    mul-layer
-    enum-told
-    ahead-requires
-    enum-told-2
-    behind-requires
-    enum-told-3
-    ahead-requires-2
-    enum-told-4
-    behind-requires-2
-    enum-told-5
-    ahead-requires-3
-    enum-told-6
-    behind-requires-3
-    returns
-    returns-2
-    returns-3
-    returns-4
-    returns-5
-    returns-6)
+    (tie.spec mul-layer (λ c. search needs) ahead-requires (λ c. search needs) behind-requires (λ c. search needs) ahead-requires-2
+    (λ c. search needs) behind-requires-2 (λ c. search needs) ahead-requires-3 (λ c. search needs) behind-requires-3 returns returns-2 returns-3
+    returns-4 returns-5 returns-6)

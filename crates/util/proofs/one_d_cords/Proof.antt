@@ -32,8 +32,7 @@ add-t7 c =
     let t = c .before .before .before .before .before .before in
     omega (arith, cellAt-in (sizeOf (t .args .dims)) (t .pre .1) (t .pre .2) (t .pre .3))
 
-returns : tie.Need-returns
-returns c = search needs
-
 pub one-d-cords-spec : {M : Type 1} → statement M
-one-d-cords-spec = tie.close (tie.spec mul-t3 mul-t4 mul-t5 add-t6 add-t7 returns)
+one-d-cords-spec =
+    tie.close
+    (tie.spec mul-t3 mul-t4 mul-t5 add-t6 add-t7 (λ c. search needs))

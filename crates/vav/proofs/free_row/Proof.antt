@@ -8,9 +8,6 @@ use borrow.Author.Needs.{needs}
 use Rattle.vav.proofs.free_row.Statement.{statement}
 use Rattle.vav.proofs.free_row.Tie as tie
 
-source-requires : tie.Need-source-requires
-source-requires c κs = search needs
-
 sub-copy-down : tie.Need-sub-copy-down
 sub-copy-down c =
     let t = c .before .before .before in omega (arith, source-bounds (t .args .q) (t .args .count) (t .pre .0))
@@ -21,18 +18,12 @@ copy-down-requires c κs =
     let s = spans (t .args .n) (t .args .q) (t .args .count) (c .before .source .result) (t .pre .0) (c .before .source .ensures) in
     (omega arith, omega arith)
 
-sub-clear : tie.Need-sub-clear
-sub-clear c = search needs
-
 clear-requires : tie.Need-clear-requires
 clear-requires c κs =
     let t = c .before .before .before .before .before .before .before in
     let s = spans (t .args .n) (t .args .q) (t .args .count) (sourceOf (t .args .q) (t .args .count)) (t .pre .0) refl in
     let l = c .before .before .before .copy-down .kept .0 in
     omega arith
-
-same-length : tie.Need-same-length
-same-length c = search needs
 
 returns : tie.Need-returns
 unfolding freed
@@ -48,11 +39,4 @@ returns c =
 pub free-row-spec : {M : Type 1} → statement M
 free-row-spec =
     tie.close
-    (tie.spec
-    source-requires
-    sub-copy-down
-    copy-down-requires
-    sub-clear
-    clear-requires
-    same-length
-    returns)
+    (tie.spec (λ c κs. search needs) sub-copy-down copy-down-requires (λ c. search needs) clear-requires (λ c. search needs) returns)

@@ -6,9 +6,6 @@ use borrow.Author.Needs.{needs}
 use Rattle.vav.proofs.moved_by.Statement.{statement}
 use Rattle.vav.proofs.moved_by.Tie as tie
 
-source-requires : tie.Need-source-requires
-source-requires c κs = search needs
-
 sub-result : tie.Need-sub-result
 sub-result c = omega (arith, source-bounds (c .before .args .q) (c .before .args .count) (c .before .pre))
 
@@ -17,4 +14,6 @@ returns c =
     let a = c .before .args in ap (λ (k : ℕ). a .count - k) (c .source .ensures) ∙ moved-is (a .q) (a .count) (c .before .pre)
 
 pub moved-by-spec : {M : Type 1} → statement M
-moved-by-spec = tie.close (tie.spec source-requires sub-result returns)
+moved-by-spec =
+    tie.close
+    (tie.spec (λ c κs. search needs) sub-result returns)

@@ -9,24 +9,6 @@ use borrow.Author.Needs.{needs}
 use Rattle.vav.proofs.select.Statement.{statement}
 use Rattle.vav.proofs.select.Tie as tie
 
-mul-start : tie.Need-mul-start
-mul-start c = search needs
-
-add-end : tie.Need-add-end
-add-end c = search needs
-
-mul-extend : tie.Need-mul-extend
-mul-extend c = search needs
-
-sub-extend : tie.Need-sub-extend
-sub-extend c = search needs
-
-part-extend-start : tie.Need-part-extend-start
-part-extend-start c = search needs
-
-part-extend-end : tie.Need-part-extend-end
-part-extend-end c = search needs
-
 extend-requires : tie.Need-extend-requires
 extend-requires c κs =
     let t = c .before .before .before .before in
@@ -34,9 +16,6 @@ extend-requires c κs =
     let l : length (part (a .n * a .from) (a .n * a .from + a .n - a .n * a .from) (a .source .now)) ≡ a .n =
     ap length (part-lent (a .n * a .from) (a .n) (a .source .now)) ∙ length-part (a .n * a .from) (a .n) (a .source .now) (t .pre .1) in
     rw l (t .pre .0)
-
-same-length : tie.Need-same-length
-same-length c = search needs
 
 returns : tie.Need-returns
 returns c =
@@ -50,13 +29,5 @@ returns c =
 pub select-spec : {M : Type 1} → statement M
 select-spec =
     tie.close
-    (tie.spec
-    mul-start
-    add-end
-    mul-extend
-    sub-extend
-    part-extend-start
-    part-extend-end
-    extend-requires
-    same-length
-    returns)
+    (tie.spec (λ c. search needs) (λ c. search needs) (λ c. search needs) (λ c. search needs) (λ c. search needs) (λ c. search needs) extend-requires
+    (λ c. search needs) returns)

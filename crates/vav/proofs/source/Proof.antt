@@ -5,15 +5,6 @@ use borrow.Author.Needs.{needs}
 use Rattle.vav.proofs.source.Statement.{statement}
 use Rattle.vav.proofs.source.Tie as tie
 
-sub-if1 : tie.Need-sub-if1
-sub-if1 c = search needs
-
-add-result : tie.Need-add-result
-add-result c = search needs
-
-sub-result : tie.Need-sub-result
-sub-result c = search needs
-
 returns : tie.Need-returns
 returns c =
     let a = c .before .args in
@@ -27,4 +18,6 @@ returns-2 c =
     rw (lt-leb (a .count - a .q) 6 far)
 
 pub source-spec : {M : Type 1} → statement M
-source-spec = tie.close (tie.spec sub-if1 add-result sub-result returns returns-2)
+source-spec =
+    tie.close
+    (tie.spec (λ c. search needs) (λ c. search needs) (λ c. search needs) returns returns-2)

@@ -8,41 +8,14 @@ use Rattle.vav.proofs.Laws.{stored}
 use Rattle.vav.proofs.write_four.Statement.{statement}
 use Rattle.vav.proofs.write_four.Tie as tie
 
-mul-list : tie.Need-mul-list
-mul-list c = search needs
-
-slice-write-list : tie.Need-slice-write-list
-slice-write-list c = search needs
-
-add-list : tie.Need-add-list
-add-list c = search needs
-
-mul-list-2 : tie.Need-mul-list-2
-mul-list-2 c = search needs
-
 slice-write-list-2 : tie.Need-slice-write-list-2
 slice-write-list-2 c = simp length-set (omega arith)
-
-add-list-2 : tie.Need-add-list-2
-add-list-2 c = search needs
-
-mul-list-3 : tie.Need-mul-list-3
-mul-list-3 c = search needs
 
 slice-write-list-3 : tie.Need-slice-write-list-3
 slice-write-list-3 c = simp length-set (omega arith)
 
-add-list-3 : tie.Need-add-list-3
-add-list-3 c = search needs
-
-mul-list-4 : tie.Need-mul-list-4
-mul-list-4 c = search needs
-
 slice-write-list-4 : tie.Need-slice-write-list-4
 slice-write-list-4 c = simp length-set (omega arith)
-
-same-length : tie.Need-same-length
-same-length c = search needs
 
 returns : tie.Need-returns
 returns c =
@@ -52,17 +25,5 @@ returns c =
 pub write-four-spec : {M : Type 1} → statement M
 write-four-spec =
     tie.close
-    (tie.spec
-    mul-list
-    slice-write-list
-    add-list
-    mul-list-2
-    slice-write-list-2
-    add-list-2
-    mul-list-3
-    slice-write-list-3
-    add-list-3
-    mul-list-4
-    slice-write-list-4
-    same-length
-    returns)
+    (tie.spec (λ c. search needs) (λ c. search needs) (λ c. search needs) (λ c. search needs) slice-write-list-2 (λ c. search needs)
+    (λ c. search needs) slice-write-list-3 (λ c. search needs) (λ c. search needs) slice-write-list-4 (λ c. search needs) returns)

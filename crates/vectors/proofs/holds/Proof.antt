@@ -21,9 +21,6 @@ mul-ok c = omega arith
 shared-slice-read-ok : tie.Need-shared-slice-read-ok Inv-loop μ-loop
 shared-slice-read-ok c = omega arith
 
-expected-at-requires : tie.Need-expected-at-requires Inv-loop μ-loop
-expected-at-requires c κs = search needs
-
 add-i : tie.Need-add-i Inv-loop μ-loop
 add-i c = omega arith
 
@@ -33,20 +30,7 @@ loop-less c = omega arith
 loop-again : tie.Need-loop-again Inv-loop μ-loop
 loop-again c = omega arith
 
-returns : tie.Need-returns Inv-loop μ-loop
-returns c = search needs
-
 pub holds-spec : {M : Type 1} → statement M
 holds-spec =
     tie.close
-    (tie.spec
-    Inv-loop
-    μ-loop
-    loop-holds
-    mul-ok
-    shared-slice-read-ok
-    expected-at-requires
-    add-i
-    loop-less
-    loop-again
-    returns)
+    (tie.spec Inv-loop μ-loop loop-holds mul-ok shared-slice-read-ok (λ c κs. search needs) add-i loop-less loop-again (λ c. search needs))

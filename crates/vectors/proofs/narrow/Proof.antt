@@ -13,12 +13,6 @@ Inv-loop words bytes₀ n i₀ bytes i = (length bytes ≡ length bytes₀) × (
 abbrev μ-loop : tie.MeasureT-loop
 μ-loop words bytes₀ n i₀ bytes i = n - i
 
-least-requires : tie.Need-least-requires Inv-loop μ-loop
-least-requires c κs = search needs
-
-loop-holds : tie.Need-loop-holds Inv-loop μ-loop
-loop-holds c = search needs
-
 mul-bytes : tie.Need-mul-bytes Inv-loop μ-loop
 mul-bytes c = omega arith
 
@@ -43,23 +37,8 @@ loop-again c = simp length-set (search needs)
 same-length : tie.Need-same-length Inv-loop μ-loop
 same-length c = c .before .loop .inv .0
 
-returns : tie.Need-returns Inv-loop μ-loop
-returns c = search needs
-
 pub narrow-spec : {M : Type 1} → statement M
 narrow-spec =
     tie.close
-    (tie.spec
-    Inv-loop
-    μ-loop
-    least-requires
-    loop-holds
-    mul-bytes
-    shared-slice-read-bytes
-    cast-bytes
-    slice-write-bytes
-    add-i
-    loop-less
-    loop-again
-    same-length
-    returns)
+    (tie.spec Inv-loop μ-loop (λ c κs. search needs) (λ c. search needs) mul-bytes shared-slice-read-bytes cast-bytes slice-write-bytes add-i
+    loop-less loop-again same-length (λ c. search needs))

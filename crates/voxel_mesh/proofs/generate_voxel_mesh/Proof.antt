@@ -32,20 +32,11 @@ done : (r : Cubed) (q : rules.Shape) (out left : List ℕ) → r ≡ Done → le
     → outcome r left ≡ cubeBy (verdictOf r) q out
 done r q out left e w = rw (e, w)
 
-verdict-requires : tie.Need-verdict-requires
-verdict-requires c κs = search needs
-
-enum-told : tie.Need-enum-told
-enum-told c = search needs
-
 write-cube-requires : tie.Need-write-cube-requires
 write-cube-requires c κs =
     let args = c .before .before .before .before .before .before .args in
     accepted (shapeOf (args .shape) (now (args .texture))) (length (now (args .out)))
     (ap verdictOf (sym (c .before .enum-told .given .1)) ∙ c .before .before .before .verdict .ensures)
-
-same-length : tie.Need-same-length
-same-length c = search needs
 
 returns : tie.Need-returns
 returns c =
@@ -65,4 +56,4 @@ returns-2 c =
 pub generate-voxel-mesh-spec : {M : Type 1} → statement M
 generate-voxel-mesh-spec =
     tie.close
-    (tie.spec verdict-requires enum-told write-cube-requires same-length returns returns-2)
+    (tie.spec (λ c κs. search needs) (λ c. search needs) write-cube-requires (λ c. search needs) returns returns-2)

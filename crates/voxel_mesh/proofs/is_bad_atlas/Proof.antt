@@ -4,12 +4,11 @@ use borrow.Author.Needs.{needs}
 use Rattle.voxel_mesh.proofs.is_bad_atlas.Statement.{statement}
 use Rattle.voxel_mesh.proofs.is_bad_atlas.Tie as tie
 
-has-tiles-requires : tie.Need-has-tiles-requires
-has-tiles-requires c κs = search needs
-
 returns : tie.Need-returns
 unfolding badAtlas
 returns c = cc
 
 pub is-bad-atlas-spec : {M : Type 1} → statement M
-is-bad-atlas-spec = tie.close (tie.spec has-tiles-requires returns)
+is-bad-atlas-spec =
+    tie.close
+    (tie.spec (λ c κs. search needs) returns)

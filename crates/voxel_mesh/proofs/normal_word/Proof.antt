@@ -4,9 +4,6 @@ use borrow.Author.Needs.{needs}
 use Rattle.voxel_mesh.proofs.normal_word.Statement.{statement}
 use Rattle.voxel_mesh.proofs.normal_word.Tie as tie
 
-axis-of-requires : tie.Need-axis-of-requires
-axis-of-requires c κs = search needs
-
 returns : tie.Need-returns
 returns c = simp (← c .before .axis-of .ensures, ne-eqb _ _ (c .if1 .taken))
 
@@ -17,4 +14,6 @@ returns-3 : tie.Need-returns-3
 returns-3 c = simp (← c .before .before .axis-of .ensures, eq-eqb _ _ (c .before .if1 .left), ne-eqb _ _ (c .if2 .left))
 
 pub normal-word-spec : {M : Type 1} → statement M
-normal-word-spec = tie.close (tie.spec axis-of-requires returns returns-2 returns-3)
+normal-word-spec =
+    tie.close
+    (tie.spec (λ c κs. search needs) returns returns-2 returns-3)

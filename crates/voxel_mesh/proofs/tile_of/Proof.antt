@@ -5,7 +5,6 @@ use mathlib.Core.Option.{Option, some}
 use Prim.Native.Nat.{ℕ, _<_}
 use denote.Ref.{now}
 use lib.Dec.{lit<}
-use borrow.Author.Needs.{needs}
 use Rattle.voxel_mesh.specs.Outcome.{shapeOf}
 use Rattle.rules.specs.Cube.{uvIn}
 use Rattle.voxel_mesh.specs.Parts.{namingIn}

@@ -32,12 +32,6 @@ faces : (c : tie.Else3) →
     ltb (lowest (length texture / 3) (λ i. ltb 5 (getD texture (3 * i) 0))) (length texture / 3) ≡ false
 faces c = rw (c .before .lowest-bad-face .ensures) at (le-ltb _ _ (c .if3 .left))
 
-has-numbers-requires : tie.Need-has-numbers-requires
-has-numbers-requires c κs = search needs
-
-is-bad-atlas-requires : tie.Need-is-bad-atlas-requires
-is-bad-atlas-requires c κs = search needs
-
 returns : tie.Need-returns
 unfolding _then_ refuseIf BAD-NUMBER
 returns c = simp (← c .before .before .has-numbers .ensures, not-true (c .before .before .has-numbers .result) (c .if1 .taken))
@@ -45,9 +39,6 @@ returns c = simp (← c .before .before .has-numbers .ensures, not-true (c .befo
 returns-2 : tie.Need-returns-2
 unfolding _then_ refuseIf BAD-NUMBER
 returns-2 c = simp (numbers (c .before), ← c .before .before .is-bad-atlas .ensures, c .if2 .taken)
-
-lowest-bad-face-requires : tie.Need-lowest-bad-face-requires
-lowest-bad-face-requires c κs = search needs
 
 returns-3 : tie.Need-returns-3
 unfolding _then_ refuseIf BAD-NUMBER BAD-TEXTURE
@@ -66,9 +57,6 @@ returns-4 c = simp (
   faces (c .before),
   ne-eqb _ _ (c .if4 .taken),
 )
-
-floats-of-requires : tie.Need-floats-of-requires
-floats-of-requires c κs = search needs
 
 mul-if5 : tie.Need-mul-if5
 mul-if5 c = omega (
@@ -104,15 +92,5 @@ returns-6 c =
 pub verdict-spec : {M : Type 1} → statement M
 verdict-spec =
     tie.close
-    (tie.spec
-    has-numbers-requires
-    is-bad-atlas-requires
-    returns
-    returns-2
-    lowest-bad-face-requires
-    returns-3
-    returns-4
-    floats-of-requires
-    mul-if5
-    returns-5
-    returns-6)
+    (tie.spec (λ c κs. search needs) (λ c κs. search needs) returns returns-2 (λ c κs. search needs) returns-3 returns-4 (λ c κs. search needs)
+    mul-if5 returns-5 returns-6)

@@ -57,9 +57,6 @@ row c =
     let end = mul-le-mul-right (words at) (c .loop-test .taken) in
     (omega (arith, words-are at, begun at .pre .1, kept at, suc-mul (at .loop .face) (words at)), omega (arith, words-are at, most, suc-mul (at .loop .face) (words at)))
 
-floats-of-requires : tie.Need-floats-of-requires Inv-loop μ-loop
-floats-of-requires c κs = search needs
-
 mul-words : tie.Need-mul-words Inv-loop μ-loop
 mul-words c = omega (arith, c .floats-of .ensures, few (c .before .before .before .args .shape .coloured) .1)
 
@@ -137,23 +134,5 @@ returns c =
 pub write-cube-spec : {M : Type 1} → statement M
 write-cube-spec =
     tie.close
-    (tie.spec
-    Inv-loop
-    μ-loop
-    floats-of-requires
-    mul-words
-    corner-at-requires
-    corner-at-requires-2
-    loop-holds
-    mul-at
-    add-end
-    mul-write-face
-    sub-write-face
-    part-write-face-start
-    part-write-face-end
-    write-face-requires
-    add-face
-    loop-less
-    loop-again
-    same-length
-    returns)
+    (tie.spec Inv-loop μ-loop (λ c κs. search needs) mul-words corner-at-requires corner-at-requires-2 loop-holds mul-at add-end mul-write-face
+    sub-write-face part-write-face-start part-write-face-end write-face-requires add-face loop-less loop-again same-length returns)

@@ -5,10 +5,10 @@ use Prim.Native.Nat.{ℕ, _≤_, _+_, _-_, _*_, _/_}
 use native.Mathlib.Nat.{mul-le-mul-right, suc-mul}
 use native.Mathlib.Omega.{arith}
 use denote.Ref.{now}
-use lib.ListN.{length, drop, drop-of-length-le}
+use lib.ListN.{length, drop-of-length-le}
 use borrow.Author.Needs.{needs}
 use Rattle.rules.specs.Lists.{each, table}
-use Rattle.rules.specs.Cube.{floatsOf, cubeWord}
+use Rattle.rules.specs.Cube.{cubeWord}
 use Rattle.rules.proofs.Rows.{written, written-none, written-more, length-written, length-lent}
 use Rattle.rules.proofs.ListLaws.{each-same, length-table}
 use Rattle.voxel_mesh.specs.Outcome.{shapeOf}
@@ -50,9 +50,6 @@ row c =
     let words : floats ≤ 12 = rw (at .before .before .floats-of .ensures) (few (begun at .args .shape .coloured) .1) in
     let end = mul-le-mul-right floats (c .loop-test .taken) in
     (omega (arith, room at, kept at, suc-mul i floats), omega (arith, suc-mul i floats))
-
-floats-of-requires : tie.Need-floats-of-requires Inv-loop μ-loop
-floats-of-requires c κs = search needs
 
 tile-of-requires : tie.Need-tile-of-requires Inv-loop μ-loop
 tile-of-requires c κs = let t = c .before .before .before in (t .pre .0, t .pre .1)
@@ -144,23 +141,6 @@ returns c =
 pub write-face-spec : {M : Type 1} → statement M
 write-face-spec =
     tie.close
-    (tie.spec
-    Inv-loop
-    μ-loop
-    floats-of-requires
-    tile-of-requires
-    loop-holds
-    mul-at
-    add-end
-    mul-write-vertex
-    sub-write-vertex
-    part-write-vertex-start
-    part-write-vertex-end
-    mul-write-vertex-2
-    add-write-vertex
-    write-vertex-requires
-    add-i
-    loop-less
-    loop-again
-    same-length
+    (tie.spec Inv-loop μ-loop (λ c κs. search needs) tile-of-requires loop-holds mul-at add-end mul-write-vertex sub-write-vertex
+    part-write-vertex-start part-write-vertex-end mul-write-vertex-2 add-write-vertex write-vertex-requires add-i loop-less loop-again same-length
     returns)

@@ -1,8 +1,8 @@
 -- `voxel_mesh::write_vertex` meets its contract: four words at a time. Assumes nothing.
 use mathlib.Core.Path.{_≡_, ap, _∙_}
 use mathlib.Core.Bool.{Bool, true, false}
-use mathlib.Core.List.{List, [], _∷_}
-use Prim.Native.Nat.{ℕ, _≤_}
+use mathlib.Core.List.{[], _∷_}
+use Prim.Native.Nat.{_≤_}
 use native.Mathlib.Omega.{arith}
 use lib.ListN.{length}
 use Rattle.rules.specs.Cube.{floatsOf}
@@ -14,39 +14,6 @@ use borrow.Author.Needs.{needs}
 use Rattle.voxel_mesh.proofs.write_vertex.Statement.{statement}
 use Rattle.voxel_mesh.proofs.write_vertex.Tie as tie
 
-is-high-requires : tie.Need-is-high-requires
-is-high-requires c κs = search needs
-
-pick-requires : tie.Need-pick-requires
-pick-requires c κs = search needs
-
-is-high-requires-2 : tie.Need-is-high-requires-2
-is-high-requires-2 c κs = search needs
-
-pick-requires-2 : tie.Need-pick-requires-2
-pick-requires-2 c κs = search needs
-
-is-high-requires-3 : tie.Need-is-high-requires-3
-is-high-requires-3 c κs = search needs
-
-pick-requires-3 : tie.Need-pick-requires-3
-pick-requires-3 c κs = search needs
-
-is-end-requires : tie.Need-is-end-requires
-is-end-requires c κs = search needs
-
-pick-requires-4 : tie.Need-pick-requires-4
-pick-requires-4 c κs = search needs
-
-is-end-requires-2 : tie.Need-is-end-requires-2
-is-end-requires-2 c κs = search needs
-
-pick-requires-5 : tie.Need-pick-requires-5
-pick-requires-5 c κs = search needs
-
-normal-word-requires : tie.Need-normal-word-requires
-normal-word-requires c κs = search needs
-
 -- where it began: room for a vertex
 abbrev begun : tie.After-pick5 → tie.Start
 begun c = c .before .before .before .before .before .before .before .before .before .before .before
@@ -56,12 +23,6 @@ at-least t = omega (arith, t .pre .1, few (t .args .shape .coloured) .0)
 
 write-four-requires : tie.Need-write-four-requires
 write-four-requires c κs = omega (arith, at-least (begun (c .before .before)))
-
-normal-word-requires-2 : tie.Need-normal-word-requires-2
-normal-word-requires-2 c κs = search needs
-
-normal-word-requires-3 : tie.Need-normal-word-requires-3
-normal-word-requires-3 c κs = search needs
 
 write-four-requires-2 : tie.Need-write-four-requires-2
 write-four-requires-2 c κs =
@@ -115,9 +76,6 @@ write-four-requires-3 c κs =
     let t = begun (first .before .before .before) in
     omega (arith, t .pre .1, coloured-words _ (then .if1 .taken), first .write-four .kept .0, second .write-four2 .kept .0)
 
-same-length : tie.Need-same-length
-same-length c = search needs
-
 returns : tie.Need-returns
 unfolding partWord
 returns c =
@@ -129,9 +87,6 @@ returns c =
     last .write-four3 .ensures ∙ ap (put 8 (f 8 ∷ f 9 ∷ f 10 ∷ f 11 ∷ [])) (eight-written second)
     ∙ twelve-is f (a .args .out .now) (a .pre .1 ∙ coloured-words _ (then .if1 .taken))
 
-same-length-2 : tie.Need-same-length-2
-same-length-2 c = search needs
-
 returns-2 : tie.Need-returns-2
 returns-2 c =
     let second = c .before .before .before in
@@ -142,24 +97,7 @@ returns-2 c =
 pub write-vertex-spec : {M : Type 1} → statement M
 write-vertex-spec =
     tie.close
-    (tie.spec
-    is-high-requires
-    pick-requires
-    is-high-requires-2
-    pick-requires-2
-    is-high-requires-3
-    pick-requires-3
-    is-end-requires
-    pick-requires-4
-    is-end-requires-2
-    pick-requires-5
-    normal-word-requires
-    write-four-requires
-    normal-word-requires-2
-    normal-word-requires-3
-    write-four-requires-2
-    write-four-requires-3
-    same-length
-    returns
-    same-length-2
-    returns-2)
+    (tie.spec (λ c κs. search needs) (λ c κs. search needs) (λ c κs. search needs) (λ c κs. search needs) (λ c κs. search needs)
+    (λ c κs. search needs) (λ c κs. search needs) (λ c κs. search needs) (λ c κs. search needs) (λ c κs. search needs) (λ c κs. search needs)
+    write-four-requires (λ c κs. search needs) (λ c κs. search needs) write-four-requires-2 write-four-requires-3 (λ c. search needs) returns
+    (λ c. search needs) returns-2)

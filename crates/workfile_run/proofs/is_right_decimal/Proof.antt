@@ -8,21 +8,6 @@ use Rattle.lines.proofs.Decimals.{decimal-room}
 use Rattle.workfile_run.proofs.is_right_decimal.Statement.{statement}
 use Rattle.workfile_run.proofs.is_right_decimal.Tie as tie
 
-returns : tie.Need-returns
-returns c = search needs
-
-buffer-requires : tie.Need-buffer-requires
-buffer-requires c κs = search needs
-
-u32-at-requires : tie.Need-u32-at-requires
-u32-at-requires c κs = search needs
-
-cast-write-decimal : tie.Need-cast-write-decimal
-cast-write-decimal c = search needs
-
-slice-aggregate-write-decimal : tie.Need-slice-aggregate-write-decimal
-slice-aggregate-write-decimal c = search needs
-
 write-decimal-requires : tie.Need-write-decimal-requires
 write-decimal-requires c κs = decimal-room _ (omega arith) (omega arith)
 
@@ -32,35 +17,8 @@ array-share-prefix-out c = end-inside (c .before .write-decimal .ensures) (decim
 slice-aggregate-same : tie.Need-slice-aggregate-same
 slice-aggregate-same c = sym (length-take-le _ _ (end-inside (c .before .before .write-decimal .ensures) (decimal-room _ (omega arith) (omega arith))))
 
-sub-same : tie.Need-sub-same
-sub-same c = search needs
-
-part-same-start : tie.Need-part-same-start
-part-same-start c = search needs
-
-part-same-end : tie.Need-part-same-end
-part-same-end c = search needs
-
-same-requires : tie.Need-same-requires
-same-requires c κs = search needs
-
-returns-2 : tie.Need-returns-2
-returns-2 c = search needs
-
 pub is-right-decimal-spec : {M : Type 1} → statement M
 is-right-decimal-spec =
     tie.close
-    (tie.spec
-    returns
-    buffer-requires
-    u32-at-requires
-    cast-write-decimal
-    slice-aggregate-write-decimal
-    write-decimal-requires
-    array-share-prefix-out
-    slice-aggregate-same
-    sub-same
-    part-same-start
-    part-same-end
-    same-requires
-    returns-2)
+    (tie.spec (λ c. search needs) (λ c κs. search needs) (λ c κs. search needs) (λ c. search needs) (λ c. search needs) write-decimal-requires
+    array-share-prefix-out slice-aggregate-same (λ c. search needs) (λ c. search needs) (λ c. search needs) (λ c κs. search needs) (λ c. search needs))

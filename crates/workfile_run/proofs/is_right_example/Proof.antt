@@ -27,15 +27,6 @@ lines e =
     lines-room (answered 6 14) (quadsOf example) (omega arith)
     (omega arith, (omega arith, (omega arith, (omega arith, (omega arith, (omega arith, tt)))))) (omega arith) (omega arith) (omega arith)
 
-buffer-requires : tie.Need-buffer-requires
-buffer-requires c κs = search needs
-
-slice-aggregate-write-lines : tie.Need-slice-aggregate-write-lines
-slice-aggregate-write-lines c = search needs
-
-slice-aggregate-write-lines-2 : tie.Need-slice-aggregate-write-lines-2
-slice-aggregate-write-lines-2 c = search needs
-
 write-lines-requires : tie.Need-write-lines-requires
 write-lines-requires c κs = (faces, lines (c .before .before .buffer .ensures))
 
@@ -45,21 +36,8 @@ array-share-prefix-out c = end-inside (c .before .write-lines .ensures) (lines (
 slice-aggregate-same : tie.Need-slice-aggregate-same
 slice-aggregate-same c = sym (length-take-le _ _ (end-inside (c .before .before .write-lines .ensures) (lines (c .before .before .before .before .before .buffer .ensures))))
 
-same-requires : tie.Need-same-requires
-same-requires c κs = search needs
-
-returns : tie.Need-returns
-returns c = search needs
-
 pub is-right-example-spec : {M : Type 1} → statement M
 is-right-example-spec =
     tie.close
-    (tie.spec
-    buffer-requires
-    slice-aggregate-write-lines
-    slice-aggregate-write-lines-2
-    write-lines-requires
-    array-share-prefix-out
-    slice-aggregate-same
-    same-requires
-    returns)
+    (tie.spec (λ c κs. search needs) (λ c. search needs) (λ c. search needs) write-lines-requires array-share-prefix-out slice-aggregate-same
+    (λ c κs. search needs) (λ c. search needs))

@@ -13,11 +13,7 @@ returns c = λ e. absurd (false≢true e)
 slice-aggregate-same : tie.Need-slice-aggregate-same
 slice-aggregate-same c = sym (length-take-le _ _ (omega arith))
 
-same-requires : tie.Need-same-requires
-same-requires c κs = search needs
-
-returns-2 : tie.Need-returns-2
-returns-2 c = search needs
-
 pub starts-spec : {M : Type 1} → statement M
-starts-spec = tie.close (tie.spec returns slice-aggregate-same same-requires returns-2)
+starts-spec =
+    tie.close
+    (tie.spec returns slice-aggregate-same (λ c κs. search needs) (λ c. search needs))

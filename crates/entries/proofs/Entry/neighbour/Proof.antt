@@ -13,12 +13,6 @@ use borrow.Author.Needs.{needs}
 use Rattle.entries.proofs.Entry.neighbour.Statement.{statement}
 use Rattle.entries.proofs.Entry.neighbour.Tie as tie
 
-number-requires : tie.Need-number-requires
-number-requires c κs = search needs
-
-cast-side : tie.Need-cast-side
-cast-side c = search needs
-
 element-copy-out-given : tie.Need-element-copy-out-given
 element-copy-out-given c = omega (arith, number-below (c .before .args .face))
 
@@ -39,4 +33,5 @@ returns-2 c =
 
 pub neighbour-spec : {M : Type 1} → statement M
 neighbour-spec =
-    tie.close (tie.spec number-requires cast-side element-copy-out-given returns returns-2)
+    tie.close
+    (tie.spec (λ c κs. search needs) (λ c. search needs) element-copy-out-given returns returns-2)

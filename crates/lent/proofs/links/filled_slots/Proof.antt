@@ -7,7 +7,7 @@ use denote.Ref.{now}
 use lib.Dec.{eqb}
 use lib.ListN.{getD}
 use Rattle.rules.specs.Mesh.{NONE, bookOf}
-use Rattle.rules.specs.Answers.{filled}
+use Rattle.rules.specs.Answers.{slotsFilled}
 use Rattle.lent.proofs.Linked.{byte-le, filled-none, filled-more}
 use borrow.Author.Needs.{needs}
 use native.Mathlib.Omega.{arith}
@@ -15,7 +15,7 @@ use Rattle.lent.proofs.links.filled_slots.Statement.{statement}
 use Rattle.lent.proofs.links.filled_slots.Tie as tie
 
 abbrev Inv-loop : tie.InvT-loop
-Inv-loop slots n full₀ k₀ full k = (k ≤ n) × (full + k ≡ filled k (bookOf [] slots) + n)
+Inv-loop slots n full₀ k₀ full k = (k ≤ n) × (full + k ≡ slotsFilled k (bookOf [] slots) + n)
 
 abbrev μ-loop : tie.MeasureT-loop
 μ-loop slots n full₀ k₀ full k = n - k
@@ -55,7 +55,7 @@ loop-again c =
 returns : tie.Need-returns Inv-loop μ-loop
 returns c =
     let e : c .before .loop .k ≡ c .before .before .args .n = omega arith in
-    let counted = ap (λ (n : ℕ). filled n (bookOf [] (now (c .before .before .args .slots)))) e in
+    let counted = ap (λ (n : ℕ). slotsFilled n (bookOf [] (now (c .before .before .args .slots)))) e in
     omega (arith, counted)
 
 pub filled-slots-spec : {M : Type 1} → statement M

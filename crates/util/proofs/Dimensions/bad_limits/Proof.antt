@@ -8,15 +8,6 @@ use Rattle.util.proofs.Limits.{sidesHold, sides, limits}
 use Rattle.util.proofs.Dimensions.bad_limits.Statement.{statement}
 use Rattle.util.proofs.Dimensions.bad_limits.Tie as tie
 
-is-side-requires : tie.Need-is-side-requires
-is-side-requires c κs = search needs
-
-is-side-requires-2 : tie.Need-is-side-requires-2
-is-side-requires-2 c κs = search needs
-
-is-side-requires-3 : tie.Need-is-side-requires-3
-is-side-requires-3 c κs = search needs
-
 cell-count-requires : tie.Need-cell-count-requires
 cell-count-requires c κs = sides (sizeOf (c .before .before .before .before .args .self)) (cc)
 
@@ -34,4 +25,5 @@ returns-2 c =
 
 pub bad-limits-spec : {M : Type 1} → statement M
 bad-limits-spec =
-    tie.close (tie.spec is-side-requires is-side-requires-2 is-side-requires-3 cell-count-requires returns returns-2)
+    tie.close
+    (tie.spec (λ c κs. search needs) (λ c κs. search needs) (λ c κs. search needs) cell-count-requires returns returns-2)

@@ -12,8 +12,7 @@ mul-result c = omega (arith, plane-fits (sizeOf (c .before .args .self)) (c .bef
 mul-result-2 : tie.Need-mul-result-2
 mul-result-2 c = omega (arith, volume-fits (sizeOf (c .before .before .args .self)) (c .before .before .pre))
 
-returns : tie.Need-returns
-returns c = search needs
-
 pub cell-count-spec : {M : Type 1} → statement M
-cell-count-spec = tie.close (tie.spec mul-result mul-result-2 returns)
+cell-count-spec =
+    tie.close
+    (tie.spec mul-result mul-result-2 (λ c. search needs))

@@ -7,14 +7,8 @@ use Rattle.util.proofs.Rows.{high, long, next-row, next-layer}
 use Rattle.util.proofs.Row.next.Statement.{statement}
 use Rattle.util.proofs.Row.next.Tie as tie
 
-add-first : tie.Need-add-first
-add-first c = search needs
-
 add-if1 : tie.Need-add-if1
 add-if1 c = let s = c .before .before .before in omega (arith, long (sizeOf (s .args .dims)) (s .pre .0) (s .pre .1), s .pre .0 .sides .longest)
-
-add-t6 : tie.Need-add-t6
-add-t6 c = search needs
 
 returns : tie.Need-returns
 returns c = let s = c .before .before .before .before .before .before in (refl, next-row (sizeOf (s .args .dims)) (s .pre .0) (s .pre .1) (c .before .if1 .taken))
@@ -26,4 +20,6 @@ returns-2 : tie.Need-returns-2
 returns-2 c = let s = c .before .before .before .before .before .before in (refl, next-layer (sizeOf (s .args .dims)) (s .pre .0) (s .pre .1) (c .before .if1 .left))
 
 pub next-spec : {M : Type 1} → statement M
-next-spec = tie.close (tie.spec add-first add-if1 add-t6 returns add-t4 returns-2)
+next-spec =
+    tie.close
+    (tie.spec (λ c. search needs) add-if1 (λ c. search needs) returns add-t4 returns-2)
