@@ -114,15 +114,15 @@ fn write_vertex(
 }
 
 // Whether four words of a vertex of a cube, from word k on, stand in the vertex at `from`.
-fn has_four(quad: &[u32], from: usize, cube: &[u32], floats: usize, vertex: usize, k: usize) -> bool
-    requires { ⌜ Words (now cube) floats × (vertex < 24) × (k + 4 ≤ floats) × (from + floats ≤ length (now quad)) ⌝ }
-    ensures { λ r. ⌜ (r ≡ true → HasFour (now (quad .entry)) from (wordAt (now (cube .entry)) floats vertex) k) ⌝ }
+fn has_four(quad: &[u32], from: usize, cube: &[u32], floats: usize, corner: usize, k: usize) -> bool
+    requires { ⌜ Words (now cube) floats × (corner < 24) × (k + 4 ≤ floats) × (from + floats ≤ length (now quad)) ⌝ }
+    ensures { λ r. ⌜ (r ≡ true → HasFour (now (quad .entry)) from (wordAt (now (cube .entry)) floats corner) k) ⌝ }
 {
     let at = from + k;
-    (quad[at] == word_of(cube, floats, vertex, k))
-        & (quad[at + 1] == word_of(cube, floats, vertex, k + 1))
-        & (quad[at + 2] == word_of(cube, floats, vertex, k + 2))
-        & (quad[at + 3] == word_of(cube, floats, vertex, k + 3))
+    (quad[at] == word_of(cube, floats, corner, k))
+        & (quad[at + 1] == word_of(cube, floats, corner, k + 1))
+        & (quad[at + 2] == word_of(cube, floats, corner, k + 2))
+        & (quad[at + 3] == word_of(cube, floats, corner, k + 3))
 }
 
 // Whether the first eight words of a vertex of a cube stand at `from`, its position moved.
@@ -131,22 +131,22 @@ fn has_eight(
     from: usize,
     cube: &[u32],
     floats: usize,
-    vertex: usize,
+    corner: usize,
     at: Coordinates,
     d: Triple,
 ) -> bool
-    requires { ⌜ Drawable (now cube) floats (grid.tripleOf at) (tripleOf d) × (vertex < 24) × (from + floats ≤ length (now quad)) ⌝ }
-    ensures { λ r. ⌜ (r ≡ true → StandsTo 8 (now (quad .entry)) from (vertexWord (now (cube .entry)) floats (tripleOf d) (grid.tripleOf at) vertex)) ⌝ }
+    requires { ⌜ Drawable (now cube) floats (grid.tripleOf at) (tripleOf d) × (corner < 24) × (from + floats ≤ length (now quad)) ⌝ }
+    ensures { λ r. ⌜ (r ≡ true → StandsTo 8 (now (quad .entry)) from (vertexWord (now (cube .entry)) floats (tripleOf d) (grid.tripleOf at) corner)) ⌝ }
 {
-    let x = moved_word(word_of(cube, floats, vertex, 0), at.x, d.x);
-    let y = moved_word(word_of(cube, floats, vertex, 1), at.y, d.y);
-    let z = moved_word(word_of(cube, floats, vertex, 2), at.z, d.z);
-    let after = word_of(cube, floats, vertex, 3);
+    let x = moved_word(word_of(cube, floats, corner, 0), at.x, d.x);
+    let y = moved_word(word_of(cube, floats, corner, 1), at.y, d.y);
+    let z = moved_word(word_of(cube, floats, corner, 2), at.z, d.z);
+    let after = word_of(cube, floats, corner, 3);
     (quad[from] == x)
         & (quad[from + 1] == y)
         & (quad[from + 2] == z)
         & (quad[from + 3] == after)
-        & has_four(quad, from, cube, floats, vertex, 4)
+        & has_four(quad, from, cube, floats, corner, 4)
 }
 
 // How many vertices of a quad are right without a doubt: all four, or none. Only all words together are branched on, so that the

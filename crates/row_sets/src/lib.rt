@@ -305,8 +305,10 @@ fn is_plain_row(look: Look, grid: &[u8], rows: Around) -> bool
         return true;
     }
     let n = rows.dims.width as usize;
-    are_plain(look, grid, rows.at, n)
-        & are_plain(look, grid, rows.up, n)
+    if !are_plain(look, grid, rows.at, n) {
+        return false;
+    }
+    are_plain(look, grid, rows.up, n)
         & are_plain(look, grid, rows.down, n)
         & are_plain(look, grid, rows.back, n)
         & are_plain(look, grid, rows.forward, n)

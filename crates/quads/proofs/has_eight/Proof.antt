@@ -18,7 +18,7 @@ word-of-requires c κs = search needs
 moved-word-requires : tie.Need-moved-word-requires
 moved-word-requires c κs =
     let t = c .before .before .before in
-    (rw (c .word-of .ensures) (t .pre .0 .placed (t .args .vertex) 0 (t .pre .1) (omega arith)), omega arith, finite-x (t .pre .0))
+    (rw (c .word-of .ensures) (t .pre .0 .placed (t .args .corner) 0 (t .pre .1) (omega arith)), omega arith, finite-x (t .pre .0))
 
 word-of-requires-2 : tie.Need-word-of-requires-2
 word-of-requires-2 c κs = search needs
@@ -26,7 +26,7 @@ word-of-requires-2 c κs = search needs
 moved-word-requires-2 : tie.Need-moved-word-requires-2
 moved-word-requires-2 c κs =
     let t = c .before .before .before .before .before in
-    (rw (c .word-of2 .ensures) (t .pre .0 .placed (t .args .vertex) 1 (t .pre .1) (omega arith)), omega arith, finite-y (t .pre .0))
+    (rw (c .word-of2 .ensures) (t .pre .0 .placed (t .args .corner) 1 (t .pre .1) (omega arith)), omega arith, finite-y (t .pre .0))
 
 word-of-requires-3 : tie.Need-word-of-requires-3
 word-of-requires-3 c κs = search needs
@@ -34,7 +34,7 @@ word-of-requires-3 c κs = search needs
 moved-word-requires-3 : tie.Need-moved-word-requires-3
 moved-word-requires-3 c κs =
     let t = c .before .before .before .before .before .before .before in
-    (rw (c .word-of3 .ensures) (t .pre .0 .placed (t .args .vertex) 2 (t .pre .1) (omega arith)), omega arith, finite-z (t .pre .0))
+    (rw (c .word-of3 .ensures) (t .pre .0 .placed (t .args .corner) 2 (t .pre .1) (omega arith)), omega arith, finite-z (t .pre .0))
 
 word-of-requires-4 : tie.Need-word-of-requires-4
 word-of-requires-4 c κs = search needs
@@ -87,7 +87,7 @@ returns c = λ e.
     let four = and-true _ _ (five .0) in
     let three = and-true _ _ (four .0) in
     let two = and-true _ _ (three .0) in
-    eight-right (g .cube .now) (g .floats) (tripleOf (g .d)) (grid.tripleOf (g .at)) (g .vertex) (g .quad .now) (g .from)
+    eight-right (g .cube .now) (g .floats) (tripleOf (g .d)) (grid.tripleOf (g .at)) (g .corner) (g .quad .now) (g .from)
     (eqb-true _ _ (two .0) ∙ first .moved-word .ensures ∙ ap (λ (w : ℕ). movedWord w (g .at .x) (g .d .x)) (first .before .word-of .ensures))
     (eqb-true _ _ (two .1) ∙ second .moved-word2 .ensures ∙ ap (λ (w : ℕ). movedWord w (g .at .y) (g .d .y)) (second .before .word-of2 .ensures))
     (eqb-true _ _ (three .1) ∙ third .moved-word3 .ensures ∙ ap (λ (w : ℕ). movedWord w (g .at .z) (g .d .z)) (third .before .word-of3 .ensures))

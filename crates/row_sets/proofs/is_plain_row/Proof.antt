@@ -1,4 +1,6 @@
 -- `row_sets::is_plain_row` meets its contract. Assumes nothing.
+use mathlib.Core.Bool.{false≢true}
+use borrow.Author.Tests.{not-false}
 use Rattle.rules.proofs.ListLaws.{and-true}
 use Rattle.row_sets.proofs.Plain.{all-plain, plain-around}
 use borrow.Author.Needs.{needs}
@@ -16,6 +18,9 @@ cast-n c = search needs
 are-plain-requires : tie.Need-are-plain-requires
 are-plain-requires c κs = omega arith
 
+returns-2 : tie.Need-returns-2
+returns-2 c = λ e. absurd (false≢true e)
+
 are-plain-requires-2 : tie.Need-are-plain-requires-2
 are-plain-requires-2 c κs = omega arith
 
@@ -28,15 +33,15 @@ are-plain-requires-4 c κs = omega arith
 are-plain-requires-5 : tie.Need-are-plain-requires-5
 are-plain-requires-5 c κs = omega arith
 
-returns-2 : tie.Need-returns-2
-returns-2 c =
-    λ e. let s = c .before .before .before .before .before .before .before .before .before in
-    let four = and-true _ _ e in
-    let three = and-true _ _ (four .0) in
+returns-3 : tie.Need-returns-3
+returns-3 c =
+    λ e. let own = c .before .before .before .before in
+    let s = own .before .before .before .before .before .before in
+    let three = and-true _ _ e in
     let two = and-true _ _ (three .0) in
     let one = and-true _ _ (two .0) in
     plain-around (s .args .rows) (s .pre .0) (s .args .look) (now (s .args .grid))
-    (c .before .before .before .before .are-plain .ensures (one .0)) (c .before .before .before .are-plain2 .ensures (one .1)) (c .before .before .are-plain3 .ensures (two .1)) (c .before .are-plain4 .ensures (three .1)) (c .are-plain5 .ensures (four .1))
+    (own .before .are-plain .ensures (not-false _ (own .if2 .left))) (c .before .before .before .are-plain2 .ensures (one .0)) (c .before .before .are-plain3 .ensures (one .1)) (c .before .are-plain4 .ensures (two .1)) (c .are-plain5 .ensures (three .1))
 
 pub is-plain-row-spec : {M : Type 1} → statement M
 is-plain-row-spec =
@@ -45,8 +50,9 @@ is-plain-row-spec =
     returns
     cast-n
     are-plain-requires
+    returns-2
     are-plain-requires-2
     are-plain-requires-3
     are-plain-requires-4
     are-plain-requires-5
-    returns-2)
+    returns-3)
