@@ -6,7 +6,7 @@ use mathlib.Core.List.{List, [], _∷_, _++_, map}
 use mathlib.Core.Option.{none, some}
 use Prim.Native.Nat.{ℕ, zero, suc, _+_, _-_, _*_, _/_, _%_, _≤_, _<_, max}
 use native.Mathlib.Omega.{arith}
-use lib.Dec.{eqb}
+use lib.Dec.{eqb, ltb}
 use lib.ListN.{length, getD, set, length-append, length-set}
 use lib.Seq.{getD-set-same, getD-set-other}
 use borrow.Author.Tests.{eqb-true, eqb-false, eq-eqb, ne-eqb, lt-ltb, le-ltb}
@@ -14,19 +14,20 @@ use Rattle.rules.specs.Lists.{each}
 use Rattle.rules.specs.Cells.{UNIT, keyOf, opposite, has, onlyIf}
 use Rattle.rules.specs.Mesh.{Quad, NONE, slotOf, listsOf}
 use Rattle.rules.specs.Update.{Entry, step, movedIn, highest}
-use Rattle.rules.proofs.ListLaws.{All, within, split, not-true, not-false, length-table, each-same, each-split}
+use Rattle.rules.proofs.ListLaws.{All, within, split, length-table, each-same, each-split}
 use Rattle.rules.proofs.Quads.{moved-le}
 use Rattle.rules.proofs.Laying.{length-links}
 use Rattle.mesh_metadata.specs.Index.{Linked, vertexOf}
 use Rattle.mesh_metadata.proofs.Layouts as layouts
 use Rattle.steps.specs.Steps.{Step, came, CUT, stepIn, stepAt, stepsIn, Deed, show, hide, quadBy, opOf, opsOf}
+use Rattle.steps.proofs.Replaying.{highest-ge}
 use Rattle.works.specs.declared.Work.{Work}
 use Rattle.works.specs.Sets.{setIn, spotIn, spotsAt, spotsBy, act, asked, deedBy, deedAt, deeds}
 use Rattle.works.specs.declared.Spot.{Spot}
 use Rattle.works.proofs.Meant.{idle}
 use Rattle.indexing.specs.declared.Tally.{Tally}
 use Rattle.indexing.specs.Index.{Index, indexOf, slotIn, goneAt, cameAt, indexOne, indexRun, bookOf, Good, Ready, Removable, Drawable}
-use Rattle.indexing.proofs.Booking.{highest-ge, sane-one, one-booked}
+use Rattle.indexing.proofs.Booking.{sane-one, one-booked}
 
 pub same-index : {l l′ s s′ : List ℕ} {q q′ v v′ h h′ : ℕ} {x x′ : List Step} → l ≡ l′ → s ≡ s′ → q ≡ q′ → v ≡ v′ → h ≡ h′ → x ≡ x′
     → _≡_ {A = Index} (record { links = l; slots = s; quads = q; moved = v; top = h; steps = x }) (record { links = l′; slots = s′; quads = q′; moved = v′; top = h′; steps = x′ })
@@ -94,33 +95,32 @@ pub some-told : (w v : ℕ) → vertexOf w ≡ some v → (w ≡ NONE → ⊥) �
 some-told w v = split (λ b. eqb w NONE ≡ b → onlyIf (not b) w ≡ some v → (w ≡ NONE → ⊥) × (w ≡ v)) (eqb w NONE)
     (λ t e r. absurd (let z : _≡_ {A = ℕ} 0 1 = cc in omega arith)) (λ t e r. (eqb-false w NONE e, cc)) refl
 
-pub hide-none : (k : ℕ) (B : Index) → slotIn B k ≡ NONE → indexOne (hide k) B ≡ B
-unfolding indexOne
-hide-none k B e = rw (eq-eqb (slotIn B k) NONE e)
+-- what the mark tells
+pub shows : (k mark : ℕ) → mark < CUT → deedBy k mark ≡ show k mark
+shows k mark l = rw (lt-ltb mark CUT l)
 
-pub hide-one : (k : ℕ) (B : Index) → (slotIn B k ≡ NONE → ⊥) → indexOne (hide k) B ≡ goneAt (slotIn B k / 4) B
-unfolding indexOne
-hide-one k B d = rw (ne-eqb (slotIn B k) NONE d)
+pub hides : (k mark : ℕ) → CUT ≤ mark → deedBy k mark ≡ hide k
+hides k mark l = rw (le-ltb mark CUT l)
 
-pub show-there : (k t : ℕ) (B : Index) → (slotIn B k ≡ NONE → ⊥) → indexOne (show k t) B ≡ B
-unfolding indexOne
-show-there k t B d = rw (ne-eqb (slotIn B k) NONE d)
+pub key-good : (k mark : ℕ) (words : ℕ → ℕ → List ℕ) (n s : ℕ) → Good words n s (deedBy k mark) → k < n
+key-good k mark words n s = split (λ b. Good words n s (cond b (show k mark) (hide k)) → k < n) (ltb mark CUT) (λ e g. g .0) (λ e g. g)
 
-pub show-new : (k t : ℕ) (B : Index) → slotIn B k ≡ NONE → indexOne (show k t) B ≡ cameAt k t B
-unfolding indexOne
-show-new k t B e = rw (eq-eqb (slotIn B k) NONE e)
+module _ (k mark : ℕ) (B : Index) where
+  pub draws : mark < CUT → slotIn B k ≡ NONE → cameAt k mark B ≡ indexOne (deedBy k mark) B
+  unfolding indexOne
+  draws l e = rw (lt-ltb mark CUT l, eq-eqb (slotIn B k) NONE e)
 
-pub filled-no : (w : ℕ) → not (eqb w NONE) ≡ false → w ≡ NONE
-filled-no w e = eqb-true w NONE (not-true (eqb w NONE) e)
+  pub stands : mark < CUT → (slotIn B k ≡ NONE → ⊥) → B ≡ indexOne (deedBy k mark) B
+  unfolding indexOne
+  stands l d = rw (lt-ltb mark CUT l, ne-eqb (slotIn B k) NONE d)
 
-pub filled-yes : (w : ℕ) → not (eqb w NONE) ≡ true → w ≡ NONE → ⊥
-filled-yes w e = eqb-false w NONE (not-false (eqb w NONE) e)
+  pub lacks : CUT ≤ mark → slotIn B k ≡ NONE → B ≡ indexOne (deedBy k mark) B
+  unfolding indexOne
+  lacks l e = rw (le-ltb mark CUT l, eq-eqb (slotIn B k) NONE e)
 
-pub filled-not : (w : ℕ) → vertexOf w ≡ none → false ≡ not (eqb w NONE)
-filled-not w e = rw (eq-eqb w NONE (none-told w e))
-
-pub filled-is : (w v : ℕ) → vertexOf w ≡ some v → true ≡ not (eqb w NONE)
-filled-is w v e = rw (ne-eqb w NONE (some-told w v e .0))
+  pub goes : CUT ≤ mark → (slotIn B k ≡ NONE → ⊥) → goneAt (slotIn B k / 4) B ≡ indexOne (deedBy k mark) B
+  unfolding indexOne
+  goes l d = rw (le-ltb mark CUT l, ne-eqb (slotIn B k) NONE d)
 
 pub removable : {space k : ℕ} {ds : List Deed} {B : Index} → Ready space (hide k ∷ ds) B → (slotIn B k ≡ NONE → ⊥) → Removable (slotIn B k / 4) B
 removable {k = k} {B = B} r d =
@@ -189,9 +189,9 @@ ready-step {d = d} {ds} {B} r =
     }
 
 pub drawable : (c f : ℕ) {space t : ℕ} {ds : List Deed} {B : Index} → Ready space (show (keyOf c f) t ∷ ds) B → slotIn B (keyOf c f) ≡ NONE → Drawable c (keyOf c f) B
-unfolding cameAt ready-step
+unfolding cameAt indexOne ready-step
 drawable c f {t = t} {B = B} r e =
-    let q : (indexOne (show (keyOf c f) t) B) .quads ≡ B .quads + 1 = ap (λ (I : Index). I .quads) (show-new (keyOf c f) t B e) in
+    let q : (indexOne (show (keyOf c f) t) B) .quads ≡ B .quads + 1 = rw (eq-eqb (slotIn B (keyOf c f)) NONE e) in
     let y = quads-are (ready-step r) in
     let k = ready-step r .sane in
     let low = k .reached in
@@ -351,10 +351,3 @@ deed-told b e set j f mark x h s a = ap (map (λ k. deedBy k mark)) s ∙ all (s
 
 pub no-deed : (b : List ℕ) (e : Entry) (set j f : ℕ) → has set f ≡ false → deedAt b e set j f ≡ []
 no-deed b e set j f h = ap (map (act e j f)) (idle b (e .cell) set j f h)
-
--- a deed, by what the mark tells
-pub spot-shows : (x : Spot) (k m : ℕ) → spotIn x ≡ k ∷ [] → m < CUT → map (λ k. deedBy k m) (spotIn x) ≡ show k m ∷ []
-spot-shows x k m e l = ap (map (λ k. deedBy k m)) e ∙ rw (lt-ltb m CUT l)
-
-pub spot-hides : (x : Spot) (k m : ℕ) → spotIn x ≡ k ∷ [] → CUT ≤ m → map (λ k. deedBy k m) (spotIn x) ≡ hide k ∷ []
-spot-hides x k m e l = ap (map (λ k. deedBy k m)) e ∙ rw (le-ltb m CUT l)

@@ -22,13 +22,13 @@ use Rattle.rules.proofs.Courses.{Sane, sane-step, highest-needed, run-le, fits-
 use Rattle.rules.proofs.Demands.{words-sized}
 use Rattle.mesh_metadata.proofs.Meshes as meshes
 use Rattle.steps.specs.Steps.{Step, Deed, stepsIn, Shelf, shelf, replayed, quadBy, opsOf, stepsOf, Can, Able}
-use Rattle.steps.proofs.Replaying.{can-run, replay-run}
+use Rattle.steps.proofs.Replaying.{replay-run}
 use Rattle.steps.specs.Rows.{wordsBy, Drawn, Replaying}
 use Rattle.works.specs.declared.Work.{Work}
 use Rattle.works.specs.Sets.{meant, setIn, besideOf, spotsAt, workIn, deeds, Cubes}
 use Rattle.works.proofs.Meant.{meant-work, meant-cubes, meant-few, deeds-ops}
 use Rattle.indexing.specs.Index.{Index, indexRun, bookOf, Good, Ready}
-use Rattle.indexing.specs.Room.{isFilled, quadsNeeded, Gridded}
+use Rattle.indexing.specs.Room.{isEmpty, quadsNeeded, Gridded}
 use Rattle.indexing.proofs.Sets.{spots-inside}
 use Rattle.indexing.proofs.Booking.{slot-none, run-booked}
 use Rattle.indexing.proofs.Doing.{all-few, ready-run}
@@ -111,14 +111,8 @@ module _ (tested : Tested) {S : Scene} {room : ℕ} {log vs₀ ls₀ ss₀ : Lis
           length-slots ∙ sym (ap length (g .holds .slots) ∙ length-table (slotOf (meshIn S vs₀ ls₀ Q)) (faces S)),
         )
 
-    told : (j : ℕ) → j < faces S → isFilled ss j ≡ there j m
-    told j l =
-        ap (λ (xs : List ℕ). isFilled xs j) (r .holds .slots)
-        ∙ ap not (slot-none (wordsBy (bare S)) (span S) room (faces S) ls₀ (g .words) grid-small m h sane j l) ∙ twice-not (there j m)
-      where
-        twice-not : (b : Bool) → not (not b) ≡ b
-        twice-not true = refl
-        twice-not false = refl
+    told : (j : ℕ) → j < faces S → isEmpty ss j ≡ not (there j m)
+    told j l = ap (λ (xs : List ℕ). isEmpty xs j) (r .holds .slots) ∙ slot-none (wordsBy (bare S)) (span S) room (faces S) ls₀ (g .words) grid-small m h sane j l
 
     module _ (lt : k < length log / 12) {e : Entry} (at : e ≡ entryAt log k) where
       pub run-inside : e .cell < cells (S .size)
@@ -241,6 +235,12 @@ module _ (tested : Tested) {S : Scene} {room : ℕ} {log vs₀ ls₀ ss₀ : Lis
           unfolding run-ready
           run-few = let z = ready-run ds run-ready .steps in omega arith
 
+          replayed-now : Can (Drawn (bare S)) room steps (length m) × (replayed (span S) (wordsBy (bare S)) steps (shelf (laid (span S) (λ q x. x .words) h m vs₀) (length m))
+              ≡ shelf (laid (span S) (λ q x. x .words) (highest h (opsOf (quadBy (wordsBy (bare S))) ds) m) (run (opsOf (quadBy (wordsBy (bare S))) ds) m) vs₀) (length (run (opsOf (quadBy (wordsBy (bare S))) ds) m)))
+          replayed-now =
+              replay-run (span S) (λ x. x .words) (wordsBy (bare S)) (Drawn (bare S)) (λ n t d. words-sized S t (n % 6) (n / 6)) room vs₀ (g .rows) ds m h
+              (meshes.all-map (λ x f i. f .1) m (sane .fits)) able (sane .reached) fits-deeds
+
           pub run-replaying : Replaying (bare S) (done .steps) (shelf vs q)
           run-replaying =
               let c = r .holds .count in
@@ -250,9 +250,11 @@ module _ (tested : Tested) {S : Scene} {room : ℕ} {log vs₀ ls₀ ss₀ : Lis
               let y = g .rows in
               record {
                 room = room;
-                shelved = record { within = g .within; fits = omega arith; here = omega arith };
+                within = g .within;
+                fits = omega arith;
+                here = omega arith;
                 can = subst (Can (Drawn (bare S)) room (done .steps)) (sym c)
-                    (subst (λ (ys : List Step). Can (Drawn (bare S)) room ys (length m)) (sym steps-are) (can-run (wordsBy (bare S)) (Drawn (bare S)) room ds m h able fits-deeds));
+                    (subst (λ (ys : List Step). Can (Drawn (bare S)) room ys (length m)) (sym steps-are) (replayed-now .0));
               }
 
           -- what the entry leaves
@@ -264,8 +266,7 @@ module _ (tested : Tested) {S : Scene} {room : ℕ} {log vs₀ ls₀ ss₀ : Lis
               let after : List Quad = run (ops (works k)) m in
               let rows = s
               ∙ (λ j. replayed (span S) (wordsBy (bare S)) (steps-are j) (shelf (r .holds .vertices j) (r .holds .count j)))
-              ∙ replay-run (span S) (λ x. x .words) (wordsBy (bare S)) (Drawn (bare S)) (λ n t d. words-sized S t (n % 6) (n / 6)) room vs₀ (g .rows) ds m h
-              (meshes.all-map (λ x f i. f .1) m (sane .fits)) able (sane .reached) fits-deeds
+              ∙ replayed-now .1
               ∙ (λ j. shelf (laid (span S) (λ q x. x .words) (highest h (as-ops j) m) (run (as-ops j) m) vs₀) (length (run (as-ops j) m))) in
               let few = entry-moves tested (world S) (entryAt log k) m in
               let old = r .moves in

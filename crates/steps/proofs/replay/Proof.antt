@@ -1,12 +1,12 @@
 -- `steps::replay` meets its contract. Assumes nothing.
 use mathlib.Core.Path.{sym, ap, _∙_, subst}
-use mathlib.Core.List.{[]}
+use mathlib.Core.List.{[], _∷_}
 use Prim.Native.Nat.{_-_}
 use native.Mathlib.Omega.{arith}
 use Rattle.rules.specs.Calls.{span}
 use Rattle.terms.specs.Scenes.{sceneOf}
 use Rattle.steps.specs.Steps.{Step, shelf, replayOne}
-use Rattle.steps.specs.Rows.{wordsBy, Stepping}
+use Rattle.steps.specs.Rows.{wordsBy, Replaying}
 use Rattle.steps.proofs.Turns.{Turning, start, this, turn, done}
 use Rattle.steps.proofs.replay.Statement.{statement}
 use Rattle.steps.proofs.replay.Tie as tie
@@ -32,7 +32,7 @@ replay-one-requires : tie.Need-replay-one-requires Inv-loop μ-loop
 replay-one-requires c κs =
     let l = c .before .before .before .loop in
     let t = c .before .before .before .before .before .before .before in (
-      subst (λ (x : Step). Stepping (sceneOf (t .args .scene) [] [] (t .args .cubes .now)) x (shelf (l .vertices) (l .left))) (sym (c .step-at .ensures))
+      subst (λ (x : Step). Replaying (sceneOf (t .args .scene) [] [] (t .args .cubes .now)) (x ∷ []) (shelf (l .vertices) (l .left))) (sym (c .step-at .ensures))
           (this (l .inv) (c .before .before .loop-test .taken)),
       t .pre .2,
     )
