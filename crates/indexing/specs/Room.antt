@@ -42,6 +42,6 @@ quadsNeeded slots c beside w Q = Q + total 6 0 (growthAt slots c beside w) - 6
 
 -- a cell and those beside it, whose slots are there
 pub record Gridded (c : ℕ) (beside : List ℕ) (slots : List ℕ) : Type 0 where
-  pub small : c < UNIT
+  pub small : length slots ≤ 6 * UNIT
   pub own : 6 * c + 6 ≤ length slots
-  pub next : (f : ℕ) → f < 6 → All (λ k. (k < length slots) × (k < 6 * UNIT)) (spotsAt beside c 1 f)
+  pub next : (f : ℕ) → f < 6 → All (λ k. k < length slots) (spotsAt beside c 1 f)

@@ -218,7 +218,7 @@ pub fn index_work(
 
 // Whether a spot is a face that has no quad.
 fn is_empty(slots: &[u32], spot: Spot) -> bool
-    requires { ⌜ All (λ k. (k < length (now slots)) × (k < 6 * UNIT)) (spotIn spot) ⌝ }
+    requires { ⌜ All (λ k. k < length (now slots)) (spotIn spot) × (length (now slots) ≤ 6 * UNIT) ⌝ }
     ensures { λ r. ⌜ r ≡ isEmptyAt (now (slots .entry)) (spotIn spot) ⌝ }
 {
     match spot {

@@ -1,13 +1,11 @@
--- The vertices through the steps, one after the other: what is left to do on what is there is the whole work on what was there. Assumes nothing.
-use mathlib.Core.Path.{_≡_, refl, sym, ap, _∙_, subst}
+-- The vertices through the steps, one after the other. Assumes nothing.
+use mathlib.Core.Path.{_≡_, refl}
 use mathlib.Core.Bool.{Bool, true, false}
-use mathlib.Core.List.{List, [], _∷_}
-use Prim.Native.Nat.{ℕ, suc, _+_, _-_, _*_, _/_, _%_, _≤_, _<_}
+use mathlib.Core.List.{List, [], _∷_, _++_}
+use Prim.Native.Nat.{ℕ, suc, _+_, _*_, _/_, _%_, _≤_, _<_}
 use native.Mathlib.Nat.{mul-le-mul-left}
-use native.Mathlib.Numerals.{add-one}
 use native.Mathlib.Omega.{arith}
 use lib.ListN.{length}
-use Rattle.rules.specs.Lists.{each}
 use Rattle.rules.specs.Cells.{cells, keyOf}
 use Rattle.rules.specs.Cube.{floatsOf}
 use Rattle.rules.specs.Calls.{Scene, world, span}
@@ -15,8 +13,9 @@ use Rattle.rules.proofs.Demands.{words-sized}
 use Rattle.util.specs.Grid.{Within}
 use Rattle.steps.specs.Rows.{Shaped}
 use Rattle.vav.proofs.Laws.{length-freed, length-put}
-use Rattle.steps.specs.Steps.{Step, gone, came, stepAt, stepsFrom, Shelf, replayOne, replayed}
-use Rattle.steps.specs.Rows.{wordsBy, Replaying}
+use Rattle.steps.specs.Steps.{Step, gone, came, Shelf, countAfter, replayOne, replayed, Can}
+use Rattle.steps.specs.Rows.{wordsBy, Drawn, Replaying}
+use Rattle.steps.proofs.Turning.{Piecewise}
 
 abbrev one : Scene → Step → Shelf → Shelf
 one S x v = replayOne (span S) (wordsBy S) x v
@@ -34,9 +33,6 @@ module _ {S : Scene} {xs : List Step} where
       let m = mul-le-mul-left (span S) c in
       length-put (span S * v .quads) (wordsBy S k t) (v .words) (omega (arith, words-sized S t (k % 6) (k / 6)))
 
-  first-of : {x : Step} {v : Shelf} → Replaying S (x ∷ xs) v → Replaying S (x ∷ []) v
-  first-of p = record { room = p .room; within = p .within; fits = p .fits; here = p .here; can = (p .can .0, tt) }
-
   rest-of : {x : Step} {v : Shelf} → Replaying S (x ∷ xs) v → Replaying S xs (one S x v)
   rest-of {x = gone q} p =
       let l = length-one p in
@@ -49,49 +45,23 @@ module _ {S : Scene} {xs : List Step} where
       let f = p .fits in
       record { room = p .room; within = p .within; fits = omega arith; here = omega arith; can = p .can .1 }
 
--- step i of n
-pub record Turning (S : Scene) (steps : List ℕ) (n i : ℕ) (v₀ v : Shelf) : Type 0 where
-  pub within : i ≤ n
-  pub left : Replaying S (stepsFrom i (n - i) steps) v
-  pub same : replayed (span S) (wordsBy S) (stepsFrom i (n - i) steps) v ≡ replayed (span S) (wordsBy S) (stepsFrom 0 n steps) v₀
-  pub kept : length (v .words) ≡ length (v₀ .words)
+abbrev pub runOf : Scene → List Step → Shelf → Shelf
+runOf S = replayed (span S) (wordsBy S)
 
-module _ {S : Scene} {steps : List ℕ} {n : ℕ} {v₀ : Shelf} where
-  pub start : Replaying S (stepsFrom 0 n steps) v₀ → Turning S steps n 0 v₀ v₀
-  start p =
-      let e : n ≡ n - 0 = omega arith in
-      record {
-        within = omega arith;
-        left = subst (λ (k : ℕ). Replaying S (stepsFrom 0 k steps) v₀) e p;
-        same = ap (λ (k : ℕ). replayed (span S) (wordsBy S) (stepsFrom 0 k steps) v₀) (sym e);
-        kept = refl;
-      }
+pub piecewise : (S : Scene) → Piecewise (runOf S) (Replaying S)
+piecewise S = record { joined = joined; front = λ a b v p. record { room = p .room; within = p .within; fits = p .fits; here = p .here; can = front (p .room) (v .quads) a b (p .can) }; rest = rest }
+  where
+    joined : (a b : List Step) (v : Shelf) → runOf S (a ++ b) v ≡ runOf S b (runOf S a v)
+    joined [] b v = refl
+    joined (x ∷ a) b v = joined a b (one S x v)
 
-  module _ {i : ℕ} {v : Shelf} (t : Turning S steps n i v₀ v) where
-    next : i < n → stepsFrom i (n - i) steps ≡ stepAt steps i ∷ stepsFrom (suc i) (n - suc i) steps
-    unfolding each
-    next l = let e : n - i ≡ suc (n - suc i) = omega arith in rw e
+    front : (R Q : ℕ) (a b : List Step) → Can (Drawn S) R (a ++ b) Q → Can (Drawn S) R a Q
+    front R Q [] b c = tt
+    front R Q (x ∷ a) b c = (c .0, front R (countAfter x Q) a b (c .1))
 
-    more : i < n → Replaying S (stepAt steps i ∷ stepsFrom (suc i) (n - suc i) steps) v
-    more l = subst (λ (xs : List Step). Replaying S xs v) (next l) (t .left)
-
-    pub this : i < n → Replaying S (stepAt steps i ∷ []) v
-    this l = first-of (more l)
-
-    pub turn : i < n → {w : Shelf} → w ≡ replayOne (span S) (wordsBy S) (stepAt steps i) v → Turning S steps n (i + 1) v₀ w
-    turn l {w} e =
-        subst (λ (j : ℕ). Turning S steps n j v₀ w) (sym (add-one i))
-        (subst (Turning S steps n (suc i) v₀) (sym e)
-        (record {
-          within = omega arith;
-          left = rest-of (more l);
-          same = sym (ap (λ (xs : List Step). replayed (span S) (wordsBy S) xs v) (next l)) ∙ t .same;
-          kept = length-one (more l) ∙ t .kept;
-        }))
-
-    pub done : n ≤ i → v ≡ replayed (span S) (wordsBy S) (stepsFrom 0 n steps) v₀
-    unfolding each
-    done l = let w = t .within in let e : n - i ≡ 0 = omega arith in rw e at (t .same)
+    rest : (a b : List Step) (v : Shelf) → Replaying S (a ++ b) v → Replaying S b (runOf S a v)
+    rest [] b v p = p
+    rest (x ∷ a) b v p = rest a b (one S x v) (rest-of p)
 
 -- ---- one step of either kind
 pub key-cell : (c f : ℕ) → f < 6 → keyOf c f / 6 ≡ c

@@ -1,10 +1,8 @@
 -- `indexing::growth` meets its contract. Assumes nothing.
 use mathlib.Core.Path.{_≡_, sym, ap, _∙_, subst}
-use mathlib.Core.List.{List}
-use Prim.Native.Nat.{ℕ, _*_, _<_}
+use Prim.Native.Nat.{ℕ, _<_}
 use native.Mathlib.Omega.{arith}
 use lib.ListN.{length, getD}
-use Rattle.rules.specs.Cells.{UNIT}
 use Rattle.rules.proofs.ListLaws.{All}
 use Rattle.face.specs.Face.{number}
 use Rattle.face.proofs.Laws.{number-below}
@@ -18,8 +16,7 @@ is-empty-requires : tie.Need-is-empty-requires
 is-empty-requires c κs =
     let f = number-below (c .before .args .face) in
     let o = c .before .pre .own in
-    let s = c .before .pre .small in
-    ((omega arith, omega arith), tt)
+    ((omega arith, tt), c .before .pre .small)
 
 array-read-spot-at : tie.Need-array-read-spot-at
 array-read-spot-at c = omega (arith, c .before .number .ensures, number-below (c .before .before .before .before .before .args .face))
@@ -32,7 +29,7 @@ spot c =
 is-empty-requires-2 : tie.Need-is-empty-requires-2
 is-empty-requires-2 c κs =
     let t = c .before .before .before .before .before .before in
-    subst (All (λ k. (k < length (t .args .slots .now)) × (k < 6 * UNIT))) (sym (spot c)) (t .pre .next (number (t .args .face)) (number-below (t .args .face)))
+    (subst (All (λ k. k < length (t .args .slots .now))) (sym (spot c)) (t .pre .next (number (t .args .face)) (number-below (t .args .face))), t .pre .small)
 
 returns : tie.Need-returns
 unfolding growthAt

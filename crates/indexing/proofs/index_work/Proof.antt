@@ -7,14 +7,15 @@ use Rattle.rules.specs.Lists.{each}
 use Rattle.entries.specs.Log.{entryIn}
 use Rattle.works.specs.Sets.{setIn, deedAt}
 use Rattle.indexing.specs.Index.{indexOf, indexRun, Ready}
-use Rattle.indexing.proofs.Doing.{Turning, start, this, turn, done}
+use Rattle.steps.proofs.Turning.{Turning, start, this, turn, done}
+use Rattle.indexing.proofs.Doing.{piecewise}
 use borrow.Author.Needs.{needs}
 use Rattle.indexing.proofs.index_work.Statement.{statement}
 use Rattle.indexing.proofs.index_work.Tie as tie
 
 abbrev Inv-loop : tie.InvT-loop
 Inv-loop links₀ slots₀ steps₀ beside entry work left₀ part₀ links slots steps left part =
-    Turning (length steps₀) 4 (λ j. each 6 0 (deedAt beside (entryIn entry) (setIn work j) j)) part (indexOf links₀ slots₀ steps₀ left₀) (indexOf links slots steps left)
+    Turning indexRun (Ready (length steps₀)) 4 (λ j. each 6 0 (deedAt beside (entryIn entry) (setIn work j) j)) part (indexOf links₀ slots₀ steps₀ left₀) (indexOf links slots steps left)
     × (length links ≡ length links₀) × (length slots ≡ length slots₀) × (length steps ≡ length steps₀)
 
 abbrev μ-loop : tie.MeasureT-loop
@@ -34,7 +35,7 @@ index-part-requires c κs =
     let n = sym (l .inv .3) in (
       subst (λ (n : ℕ). n < 64) e (t .pre .0 (l .part)),
       subst (λ (x : ℕ × ℕ). Ready (x .0) (each 6 0 (deedAt (a .beside) (entryIn (a .entry)) (x .1) (l .part))) (indexOf (l .links) (l .slots) (l .steps) (l .left)))
-          (λ j. (n j, e j)) (this (l .inv .0) (i .loop-test .taken)),
+          (λ j. (n j, e j)) (this (l .inv .0) (piecewise _) (i .loop-test .taken)),
     )
 
 loop-again : tie.Need-loop-again Inv-loop μ-loop
@@ -44,7 +45,7 @@ loop-again c =
     let i = set .before in
     let l = i .before .loop in
     let a = i .before .before .before .before .before .args in (
-      turn (l .inv .0) (i .loop-test .taken)
+      turn (l .inv .0) (piecewise _) (i .loop-test .taken)
           (went .index-part .ensures
           ∙ ap (λ (n : ℕ). indexRun (each 6 0 (deedAt (a .beside) (entryIn (a .entry)) n (l .part))) (indexOf (l .links) (l .slots) (l .steps) (l .left))) (set .set-of .ensures)),
       went .index-part .kept .0 ∙ l .inv .1,
@@ -53,7 +54,7 @@ loop-again c =
     )
 
 returns : tie.Need-returns Inv-loop μ-loop
-returns c = done (c .before .loop .inv .0) (c .loop-test .left)
+returns c = done (c .before .loop .inv .0) (λ s. refl) (c .loop-test .left)
 
 pub index-work-spec : {M : Type 1} → statement M
 index-work-spec =

@@ -1,10 +1,10 @@
 -- `indexing::is_empty` meets its contract: VIVI tells it. Assumes nothing.
 use mathlib.Core.Path.{_≡_, sym, ap, _∙_, subst}
-use Prim.Native.Nat.{ℕ, _*_, _<_}
+use Prim.Native.Nat.{ℕ, _<_}
 use native.Mathlib.Omega.{arith}
 use lib.ListN.{length, getD}
 use borrow.Author.Tests.{eq-eqb, ne-eqb}
-use Rattle.rules.specs.Cells.{UNIT, keyOf}
+use Rattle.rules.specs.Cells.{keyOf}
 use Rattle.rules.specs.Mesh.{NONE}
 use Rattle.rules.proofs.ListLaws.{All}
 use Rattle.face.specs.Face.{number}
@@ -26,9 +26,9 @@ slot c = let x = c .spot .given .0 in getD (c .before .before .before .args .slo
 get-quad-index-requires : tie.Need-get-quad-index-requires
 get-quad-index-requires c κs =
     let t = c .before .before .before .before in
-    let k = subst (λ (x : Spot). All (λ k. (k < length (t .args .slots .now)) × (k < 6 * UNIT)) (spotIn x)) (c .before .spot .given .1) (t .pre) in
-    let a = k .0 .1 in
-    (omega arith, k .0 .0)
+    let k = subst (λ (x : Spot). All (λ k. k < length (t .args .slots .now)) (spotIn x)) (c .before .spot .given .1) (t .pre .0) in
+    let a = k .0 in
+    (omega (arith, t .pre .1), k .0)
 
 returns : tie.Need-returns
 returns c = at-spot (c .before .before .before) (c .enum-told .given .1)
