@@ -4,7 +4,7 @@ use mathlib.Core.Bool.{cond, not}
 use mathlib.Core.List.{List, [], _∷_, _++_, map}
 use lib.ListN.{getD}
 use lib.Dec.{ltb}
-use Rattle.rules.specs.Lists.{each, only}
+use Rattle.rules.specs.Lists.{table, only}
 use Rattle.rules.specs.Mesh.{Quad, there, placeOf}
 use Rattle.rules.specs.Update.{remove, draw, Op, put, cut}
 use Rattle.vav.specs.Rows as rows
@@ -25,12 +25,9 @@ stepIn a b = cond (ltb b CUT) (came a b) (gone a)
 abbrev pub stepAt : List ℕ → ℕ → Step
 stepAt xs i = stepIn (getD xs (2 * i) 0) (getD xs (2 * i + 1) 0)
 
--- steps i, i + 1, .., n of them
-abbrev pub stepsFrom : ℕ → ℕ → List ℕ → List Step
-stepsFrom i n xs = each n i (λ k. stepAt xs k ∷ [])
-
+-- the first n steps
 abbrev pub stepsIn : ℕ → List ℕ → List Step
-stepsIn n xs = stepsFrom 0 n xs
+stepsIn n xs = table n (stepAt xs)
 
 -- ---- on a list of s words a quad
 

@@ -67,12 +67,6 @@ told c =
 loop-holds : tie.Need-loop-holds Inv-loop μ-loop
 loop-holds c = let t = c .before .before .before in (start (t .pre .1), left-start (t .pre .0), t .pre .0, refl, refl, refl)
 
-add-face-at : tie.Need-add-face-at Inv-loop μ-loop
-add-face-at c = omega (arith, below c)
-
-face-at-requires : tie.Need-face-at-requires Inv-loop μ-loop
-face-at-requires c κs = below c
-
 do-deed-requires : tie.Need-do-deed-requires Inv-loop μ-loop
 do-deed-requires c κs =
     let i = c .before .before .before .before .before .before in
@@ -82,18 +76,6 @@ do-deed-requires c κs =
 
 abbrev into : tie.After-slice-known6 Inv-loop μ-loop → tie.In-loop Inv-loop μ-loop
 into c = c .before .before .before .before .before .before .before .before .before .before .before .before .before
-
-add-f : tie.Need-add-f Inv-loop μ-loop
-add-f c = omega (arith, below (into c))
-
-add-f-2 : tie.Need-add-f-2 Inv-loop μ-loop
-add-f-2 c = omega (arith, below (into c))
-
-cast-rest : tie.Need-cast-rest Inv-loop μ-loop
-cast-rest c = omega (arith, below (into c))
-
-shr-rest : tie.Need-shr-rest Inv-loop μ-loop
-shr-rest c = omega (arith, below (into c))
 
 loop-less : tie.Need-loop-less Inv-loop μ-loop
 loop-less c =
@@ -126,6 +108,6 @@ returns c =
 pub index-part-spec : {M : Type 1} → statement M
 index-part-spec =
     tie.close
-    (tie.spec Inv-loop μ-loop loop-holds add-face-at face-at-requires (λ c. omega (arith, below (c .before))) (λ c. omega (arith, below (c .before)))
-    (λ c. omega (arith, below (c .before))) (λ c. below (c .before)) (λ c κs. search needs) (λ c κs. search needs) do-deed-requires add-f add-f-2
-    cast-rest shr-rest loop-less loop-again (λ c. c .before .loop .inv .3) (λ c. c .before .loop .inv .4) (λ c. c .before .loop .inv .5) returns)
+    (tie.spec Inv-loop μ-loop loop-holds (λ c. omega (arith, below c)) (λ c κs. below c) (λ c. omega (arith, below (c .before))) (λ c. omega (arith, below (c .before)))
+    (λ c. omega (arith, below (c .before))) (λ c. below (c .before)) (λ c κs. search needs) (λ c κs. search needs) do-deed-requires (λ c. omega (arith, below (into c))) (λ c. omega (arith, below (into c)))
+    (λ c. omega (arith, below (into c))) (λ c. omega (arith, below (into c))) loop-less loop-again (λ c. c .before .loop .inv .3) (λ c. c .before .loop .inv .4) (λ c. c .before .loop .inv .5) returns)

@@ -21,9 +21,6 @@ Inv-loop links₀ slots₀ steps₀ beside entry work left₀ part₀ links slot
 abbrev μ-loop : tie.MeasureT-loop
 μ-loop links₀ slots₀ steps₀ beside entry work left₀ part₀ links slots steps left part = 4 - part
 
-loop-holds : tie.Need-loop-holds Inv-loop μ-loop
-loop-holds c = (start (c .before .before .before .pre .1), refl, refl, refl)
-
 index-part-requires : tie.Need-index-part-requires Inv-loop μ-loop
 index-part-requires c κs =
     let set = c .before .before .before in
@@ -53,11 +50,8 @@ loop-again c =
       went .index-part .kept .1 .1 .0 ∙ l .inv .3,
     )
 
-returns : tie.Need-returns Inv-loop μ-loop
-returns c = done (c .before .loop .inv .0) (λ s. refl) (c .loop-test .left)
-
 pub index-work-spec : {M : Type 1} → statement M
 index-work-spec =
     tie.close
-    (tie.spec Inv-loop μ-loop loop-holds (λ c κs. search needs) index-part-requires (λ c. omega arith) (λ c. omega arith) loop-again (λ c. c .before .loop .inv .1)
-    (λ c. c .before .loop .inv .2) (λ c. c .before .loop .inv .3) returns)
+    (tie.spec Inv-loop μ-loop (λ c. (start (c .before .before .before .pre .1), refl, refl, refl)) (λ c κs. search needs) index-part-requires (λ c. omega arith) (λ c. omega arith) loop-again (λ c. c .before .loop .inv .1)
+    (λ c. c .before .loop .inv .2) (λ c. c .before .loop .inv .3) (λ c. done (c .before .loop .inv .0) (λ s. refl) (c .loop-test .left)))

@@ -30,9 +30,6 @@ get-quad-index-requires c κs =
     let a = k .0 in
     (omega (arith, t .pre .1), k .0)
 
-returns : tie.Need-returns
-returns c = at-spot (c .before .before .before) (c .enum-told .given .1)
-
 returns-2 : tie.Need-returns-2
 returns-2 c =
     let met = c .before .before .before .before in
@@ -48,4 +45,4 @@ returns-3 c =
 pub is-empty-spec : {M : Type 1} → statement M
 is-empty-spec =
     tie.close
-    (tie.spec (λ c. search needs) (λ c. search needs) get-quad-index-requires (λ c. search needs) (λ c. search needs) returns returns-2 returns-3)
+    (tie.spec (λ c. search needs) (λ c. search needs) get-quad-index-requires (λ c. search needs) (λ c. search needs) (λ c. at-spot (c .before .before .before) (c .enum-told .given .1)) returns-2 returns-3)

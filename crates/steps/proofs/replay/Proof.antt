@@ -21,9 +21,6 @@ Inv-loop vertices₀ scene cubes inverse steps n count left₀ i₀ vertices lef
 abbrev μ-loop : tie.MeasureT-loop
 μ-loop vertices₀ scene cubes inverse steps n count left₀ i₀ vertices left i = n - i
 
-loop-holds : tie.Need-loop-holds Inv-loop μ-loop
-loop-holds c = (start (c .before .before .before .pre .1), refl)
-
 step-at-requires : tie.Need-step-at-requires Inv-loop μ-loop
 step-at-requires c κs =
     let t = c .before .before .before .before .before .before in
@@ -53,13 +50,7 @@ loop-again c =
       went .replay-one .kept .0 ∙ l .inv .1,
     )
 
-same-length : tie.Need-same-length Inv-loop μ-loop
-same-length c = c .before .loop .inv .1
-
-returns : tie.Need-returns Inv-loop μ-loop
-returns c = done (c .before .loop .inv .0) (λ s. refl) (c .loop-test .left)
-
 pub replay-spec : {M : Type 1} → statement M
 replay-spec =
     tie.close
-    (tie.spec Inv-loop μ-loop loop-holds step-at-requires replay-one-requires (λ c. omega arith) (λ c. omega arith) loop-again same-length returns)
+    (tie.spec Inv-loop μ-loop (λ c. (start (c .before .before .before .pre .1), refl)) step-at-requires replay-one-requires (λ c. omega arith) (λ c. omega arith) loop-again (λ c. c .before .loop .inv .1) (λ c. done (c .before .loop .inv .0) (λ s. refl) (c .loop-test .left)))
