@@ -2,7 +2,7 @@
 use mathlib.Core.Path.{_≡_, refl, sym, ap, _∙_, subst}
 use mathlib.Core.Bool.{Bool, true, false, not, _&&_, _||_, false≢true}
 use Prim.Native.Nat.{ℕ, _+_, _-_, _/_, _%_, _^_, _≤_, _<_}
-use native.Mathlib.Nat.{zero-div, div-eq-of-lt, div-le-self}
+use native.Mathlib.Nat.{div-eq-of-lt, div-le-self}
 use native.Mathlib.Omega.{arith}
 use lib.Count.{trailingZeros}
 use lib.Dec.{eqb, ltb, leb}
@@ -12,6 +12,7 @@ use Rattle.rules.specs.Lists.{every}
 use Rattle.rules.specs.Cells.{has}
 use Rattle.rules.proofs.ListLaws.{and-true, every-true, not-false}
 use Rattle.mesh_metadata.proofs.Slots.{order}
+use Rattle.works.proofs.Meant.{zero-has}
 use mathlib.Core.Logic.{⊎-elim}
 
 -- ---- the sides of a set, from the lowest on
@@ -46,13 +47,10 @@ pub record Left (set f rest : ℕ) : Type 0 where
 pub left-start : {set : ℕ} → set < 64 → Left set 0 set
 left-start {set} h = record { few = h; told = λ i. let z : i ≡ 0 + i = omega arith in ap (has set) z }
 
-has-none : (i : ℕ) → has 0 i ≡ false
-has-none i = rw (zero-div (2 ^ i))
-
 pub left-none : {set f rest : ℕ} → Left set f rest → rest ≡ 0 → (k : ℕ) → f ≤ k → has set k ≡ false
 left-none {set} {f} {rest} l e k h =
     let z : f + (k - f) ≡ k = omega arith in
-    sym (ap (has set) z) ∙ sym (l .told (k - f)) ∙ ap (λ (n : ℕ). has n (k - f)) e ∙ has-none (k - f)
+    sym (ap (has set) z) ∙ sym (l .told (k - f)) ∙ ap (λ (n : ℕ). has n (k - f)) e ∙ zero-has (k - f)
 
 module _ {set f rest : ℕ} (l : Left set f rest) (d : rest ≡ 0 → ⊥) {z : ℕ} (e : z ≡ trailingZeros 8 rest) where
   found : Low rest z

@@ -1,6 +1,6 @@
 -- The index of a mesh through deeds: it stays the index of the quads, and the steps are those of the run. Assumes nothing.
 use mathlib.Core.Path.{_≡_, refl, sym, ap, _∙_}
-use mathlib.Core.Bool.{Bool, true, false, cond, not}
+use mathlib.Core.Bool.{true, false, cond, not}
 use mathlib.Core.List.{List, [], _∷_, _++_, append-nil, append-assoc}
 use Prim.Native.Nat.{ℕ, suc, _+_, _*_, _/_, _≤_, _<_, max}
 use native.Mathlib.Omega.{arith}
@@ -10,24 +10,16 @@ use borrow.Author.Tests.{ne-eqb}
 use Rattle.rules.specs.Lists.{table, only}
 use Rattle.rules.specs.Cells.{linkOf, firstVertex}
 use Rattle.rules.specs.Mesh.{Quad, NONE, there, placeOf, laid, slotOf, listsOf}
-use Rattle.rules.specs.Update.{removeAt, remove, movedBy, moved, Op, put, cut, step, run, movedIn, moves, highest, ops}
-use Rattle.rules.proofs.ListLaws.{All, all-append, split, getD-table}
-use Rattle.rules.proofs.Quads.{placed, length-removeAt, run-once}
-use Rattle.rules.proofs.Laying.{Fits, Sized}
-use Rattle.rules.proofs.Courses.{Sane, fits-ops}
+use Rattle.rules.specs.Update.{removeAt, remove, movedBy, moved, step, run, movedIn, moves, highest, ops, needed}
+use Rattle.rules.proofs.ListLaws.{All, split, getD-table}
+use Rattle.rules.proofs.Quads.{placed, length-removeAt}
+use Rattle.rules.proofs.Courses.{Sane, sane-step}
 use Rattle.vav.proofs.Laid.{remove-laid}
 use Rattle.mesh_metadata.proofs.Meshes as meshes
 use Rattle.mesh_metadata.proofs.Layouts as layouts
 use Rattle.steps.specs.Steps.{Step, gone, came, Deed, show, hide, quadBy, opOf, opsOf, stepsOf}
+use Rattle.steps.proofs.Replaying.{highest-ge}
 use Rattle.indexing.specs.Index.{goneAt, cameAt, indexOne, indexRun, bookOf, Good}
-
-pub highest-ge : (os : List Op) (h : ℕ) (m : List Quad) → h ≤ highest h os m
-highest-ge [] h m = omega arith
-highest-ge (o ∷ os) h m = let a = highest-ge os (max h (length (step o m))) (step o m) in omega arith
-
-link-sized : (m : List Quad) → Sized 1 (λ q x. linkOf (x .key) ∷ []) m
-link-sized [] = tt
-link-sized (x ∷ m) = (λ i. refl, link-sized m)
 
 module _ (words : ℕ → ℕ → List ℕ) (s R n : ℕ) (old : List ℕ) (long : R ≤ length old) (hn : n ≤ 1073741823) where
   abbrev quad : ℕ → ℕ → Quad
@@ -57,7 +49,7 @@ module _ (words : ℕ → ℕ → List ℕ) (s R n : ℕ) (old : List ℕ) (long
         let c = length-removeAt q m l in
         let r = k .reached in
         let t : h ≡ max h (length (removeAt q m)) = omega arith in
-        let a = remove-laid 1 (λ x. linkOf (x .key) ∷ []) h old m q (link-sized m) l r
+        let a = remove-laid 1 (λ x. linkOf (x .key) ∷ []) h old m q (meshes.all-map (λ x f i. refl) m (k .fits)) l r
         ∙ ap (λ (j : ℕ). laid 1 (λ q x. linkOf (x .key) ∷ []) j (removeAt q m) old) t in
         let b = meshes.slots-removed m (k .once) q l small n in
         λ i. record { links = a i; slots = b i; quads = sym c i; moved = v + movedBy (length m) q; top = t i; steps = xs ++ (gone q ∷ []) }
@@ -77,25 +69,9 @@ module _ (words : ℕ → ℕ → List ℕ) (s R n : ℕ) (old : List ℕ) (long
   -- what a deed leaves is sane
   pub sane-one : (d : Deed) → Good words n s d → (m : List Quad) (h : ℕ) → Sane n s R m h → length (step (opOf quad d) m) ≤ R
       → Sane n s R (step (opOf quad d) m) (max h (length (step (opOf quad d) m)))
-  unfolding ops
-  sane-one (show j t) f m h k fit =
-      let w = k .within in
-      record { fits = drawn (there j m); once = run-once (put (quad j t) ∷ []) m (k .once); reached = omega arith; within = omega arith }
-    where
-      drawn : (b : Bool) → All (Fits n s) (cond b m (m ++ (quad j t ∷ [])))
-      drawn true = k .fits
-      drawn false = all-append (Fits n s) m (quad j t ∷ []) (k .fits) (f, tt)
-  sane-one (hide j) l m h k fit =
-      let w = k .within in
-      record {
-        fits = fits-cut (fits-ops n s (record { own = j ∷ []; new = []; facing = [] }) m tt (k .fits));
-        once = run-once (cut j ∷ []) m (k .once);
-        reached = omega arith;
-        within = omega arith;
-      }
-    where
-      fits-cut : All (Fits n s) (run (ops (record { own = j ∷ []; new = []; facing = [] })) m) → All (Fits n s) (remove j m)
-      fits-cut f = f
+  unfolding ops needed
+  sane-one (show j t) f m h k fit = sane-step n s R (record { own = []; new = quad j t ∷ []; facing = [] }) m h k (f, tt) fit
+  sane-one (hide j) l m h k fit = sane-step n s R (record { own = j ∷ []; new = []; facing = [] }) m h k tt fit
 
   -- LAW: a deed on the index is the index of the deed done, and adds its step
   pub one-booked : (d : Deed) → Good words n s d → (m : List Quad) (h v : ℕ) (xs : List Step) → Sane n s R m h → length (step (opOf quad d) m) ≤ R

@@ -4,29 +4,32 @@ use mathlib.Core.Logic.{⊎-elim}
 use mathlib.Core.Bool.{Bool, true, false, cond, not}
 use mathlib.Core.List.{List, [], _∷_, _++_, map}
 use mathlib.Core.Option.{none, some}
-use Prim.Native.Nat.{ℕ, zero, suc, _+_, _-_, _*_, _/_, _%_, _≤_, _<_, max}
+use Prim.Native.Nat.{ℕ, zero, suc, _+_, _*_, _/_, _≤_, _<_, max}
 use native.Mathlib.Omega.{arith}
-use lib.Dec.{eqb}
+use lib.Dec.{eqb, ltb}
 use lib.ListN.{length, getD, set, length-append, length-set}
 use lib.Seq.{getD-set-same, getD-set-other}
 use borrow.Author.Tests.{eqb-true, eqb-false, eq-eqb, ne-eqb, lt-ltb, le-ltb}
 use Rattle.rules.specs.Lists.{each}
-use Rattle.rules.specs.Cells.{UNIT, keyOf, opposite, has, onlyIf}
+use Rattle.rules.specs.Cells.{UNIT, keyOf, has, onlyIf}
 use Rattle.rules.specs.Mesh.{Quad, NONE, slotOf, listsOf}
 use Rattle.rules.specs.Update.{Entry, step, movedIn, highest}
-use Rattle.rules.proofs.ListLaws.{All, within, split, not-true, not-false, length-table, each-same, each-split}
+use Rattle.rules.proofs.ListLaws.{All, within, split, length-table, each-same, each-split}
 use Rattle.rules.proofs.Quads.{moved-le}
 use Rattle.rules.proofs.Laying.{length-links}
 use Rattle.mesh_metadata.specs.Index.{Linked, vertexOf}
 use Rattle.mesh_metadata.proofs.Layouts as layouts
 use Rattle.steps.specs.Steps.{Step, came, CUT, stepIn, stepAt, stepsIn, Deed, show, hide, quadBy, opOf, opsOf}
+use Rattle.steps.proofs.Replaying.{highest-ge}
+use Rattle.steps.proofs.Turning.{Piecewise}
 use Rattle.works.specs.declared.Work.{Work}
-use Rattle.works.specs.Sets.{setIn, spotIn, spotsAt, spotsBy, act, asked, deedBy, deedAt, deeds}
+use Rattle.works.specs.Sets.{setIn, spotIn, spotsAt, act, asked, deedBy, deedAt, deeds}
 use Rattle.works.specs.declared.Spot.{Spot}
 use Rattle.works.proofs.Meant.{idle}
 use Rattle.indexing.specs.declared.Tally.{Tally}
 use Rattle.indexing.specs.Index.{Index, indexOf, slotIn, goneAt, cameAt, indexOne, indexRun, bookOf, Good, Ready, Removable, Drawable}
-use Rattle.indexing.proofs.Booking.{highest-ge, sane-one, one-booked}
+use Rattle.indexing.proofs.Sets.{asked-one}
+use Rattle.indexing.proofs.Booking.{sane-one, one-booked}
 
 pub same-index : {l l′ s s′ : List ℕ} {q q′ v v′ h h′ : ℕ} {x x′ : List Step} → l ≡ l′ → s ≡ s′ → q ≡ q′ → v ≡ v′ → h ≡ h′ → x ≡ x′
     → _≡_ {A = Index} (record { links = l; slots = s; quads = q; moved = v; top = h; steps = x }) (record { links = l′; slots = s′; quads = q′; moved = v′; top = h′; steps = x′ })
@@ -94,33 +97,32 @@ pub some-told : (w v : ℕ) → vertexOf w ≡ some v → (w ≡ NONE → ⊥) �
 some-told w v = split (λ b. eqb w NONE ≡ b → onlyIf (not b) w ≡ some v → (w ≡ NONE → ⊥) × (w ≡ v)) (eqb w NONE)
     (λ t e r. absurd (let z : _≡_ {A = ℕ} 0 1 = cc in omega arith)) (λ t e r. (eqb-false w NONE e, cc)) refl
 
-pub hide-none : (k : ℕ) (B : Index) → slotIn B k ≡ NONE → indexOne (hide k) B ≡ B
-unfolding indexOne
-hide-none k B e = rw (eq-eqb (slotIn B k) NONE e)
+-- what the mark tells
+pub shows : (k mark : ℕ) → mark < CUT → deedBy k mark ≡ show k mark
+shows k mark l = rw (lt-ltb mark CUT l)
 
-pub hide-one : (k : ℕ) (B : Index) → (slotIn B k ≡ NONE → ⊥) → indexOne (hide k) B ≡ goneAt (slotIn B k / 4) B
-unfolding indexOne
-hide-one k B d = rw (ne-eqb (slotIn B k) NONE d)
+pub hides : (k mark : ℕ) → CUT ≤ mark → deedBy k mark ≡ hide k
+hides k mark l = rw (le-ltb mark CUT l)
 
-pub show-there : (k t : ℕ) (B : Index) → (slotIn B k ≡ NONE → ⊥) → indexOne (show k t) B ≡ B
-unfolding indexOne
-show-there k t B d = rw (ne-eqb (slotIn B k) NONE d)
+pub key-good : (k mark : ℕ) (words : ℕ → ℕ → List ℕ) (n s : ℕ) → Good words n s (deedBy k mark) → k < n
+key-good k mark words n s = split (λ b. Good words n s (cond b (show k mark) (hide k)) → k < n) (ltb mark CUT) (λ e g. g .0) (λ e g. g)
 
-pub show-new : (k t : ℕ) (B : Index) → slotIn B k ≡ NONE → indexOne (show k t) B ≡ cameAt k t B
-unfolding indexOne
-show-new k t B e = rw (eq-eqb (slotIn B k) NONE e)
+module _ (k mark : ℕ) (B : Index) where
+  pub draws : mark < CUT → slotIn B k ≡ NONE → cameAt k mark B ≡ indexOne (deedBy k mark) B
+  unfolding indexOne
+  draws l e = rw (lt-ltb mark CUT l, eq-eqb (slotIn B k) NONE e)
 
-pub filled-no : (w : ℕ) → not (eqb w NONE) ≡ false → w ≡ NONE
-filled-no w e = eqb-true w NONE (not-true (eqb w NONE) e)
+  pub stands : mark < CUT → (slotIn B k ≡ NONE → ⊥) → B ≡ indexOne (deedBy k mark) B
+  unfolding indexOne
+  stands l d = rw (lt-ltb mark CUT l, ne-eqb (slotIn B k) NONE d)
 
-pub filled-yes : (w : ℕ) → not (eqb w NONE) ≡ true → w ≡ NONE → ⊥
-filled-yes w e = eqb-false w NONE (not-false (eqb w NONE) e)
+  pub lacks : CUT ≤ mark → slotIn B k ≡ NONE → B ≡ indexOne (deedBy k mark) B
+  unfolding indexOne
+  lacks l e = rw (le-ltb mark CUT l, eq-eqb (slotIn B k) NONE e)
 
-pub filled-not : (w : ℕ) → vertexOf w ≡ none → false ≡ not (eqb w NONE)
-filled-not w e = rw (eq-eqb w NONE (none-told w e))
-
-pub filled-is : (w v : ℕ) → vertexOf w ≡ some v → true ≡ not (eqb w NONE)
-filled-is w v e = rw (ne-eqb w NONE (some-told w v e .0))
+  pub goes : CUT ≤ mark → (slotIn B k ≡ NONE → ⊥) → goneAt (slotIn B k / 4) B ≡ indexOne (deedBy k mark) B
+  unfolding indexOne
+  goes l d = rw (le-ltb mark CUT l, ne-eqb (slotIn B k) NONE d)
 
 pub removable : {space k : ℕ} {ds : List Deed} {B : Index} → Ready space (hide k ∷ ds) B → (slotIn B k ≡ NONE → ⊥) → Removable (slotIn B k / 4) B
 removable {k = k} {B = B} r d =
@@ -189,9 +191,9 @@ ready-step {d = d} {ds} {B} r =
     }
 
 pub drawable : (c f : ℕ) {space t : ℕ} {ds : List Deed} {B : Index} → Ready space (show (keyOf c f) t ∷ ds) B → slotIn B (keyOf c f) ≡ NONE → Drawable c (keyOf c f) B
-unfolding cameAt ready-step
+unfolding cameAt indexOne ready-step
 drawable c f {t = t} {B = B} r e =
-    let q : (indexOne (show (keyOf c f) t) B) .quads ≡ B .quads + 1 = ap (λ (I : Index). I .quads) (show-new (keyOf c f) t B e) in
+    let q : (indexOne (show (keyOf c f) t) B) .quads ≡ B .quads + 1 = rw (eq-eqb (slotIn B (keyOf c f)) NONE e) in
     let y = quads-are (ready-step r) in
     let k = ready-step r .sane in
     let low = k .reached in
@@ -205,9 +207,9 @@ drawable c f {t = t} {B = B} r e =
     record { cell = omega arith; slot = omega arith; room = omega arith; few = omega arith }
 
 -- ---- runs
-ready-rest : {space : ℕ} (a : List Deed) {b : List Deed} {B : Index} → Ready space (a ++ b) B → Ready space b (indexRun a B)
-ready-rest [] r = r
-ready-rest (d ∷ a) r = ready-rest a (ready-step r)
+ready-rest : {space : ℕ} (a b : List Deed) (B : Index) → Ready space (a ++ b) B → Ready space b (indexRun a B)
+ready-rest [] b B r = r
+ready-rest (d ∷ a) b B r = ready-rest a b (indexOne d B) (ready-step r)
 
 pub ready-run : {space : ℕ} (ds : List Deed) {B : Index} → Ready space ds B → Ready space [] (indexRun ds B)
 ready-run [] r = r
@@ -222,8 +224,8 @@ all-front : (P : Deed → Type 0) (a b : List Deed) → All P (a ++ b) → All P
 all-front P [] b h = tt
 all-front P (o ∷ a) b h = (h .0, all-front P a b (h .1))
 
-ready-front : {space : ℕ} (a b : List Deed) {B : Index} → Ready space (a ++ b) B → Ready space a B
-ready-front a b r =
+ready-front : {space : ℕ} (a b : List Deed) (B : Index) → Ready space (a ++ b) B → Ready space a B
+ready-front a b B r =
     let f = r .fits in
     let t = highest-front (r .top) (r .words) a b (r .mesh) in
     let l = length-append a b in
@@ -251,84 +253,12 @@ run-append : (a b : List Deed) (B : Index) → indexRun (a ++ b) B ≡ indexRun 
 run-append [] b B = refl
 run-append (d ∷ a) b B = run-append a b (indexOne d B)
 
-none-each : (n i : ℕ) (p : ℕ → List Deed) → ((k : ℕ) → i ≤ k → k < i + n → p k ≡ []) → each n i p ≡ []
-unfolding each
-none-each zero i p h = refl
-none-each (suc n) i p h = rw (h i (omega arith) (omega arith)) (none-each n (suc i) p (λ k a b. h k (omega arith) (omega arith)))
-
--- ---- list by list of deeds, n of them: what is left to do on what is there is the whole on what was there
-pub record Turning (space n : ℕ) (p : ℕ → List Deed) (i : ℕ) (A B : Index) : Type 0 where
-  pub below : i ≤ n
-  pub left : indexRun (each (n - i) i p) B ≡ indexRun (each n 0 p) A
-  pub ready : Ready space (each (n - i) i p) B
-
-module _ {space n : ℕ} {p : ℕ → List Deed} where
-  pub start : {A : Index} → Ready space (each n 0 p) A → Turning space n p 0 A A
-  start {A} r =
-      let e : n ≡ n - 0 = omega arith in
-      record {
-        below = omega arith;
-        left = ap (λ (k : ℕ). indexRun (each k 0 p) A) (sym e);
-        ready = subst (λ (k : ℕ). Ready space (each k 0 p) A) e r;
-      }
-
-  module _ {i : ℕ} {A B : Index} (t : Turning space n p i A B) where
-    front : i < n → each (n - i) i p ≡ p i ++ each (n - (i + 1)) (i + 1) p
-    unfolding each
-    front h =
-        let a : n - i ≡ suc (n - (i + 1)) = omega arith in
-        let b : suc i ≡ i + 1 = omega arith in
-        ap (λ (k : ℕ). each k i p) a ∙ ap (λ (j : ℕ). p i ++ each (n - (i + 1)) j p) b
-
-    ready-now : i < n → Ready space (p i ++ each (n - (i + 1)) (i + 1) p) B
-    ready-now h = subst (λ (ds : List Deed). Ready space ds B) (front h) (t .ready)
-
-    pub this : i < n → Ready space (p i) B
-    this h = ready-front (p i) (each (n - (i + 1)) (i + 1) p) (ready-now h)
-
-    pub turn : i < n → {C : Index} → C ≡ indexRun (p i) B → Turning space n p (i + 1) A C
-    turn h {C} e =
-        let rest = each (n - (i + 1)) (i + 1) p in
-        record {
-          below = omega arith;
-          left = ap (indexRun rest) e ∙ sym (run-append (p i) rest B) ∙ sym (ap (λ (ds : List Deed). indexRun ds B) (front h)) ∙ t .left;
-          ready = subst (Ready space rest) (sym e) (ready-rest (p i) (ready-now h));
-        }
-
-    -- what asks for nothing is passed over
-    pub skip : {j : ℕ} → i ≤ j → j ≤ n → ((k : ℕ) → i ≤ k → k < j → p k ≡ []) → Turning space n p j A B
-    skip {j} a b nothing =
-        let s : n - i ≡ (j - i) + (n - j) = omega arith in
-        let e : i + (j - i) ≡ j = omega arith in
-        let same : each (n - i) i p ≡ each (n - j) j p =
-        ap (λ (k : ℕ). each k i p) s ∙ each-split (j - i) (n - j) i p
-        ∙ (λ y. none-each (j - i) i p (λ k c d. nothing k c (omega arith)) y ++ each (n - j) (e y) p) in
-        record {
-          below = b;
-          left = sym (ap (λ (ds : List Deed). indexRun ds B) same) ∙ t .left;
-          ready = subst (λ (ds : List Deed). Ready space ds B) same (t .ready);
-        }
-
-    pub done : n ≤ i → B ≡ indexRun (each n 0 p) A
-    unfolding each
-    done h =
-        let b = t .below in
-        let z : n - i ≡ 0 = omega arith in
-        sym (ap (λ (k : ℕ). indexRun (each k i p) B) z) ∙ t .left
+pub piecewise : (space : ℕ) → Piecewise indexRun (Ready space)
+piecewise space = record { joined = run-append; front = ready-front; rest = ready-rest }
 
 -- a part asks for one deed at a face, or none
 few-deeds : (b : List ℕ) (e : Entry) (set j f : ℕ) → length (deedAt b e set j f) ≤ 1
-unfolding asked
-few-deeds b e set j f = pick (has set f) (j % 2)
-  where
-    pick : (on : Bool) (n : ℕ) → length (map (act e j f) (cond on (spotsBy n (getD b f 0) (e .cell) f) [])) ≤ 1
-    pick false n = omega arith
-    pick true zero = omega arith
-    pick true (suc n) = found (eqb (getD b f 0) NONE)
-      where
-        found : (none : Bool) → length (map (act e j f) (cond none [] (keyOf (getD b f 0) (opposite f) ∷ []))) ≤ 1
-        found true = omega arith
-        found false = omega arith
+few-deeds b e set j f = asked-one b (e .cell) set j f (λ ks. length (map (act e j f) ks) ≤ 1) (omega arith) (λ k _. omega arith)
 
 each-few : (m n i : ℕ) (p : ℕ → List Deed) → ((k : ℕ) → length (p k) ≤ m) → length (each n i p) ≤ m * n
 unfolding each
@@ -343,18 +273,7 @@ all-few b e w = each-few 6 4 0 (λ j. each 6 0 (deedAt b e (setIn w j) j)) (λ j
 pub deed-told : (b : List ℕ) (e : Entry) (set j f mark : ℕ) (x : Spot) → has set f ≡ true → spotIn x ≡ spotsAt b (e .cell) j f → ((k : ℕ) → deedBy k mark ≡ act e j f k)
     → map (λ k. deedBy k mark) (spotIn x) ≡ deedAt b e set j f
 unfolding asked
-deed-told b e set j f mark x h s a = ap (map (λ k. deedBy k mark)) s ∙ all (spotsAt b (e .cell) j f) ∙ ap (λ (on : Bool). map (act e j f) (cond on (spotsAt b (e .cell) j f) [])) (sym h)
-  where
-    all : (ks : List ℕ) → map (λ k. deedBy k mark) ks ≡ map (act e j f) ks
-    all [] = refl
-    all (k ∷ ks) = let p = a k in let q = all ks in λ i. p i ∷ q i
+deed-told b e set j f mark x h s a = (λ i. map (λ k. a k i) (s i)) ∙ ap (λ (on : Bool). map (act e j f) (cond on (spotsAt b (e .cell) j f) [])) (sym h)
 
 pub no-deed : (b : List ℕ) (e : Entry) (set j f : ℕ) → has set f ≡ false → deedAt b e set j f ≡ []
 no-deed b e set j f h = ap (map (act e j f)) (idle b (e .cell) set j f h)
-
--- a deed, by what the mark tells
-pub spot-shows : (x : Spot) (k m : ℕ) → spotIn x ≡ k ∷ [] → m < CUT → map (λ k. deedBy k m) (spotIn x) ≡ show k m ∷ []
-spot-shows x k m e l = ap (map (λ k. deedBy k m)) e ∙ rw (lt-ltb m CUT l)
-
-pub spot-hides : (x : Spot) (k m : ℕ) → spotIn x ≡ k ∷ [] → CUT ≤ m → map (λ k. deedBy k m) (spotIn x) ≡ hide k ∷ []
-spot-hides x k m e l = ap (map (λ k. deedBy k m)) e ∙ rw (le-ltb m CUT l)

@@ -19,7 +19,7 @@ use Rattle.util.specs.Grid.{Within}
 use Rattle.works.specs.declared.Work.{Work}
 use Rattle.works.specs.Sets.{besideOf, asked, keysIn, workIn}
 use Rattle.works.proofs.Meant.{next, facing-is}
-use Rattle.indexing.specs.Room.{isFilled, goneSide, isEmptyAt, isBare, newSide, growthAt, total, quadsNeeded}
+use Rattle.indexing.specs.Room.{isEmpty, isEmptyAt, goneSide, bareSide, newSide, growthAt, total, quadsNeeded}
 use Rattle.indexing.proofs.Needed.{countIn, needed-is}
 use Rattle.indexing.proofs.Sets.{side-in, not-side, new-keys, own-apart, new-apart}
 
@@ -31,7 +31,7 @@ at-most (suc n) i g h = omega (arith, h i, at-most n (suc i) g h)
 
 pub grown-few : (slots : List ℕ) (c : ℕ) (beside : List ℕ) (w : Work) → total 6 0 (growthAt slots c beside w) ≤ 18
 unfolding growthAt
-grown-few slots c b w = at-most 6 0 (growthAt slots c b w) (λ f. omega (arith, one (not (goneSide slots c w f)), one (isBare slots c b (w .shown) f), one (newSide slots c w f)))
+grown-few slots c b w = at-most 6 0 (growthAt slots c b w) (λ f. omega (arith, one (not (goneSide slots c w f)), one (bareSide slots c b w f), one (newSide slots c w f)))
   where
     one : (b : Bool) → cond b 1 0 ≤ 1
     one true = omega arith
@@ -60,15 +60,16 @@ count-one : (p : ℕ → Bool) (b : Bool) (k : ℕ) → countIn p (cond b (k ∷
 count-one p true k = omega arith
 count-one p false k = refl
 
-either : (b : Bool) → cond b 1 0 + cond (not b) 1 0 ≡ 1
-either true = refl
-either false = refl
+either : (a b : Bool) → cond (a && b) 1 0 + cond (not (a && not (not b))) 1 0 ≡ 1
+either true true = refl
+either true false = refl
+either false b = refl
 
 goes : (a b : Bool) → not (cond a false b) ≡ (a || not b)
 goes true b = refl
 goes false b = refl
 
-module _ (m : List Quad) (W : World) (e : Entry) (w : Work) (slots : List ℕ) (told : (k : ℕ) → k < 6 * cells (W .size) → isFilled slots k ≡ there k m)
+module _ (m : List Quad) (W : World) (e : Entry) (w : Work) (slots : List ℕ) (told : (k : ℕ) → k < 6 * cells (W .size) → isEmpty slots k ≡ not (there k m))
     (inGrid : Within (W .size)) (inside : e .cell < cells (W .size)) where
   abbrev around : List ℕ
   around = besideOf (W .size) (e .cell)
@@ -80,7 +81,7 @@ module _ (m : List Quad) (W : World) (e : Entry) (w : Work) (slots : List ℕ) (
   abbrev bare : ℕ → Bool
   bare k = not (cond (member k own) false (there k m))
 
-  beside-bare : (f : ℕ) → f < 6 → countIn bare (asked around (e .cell) (w .shown) 1 f) ≡ cond (isBare slots (e .cell) around (w .shown) f) 1 0
+  beside-bare : (f : ℕ) → f < 6 → countIn bare (asked around (e .cell) (w .shown) 1 f) ≡ cond (bareSide slots (e .cell) around w f) 1 0
   unfolding asked
   beside-bare f l =
       subst (λ (ks : List ℕ). countIn bare (cond (has (w .shown) f) ks []) ≡ cond (has (w .shown) f && isEmptyAt slots ks) 1 0)
@@ -107,7 +108,7 @@ module _ (m : List Quad) (W : World) (e : Entry) (w : Work) (slots : List ℕ) (
       let t = told k (omega arith) in
       let new : countIn bare (cond (has (w .drawn) f) (k ∷ []) []) ≡ cond (has (w .drawn) f && (has (w .own) f || not (there k m))) 1 0 =
       rw (count-one bare (has (w .drawn) f) k, side-in (e .cell) (has (w .own)) f l, goes (has (w .own) f) (there k m)) in
-      rw t (omega (arith, gone, either (has (w .own) f && there k m), beside-bare f l, new))
+      rw t (omega (arith, gone, either (has (w .own) f) (there k m), beside-bare f l, new))
 
   -- LAW: what the code counts is what the rule asks
   pub needed-counted : Once m → quadsNeeded slots (e .cell) around w (length m) ≡ needed (workIn W around e w) m

@@ -12,7 +12,7 @@ use Rattle.rules.specs.Lists.{each, only, member}
 use Rattle.rules.specs.Cells.{cells, has, opposite, neighbour, keyOf}
 use Rattle.rules.specs.Mesh.{Quad, World, NONE}
 use Rattle.rules.specs.Update.{Entry, givenAt, sides}
-use Rattle.rules.proofs.ListLaws.{All, all-each, all-only, each-same, members, read-one, read-none}
+use Rattle.rules.proofs.ListLaws.{All, all-each, all-only, each-same, split, members, read-one, read-none}
 use Rattle.rules.proofs.Neighbours.{beside, opposite-lt, opposite-twice}
 use Rattle.util.specs.Grid.{Within}
 use Rattle.steps.specs.Steps.{Deed}
@@ -40,31 +40,27 @@ pub not-side : (c k : ℕ) (p : ℕ → Bool) → (k / 6 ≡ c → ⊥) → memb
 not-side c k p d = read-none (members k) 6 0 (λ g. only (p g) (keyOf c g)) (λ g a b. not-only k (keyOf c g) (p g) (λ e. d (omega arith)))
 
 -- ---- the faces of a part: each tells its side
-abbrev sideOf : ℕ → ℕ → ℕ
+abbrev pub sideOf : ℕ → ℕ → ℕ
 sideOf zero k = k % 6
 sideOf (suc odd) k = opposite (k % 6)
 
-part-apart : (b : List ℕ) (c set j : ℕ) → Apart (each 6 0 (asked b c set j))
+-- at a side there is one, or none
+pub asked-one : (b : List ℕ) (c set j f : ℕ) (Q : List ℕ → Type 0) → Q [] → ((k : ℕ) → (f < 6 → sideOf (j % 2) k ≡ f) → Q (k ∷ [])) → Q (asked b c set j f)
 unfolding asked
-part-apart b c set j = apart-each (sideOf (j % 2)) (asked b c set j) (λ f. one f (has set f) (j % 2)) 6 0 (λ f _ l. side f (omega arith) (has set f) (j % 2))
+asked-one b c set j f Q idle one = pick (has set f) (j % 2) one
   where
-    one : (f : ℕ) (on : Bool) (p : ℕ) → Apart (cond on (spotsBy p (getD b f 0) c f) [])
-    one f false p = tt
-    one f true zero = (tt, tt)
-    one f true (suc p) = there (eqb (getD b f 0) NONE)
-      where
-        there : (none : Bool) → Apart (cond none [] (keyOf (getD b f 0) (opposite f) ∷ []))
-        there true = tt
-        there false = (tt, tt)
+    pick : (on : Bool) (n : ℕ) → ((k : ℕ) → (f < 6 → sideOf n k ≡ f) → Q (k ∷ [])) → Q (cond on (spotsBy n (getD b f 0) c f) [])
+    pick false n one = idle
+    pick true zero one = one (keyOf c f) (λ l. omega arith)
+    pick true (suc n) one =
+        split (λ t. Q (cond t [] (keyOf (getD b f 0) (opposite f) ∷ []))) (eqb (getD b f 0) NONE) (λ e. idle)
+        (λ e. one (keyOf (getD b f 0) (opposite f))
+        (λ l. let o = opposite-lt f l in let z : keyOf (getD b f 0) (opposite f) % 6 ≡ opposite f = omega arith in ap opposite z ∙ opposite-twice f))
 
-    side : (f : ℕ) → f < 6 → (on : Bool) (p : ℕ) → All (λ k. sideOf p k ≡ f) (cond on (spotsBy p (getD b f 0) c f) [])
-    side f l false p = tt
-    side f l true zero = (omega arith, tt)
-    side f l true (suc p) = there (eqb (getD b f 0) NONE)
-      where
-        there : (none : Bool) → All (λ k. opposite (k % 6) ≡ f) (cond none [] (keyOf (getD b f 0) (opposite f) ∷ []))
-        there true = tt
-        there false = let o = opposite-lt f l in let e : keyOf (getD b f 0) (opposite f) % 6 ≡ opposite f = omega arith in (ap opposite e ∙ opposite-twice f, tt)
+part-apart : (b : List ℕ) (c set j : ℕ) → Apart (each 6 0 (asked b c set j))
+part-apart b c set j =
+    apart-each (sideOf (j % 2)) (asked b c set j) (λ f. asked-one b c set j f Apart tt (λ k e. (tt, tt))) 6 0
+    (λ f _ l. asked-one b c set j f (All (λ k. sideOf (j % 2) k ≡ f)) tt (λ k e. (e (omega arith), tt)))
 
 keys-back : (W : World) (t : ℕ) (ks : List ℕ) → keysOf (map (λ k. quadIn W k t) ks) ≡ ks
 keys-back W t [] = refl

@@ -10,26 +10,27 @@ use Rattle.rules.proofs.ListLaws.{All}
 use Rattle.works.specs.declared.Work.{Work}
 use Rattle.works.specs.Sets.{spotsAt}
 
-abbrev pub isFilled : List ℕ → ℕ → Bool
-isFilled slots k = not (eqb (getD slots k NONE) NONE)
-
--- at face f of cell c: an own quad that goes; a neighbour's side that is drawn and not there; an own side that is drawn and does not stay
-abbrev pub goneSide : List ℕ → ℕ → Work → ℕ → Bool
-goneSide slots c w f = has (w .own) f && isFilled slots (keyOf c f)
+-- a face that has no quad, and a spot that is such a face
+abbrev pub isEmpty : List ℕ → ℕ → Bool
+isEmpty slots k = eqb (getD slots k NONE) NONE
 
 abbrev pub isEmptyAt : List ℕ → List ℕ → Bool
 isEmptyAt slots [] = false
-isEmptyAt slots (k ∷ ks) = not (isFilled slots k)
+isEmptyAt slots (k ∷ ks) = isEmpty slots k
 
-abbrev pub isBare : List ℕ → ℕ → List ℕ → ℕ → ℕ → Bool
-isBare slots c beside set f = has set f && isEmptyAt slots (spotsAt beside c 1 f)
+-- at face f of cell c: an own quad that goes; a neighbour's side that is drawn and not there; an own side that is drawn and does not stay
+abbrev pub goneSide : List ℕ → ℕ → Work → ℕ → Bool
+goneSide slots c w f = has (w .own) f && not (isEmpty slots (keyOf c f))
+
+abbrev pub bareSide : List ℕ → ℕ → List ℕ → Work → ℕ → Bool
+bareSide slots c beside w f = has (w .shown) f && isEmptyAt slots (spotsAt beside c 1 f)
 
 abbrev pub newSide : List ℕ → ℕ → Work → ℕ → Bool
-newSide slots c w f = has (w .drawn) f && (has (w .own) f || not (isFilled slots (keyOf c f)))
+newSide slots c w f = has (w .drawn) f && (has (w .own) f || isEmpty slots (keyOf c f))
 
 -- one more than the count grows by there
 unfoldable pub growthAt : List ℕ → ℕ → List ℕ → Work → ℕ → ℕ
-growthAt slots c beside w f = cond (not (goneSide slots c w f)) 1 0 + cond (isBare slots c beside (w .shown) f) 1 0 + cond (newSide slots c w f) 1 0
+growthAt slots c beside w f = cond (not (goneSide slots c w f)) 1 0 + cond (bareSide slots c beside w f) 1 0 + cond (newSide slots c w f) 1 0
 
 -- g i, g (i + 1), .., n of them, summed
 unfoldable pub total : ℕ → ℕ → (ℕ → ℕ) → ℕ
@@ -41,6 +42,6 @@ quadsNeeded slots c beside w Q = Q + total 6 0 (growthAt slots c beside w) - 6
 
 -- a cell and those beside it, whose slots are there
 pub record Gridded (c : ℕ) (beside : List ℕ) (slots : List ℕ) : Type 0 where
-  pub small : c < UNIT
+  pub small : length slots ≤ 6 * UNIT
   pub own : 6 * c + 6 ≤ length slots
-  pub next : (f : ℕ) → f < 6 → All (λ k. (k < length slots) × (k < 6 * UNIT)) (spotsAt beside c 1 f)
+  pub next : (f : ℕ) → f < 6 → All (λ k. k < length slots) (spotsAt beside c 1 f)

@@ -25,11 +25,12 @@ ghost use lib.Dec.{leb};
 ghost use lib.ListN.{length, set};
 ghost use Rattle.rules.specs.Lists.{each};
 ghost use Rattle.rules.specs.Cells.{UNIT, keyOf};
+ghost use Rattle.rules.proofs.ListLaws.{All};
 ghost use Rattle.face.specs.Face.{number};
 ghost use Rattle.entries.specs.Log.{entryIn};
-ghost use Rattle.steps.specs.Steps.{CUT, show, hide};
+ghost use Rattle.steps.specs.Steps.{CUT};
 ghost use Rattle.works.specs.Sets.{setIn, spotIn, deedBy, deedAt, deeds};
-ghost use Rattle.indexing.specs.Room.{isFilled, isBare, growthAt, quadsNeeded, Gridded};
+ghost use Rattle.indexing.specs.Room.{isEmptyAt, growthAt, quadsNeeded, Gridded};
 ghost use Rattle.indexing.specs.Index.{indexOf, goneAt, cameAt, indexRun, Ready, Removable, Drawable};
 
 // The number of quads, how many have changed their place, the highest number of quads on the way, and the number of steps.
@@ -110,54 +111,36 @@ fn append_quad(
     }
 }
 
-// Whether a face of a cell has a quad.
-fn is_filled(slots: &[u32], cell: Cell, face: Face) -> bool
-    requires { ⌜ (cell .0 < UNIT) × (keyOf (cell .0) (number face) < length (now slots)) ⌝ }
-    ensures { λ r. ⌜ r ≡ isFilled (now (slots .entry)) (keyOf (cell .0) (number face)) ⌝ }
-{
-    match get_quad_index(slots, face, cell) {
-        QuadIndex::Nothing => false,
-        QuadIndex::At(_) => true,
-    }
-}
-
-// Removes the quad of a face, if there is one.
-fn cut_face(
+// Draws the quad of a face for the type that the mark is, unless the face is there; or removes it, if it is there and the mark is CUT.
+fn do_face(
     links: &mut [u32],
     slots: &mut [u32],
     steps: &mut [u32],
     cell: Cell,
     face: Face,
+    mark: u32,
     tally: Tally,
 ) -> Tally
-    requires { ⌜ Ready (length (now steps)) (hide (keyOf (cell .0) (number face)) ∷ []) (indexOf (now links) (now slots) (now steps) tally) ⌝ }
+    requires { ⌜ Ready (length (now steps)) (deedBy (keyOf (cell .0) (number face)) mark ∷ []) (indexOf (now links) (now slots) (now steps) tally) ⌝ }
     ensures { λ r. ⌜ indexOf (now (links .exit)) (now (slots .exit)) (now (steps .exit)) r
-        ≡ indexRun (hide (keyOf (cell .0) (number face)) ∷ []) (indexOf (now (links .entry)) (now (slots .entry)) (now (steps .entry)) tally) ⌝ }
+        ≡ indexRun (deedBy (keyOf (cell .0) (number face)) mark ∷ []) (indexOf (now (links .entry)) (now (slots .entry)) (now (steps .entry)) tally) ⌝ }
 {
     match get_quad_index(slots, face, cell) {
-        QuadIndex::Nothing => tally,
-        QuadIndex::At(vertex) => remove_quad(links, slots, steps, vertex.quad(), tally),
+        QuadIndex::Nothing => {
+            if mark < CUT {
+                append_quad(links, slots, steps, cell, face, mark, tally)
+            } else {
+                tally
+            }
+        }
+        QuadIndex::At(vertex) => {
+            if mark < CUT {
+                tally
+            } else {
+                remove_quad(links, slots, steps, vertex.quad(), tally)
+            }
+        }
     }
-}
-
-// Draws the quad of a face, unless the face is there.
-fn draw_face(
-    links: &mut [u32],
-    slots: &mut [u32],
-    steps: &mut [u32],
-    cell: Cell,
-    face: Face,
-    voxel: u32,
-    tally: Tally,
-) -> Tally
-    requires { ⌜ (voxel < CUT) × Ready (length (now steps)) (show (keyOf (cell .0) (number face)) voxel ∷ []) (indexOf (now links) (now slots) (now steps) tally) ⌝ }
-    ensures { λ r. ⌜ indexOf (now (links .exit)) (now (slots .exit)) (now (steps .exit)) r
-        ≡ indexRun (show (keyOf (cell .0) (number face)) voxel ∷ []) (indexOf (now (links .entry)) (now (slots .entry)) (now (steps .entry)) tally) ⌝ }
-{
-    if is_filled(slots, cell, face) {
-        return tally;
-    }
-    append_quad(links, slots, steps, cell, face, voxel, tally)
 }
 
 // Does what is to be done at a spot.
@@ -175,13 +158,7 @@ fn do_deed(
 {
     match spot {
         Spot::Nothing => tally,
-        Spot::At(cell, face) => {
-            if mark < CUT {
-                draw_face(links, slots, steps, cell, face, mark, tally)
-            } else {
-                cut_face(links, slots, steps, cell, face, tally)
-            }
-        }
+        Spot::At(cell, face) => do_face(links, slots, steps, cell, face, mark, tally),
     }
 }
 
@@ -239,18 +216,19 @@ pub fn index_work(
     left
 }
 
-// Whether a neighbour's side is to be drawn, and is not there.
-fn is_bare(slots: &[u32], cell: Cell, beside: [u32; 6], set: u8, face: Face) -> bool
-    requires { ⌜ Gridded (cell .0) beside (now slots) ⌝ }
-    ensures { λ r. ⌜ r ≡ isBare (now (slots .entry)) (cell .0) beside set (number face) ⌝ }
+// Whether a spot is a face that has no quad.
+fn is_empty(slots: &[u32], spot: Spot) -> bool
+    requires { ⌜ All (λ k. k < length (now slots)) (spotIn spot) × (length (now slots) ≤ 6 * UNIT) ⌝ }
+    ensures { λ r. ⌜ r ≡ isEmptyAt (now (slots .entry)) (spotIn spot) ⌝ }
 {
-    if !has(set, face) {
-        return false;
-    }
-    let side = face.number() as usize;
-    match spot_at(cell, beside[side], 1, face) {
+    match spot {
         Spot::Nothing => false,
-        Spot::At(next, facing) => !is_filled(slots, next, facing),
+        Spot::At(cell, face) => {
+            match get_quad_index(slots, face, cell) {
+                QuadIndex::Nothing => true,
+                QuadIndex::At(_) => false,
+            }
+        }
     }
 }
 
@@ -265,11 +243,12 @@ fn growth(slots: &[u32], cell: Cell, beside: [u32; 6], work: Work, face: Face) -
     requires { ⌜ Gridded (cell .0) beside (now slots) ⌝ }
     ensures { λ r. ⌜ (r ≡ growthAt (now (slots .entry)) (cell .0) beside work (number face)) × (r ≤ 3) ⌝ }
 {
-    let filled = is_filled(slots, cell, face);
+    let empty = is_empty(slots, Spot::At(cell, face));
     let goes = has(work.own, face);
-    let comes = has(work.drawn, face) & (goes | !filled);
-    let bare = is_bare(slots, cell, beside, work.shown, face);
-    one(!(goes & filled)) + one(bare) + one(comes)
+    let side = face.number() as usize;
+    let bare = has(work.shown, face) & is_empty(slots, spot_at(cell, beside[side], 1, face));
+    let comes = has(work.drawn, face) & (goes | empty);
+    one(!(goes & !empty)) + one(bare) + one(comes)
 }
 
 // Whether the room holds what the entry's work needs. Twelve quads more are enough for any.

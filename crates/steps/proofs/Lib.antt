@@ -1,3 +1,4 @@
 pub mod Replaying
+pub mod Turning
 pub mod Turns
 pub mod Placing

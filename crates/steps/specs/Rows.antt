@@ -11,7 +11,7 @@ use Rattle.face.specs.Face.{number}
 use Rattle.util.specs.Grid.{Within}
 use Rattle.types.specs.Tests.{Placed}
 use Rattle.steps.specs.Steps as rule
-use Rattle.steps.specs.Steps.{Shelf, CanOne, Can}
+use Rattle.steps.specs.Steps.{Shelf, Can}
 use Rattle.steps.specs.declared.Step.{Step}
 use Rattle.steps.specs.declared.Step.the-variants.{Cut, Draw}
 
@@ -34,19 +34,10 @@ pub record Shaped (S : Scene) (t : ℕ) : Type 0 where
 abbrev pub Drawn : Scene → ℕ → ℕ → Type 0
 Drawn S k t = (k / 6 < cells (S .size)) × Shaped S t
 
--- room for R quads
-pub record Shelved (S : Scene) (R : ℕ) (v : Shelf) : Type 0 where
-  pub within : Within (S .size)
-  pub fits : span S * R ≤ length (v .words)
-  pub here : v .quads ≤ R
-
--- a step, and steps, that can be done
-pub record Stepping (S : Scene) (x : rule.Step) (v : Shelf) : Type 0 where
-  pub room : ℕ
-  pub shelved : Shelved S room v
-  pub can : CanOne (Drawn S) room x (v .quads)
-
+-- steps that can be done, in a room of quads
 pub record Replaying (S : Scene) (xs : List rule.Step) (v : Shelf) : Type 0 where
   pub room : ℕ
-  pub shelved : Shelved S room v
+  pub within : Within (S .size)
+  pub fits : span S * room ≤ length (v .words)
+  pub here : v .quads ≤ room
   pub can : Can (Drawn S) room xs (v .quads)

@@ -1,12 +1,12 @@
 -- The steps of an update, and what each does to one list. Definitions only.
-use Prim.Native.Nat.{ℕ, _+_, _-_, _*_, _<_, max}
+use Prim.Native.Nat.{ℕ, _+_, _-_, _*_, _<_}
 use mathlib.Core.Bool.{cond, not}
 use mathlib.Core.List.{List, [], _∷_, _++_, map}
 use lib.ListN.{getD}
 use lib.Dec.{ltb}
-use Rattle.rules.specs.Lists.{each, only}
+use Rattle.rules.specs.Lists.{table, only}
 use Rattle.rules.specs.Mesh.{Quad, there, placeOf}
-use Rattle.rules.specs.Update.{removeAt, remove, draw, Op, put, cut}
+use Rattle.rules.specs.Update.{remove, draw, Op, put, cut}
 use Rattle.vav.specs.Rows as rows
 use Rattle.vav.specs.Rows.{freed}
 
@@ -25,12 +25,9 @@ stepIn a b = cond (ltb b CUT) (came a b) (gone a)
 abbrev pub stepAt : List ℕ → ℕ → Step
 stepAt xs i = stepIn (getD xs (2 * i) 0) (getD xs (2 * i + 1) 0)
 
--- steps i, i + 1, .., n of them
-abbrev pub stepsFrom : ℕ → ℕ → List ℕ → List Step
-stepsFrom i n xs = each n i (λ k. stepAt xs k ∷ [])
-
+-- the first n steps
 abbrev pub stepsIn : ℕ → List ℕ → List Step
-stepsIn n xs = stepsFrom 0 n xs
+stepsIn n xs = table n (stepAt xs)
 
 -- ---- on a list of s words a quad
 
@@ -68,19 +65,6 @@ Can P R (x ∷ xs) Q = CanOne P R x Q × Can P R xs (countAfter x Q)
 -- the quad of a key, for a type whose words are told
 abbrev pub quadBy : (ℕ → ℕ → List ℕ) → ℕ → ℕ → Quad
 quadBy words k t = record { key = k; words = words k t }
-
-abbrev pub stepped : (ℕ → ℕ → Quad) → Step → List Quad → List Quad
-stepped quad (gone q) m = removeAt q m
-stepped quad (came k t) m = m ++ (quad k t ∷ [])
-
-abbrev pub steppedAll : (ℕ → ℕ → Quad) → List Step → List Quad → List Quad
-steppedAll quad [] m = m
-steppedAll quad (x ∷ xs) m = steppedAll quad xs (stepped quad x m)
-
--- the highest count reached
-abbrev pub topOf : ℕ → List Step → ℕ → ℕ
-topOf h [] Q = h
-topOf h (x ∷ xs) Q = topOf (max h (countAfter x Q)) xs (countAfter x Q)
 
 -- ---- what is to be done to faces, and the steps that it takes
 

@@ -9,7 +9,7 @@ use util::cords_of;
 use vav::free_row;
 use voxel_mesh::floats_of;
 ghost use mathlib.Core.Path.{_≡_};
-ghost use mathlib.Core.List.{[]};
+ghost use mathlib.Core.List.{[], _∷_};
 ghost use Prim.Native.Nat.{_+_, _*_, _≤_, _<_};
 ghost use lib.ListN.{length};
 ghost use Rattle.rules.specs.Cells.{cells};
@@ -20,7 +20,7 @@ ghost use Rattle.terms.specs.Scenes.{sceneOf};
 ghost use Rattle.vav.specs.Rows.{put};
 ghost use Rattle.steps.specs.Rows.{Shaped};
 ghost use Rattle.steps.specs.Steps.{stepAt, stepsIn, shelf, replayOne, replayed};
-ghost use Rattle.steps.specs.Rows.{stepOf, wordsBy, Stepping, Replaying};
+ghost use Rattle.steps.specs.Rows.{stepOf, wordsBy, Replaying};
 
 // A quad goes, or is drawn after the last.
 pub enum Step {
@@ -83,7 +83,7 @@ pub fn replay_one(
     step: Step,
     count: usize,
 ) -> usize
-    requires { ⌜ Stepping (sceneOf scene [] [] (now cubes)) (stepOf step) (shelf (now vertices) count) × Inverts (sizeOf (scene .dims)) inverse ⌝ }
+    requires { ⌜ Replaying (sceneOf scene [] [] (now cubes)) (stepOf step ∷ []) (shelf (now vertices) count) × Inverts (sizeOf (scene .dims)) inverse ⌝ }
     ensures { λ r. ⌜ shelf (now (vertices .exit)) r
         ≡ replayOne (span (sceneOf scene [] [] (now (cubes .entry)))) (wordsBy (sceneOf scene [] [] (now (cubes .entry)))) (stepOf step) (shelf (now (vertices .entry)) count) ⌝ }
 {

@@ -1,34 +1,33 @@
 -- A log on the index and the vertices, entry by entry: the lists stay the layout of the rule's mesh. Assumes nothing.
 use mathlib.Core.Path.{_≡_, refl, sym, ap, _∙_, subst}
-use mathlib.Core.Bool.{Bool, true, false, cond, not}
-use mathlib.Core.List.{List, [], _∷_}
+use mathlib.Core.Bool.{cond, not}
+use mathlib.Core.List.{List, []}
 use mathlib.Core.Option.{Option, none, some}
 use Prim.Native.Nat.{ℕ, zero, suc, _+_, _-_, _*_, _/_, _%_, _^_, _≤_, _<_}
-use native.Mathlib.Nat.{mul-le-mul-left}
 use native.Mathlib.Omega.{arith}
 use lib.Dec.{leb}
 use lib.ListN.{length}
 use borrow.Author.Tests.{le-leb, lt-leb}
 use Rattle.rules.specs.Lists.{each}
-use Rattle.rules.specs.Cells.{UNIT, cells}
-use Rattle.rules.specs.Mesh.{Quad, there, laid, slotOf, listsOf}
+use Rattle.rules.specs.Cells.{cells}
+use Rattle.rules.specs.Mesh.{Quad, there, laid, slotOf}
 use Rattle.rules.specs.Update as rule
 use Rattle.rules.specs.Update.{Tested, Entry, Op, run, moves, highest, ops, needed, work, entryAt, courseFrom}
 use Rattle.rules.specs.Calls.{Scene, world, span, faces}
 use Rattle.rules.proofs.ListLaws.{All, split, length-table}
-use Rattle.rules.proofs.Laying.{Fits, length-vertices, length-links}
+use Rattle.rules.proofs.Laying.{Fits}
 use Rattle.rules.proofs.Mending.{Sound}
 use Rattle.rules.proofs.Courses.{Sane, sane-step, highest-needed, run-le, fits-new, entry-moves}
 use Rattle.rules.proofs.Demands.{words-sized}
 use Rattle.mesh_metadata.proofs.Meshes as meshes
 use Rattle.steps.specs.Steps.{Step, Deed, stepsIn, Shelf, shelf, replayed, quadBy, opsOf, stepsOf, Can, Able}
-use Rattle.steps.proofs.Replaying.{can-run, replay-run}
+use Rattle.steps.proofs.Replaying.{replay-run}
 use Rattle.steps.specs.Rows.{wordsBy, Drawn, Replaying}
 use Rattle.works.specs.declared.Work.{Work}
 use Rattle.works.specs.Sets.{meant, setIn, besideOf, spotsAt, workIn, deeds, Cubes}
 use Rattle.works.proofs.Meant.{meant-work, meant-cubes, meant-few, deeds-ops}
 use Rattle.indexing.specs.Index.{Index, indexRun, bookOf, Good, Ready}
-use Rattle.indexing.specs.Room.{isFilled, quadsNeeded, Gridded}
+use Rattle.indexing.specs.Room.{isEmpty, quadsNeeded, Gridded}
 use Rattle.indexing.proofs.Sets.{spots-inside}
 use Rattle.indexing.proofs.Booking.{slot-none, run-booked}
 use Rattle.indexing.proofs.Doing.{all-few, ready-run}
@@ -97,28 +96,8 @@ module _ (tested : Tested) {S : Scene} {room : ℕ} {log vs₀ ls₀ ss₀ : Lis
     pub run-small : q < 2 ^ 32
     run-small = omega (arith, meshes.small (faces S) (span S) m grid-small (sane .fits) (sane .once), r .holds .count)
 
-    -- the lists keep their lengths
-    pub run-kept : (length vs ≡ length vs₀) × (length ls ≡ length ls₀) × (length ss ≡ length ss₀)
-    run-kept =
-        let b = mul-le-mul-left (span S) (sane .within) in
-        let z = g .rows in
-        let w = g .words in
-        let y = sane .within in
-        let n = grid-small in
-        let B = listsOf vs₀ [] ls₀ [] in (
-          ap length (r .holds .vertices) ∙ length-vertices (faces S) (span S) h (omega arith) m B (sane .fits) (sane .reached) (omega arith),
-          ap length (r .holds .links) ∙ length-links (faces S) (span S) h (omega arith) m B (sane .fits) (sane .reached) (omega arith),
-          length-slots ∙ sym (ap length (g .holds .slots) ∙ length-table (slotOf (meshIn S vs₀ ls₀ Q)) (faces S)),
-        )
-
-    told : (j : ℕ) → j < faces S → isFilled ss j ≡ there j m
-    told j l =
-        ap (λ (xs : List ℕ). isFilled xs j) (r .holds .slots)
-        ∙ ap not (slot-none (wordsBy (bare S)) (span S) room (faces S) ls₀ (g .words) grid-small m h sane j l) ∙ twice-not (there j m)
-      where
-        twice-not : (b : Bool) → not (not b) ≡ b
-        twice-not true = refl
-        twice-not false = refl
+    told : (j : ℕ) → j < faces S → isEmpty ss j ≡ not (there j m)
+    told j l = ap (λ (xs : List ℕ). isEmpty xs j) (r .holds .slots) ∙ slot-none (wordsBy (bare S)) (span S) room (faces S) ls₀ (g .words) grid-small m h sane j l
 
     module _ (lt : k < length log / 12) {e : Entry} (at : e ≡ entryAt log k) where
       pub run-inside : e .cell < cells (S .size)
@@ -158,13 +137,9 @@ module _ (tested : Tested) {S : Scene} {room : ℕ} {log vs₀ ls₀ ss₀ : Lis
             record {
               small = omega arith;
               own = omega arith;
-              next = λ f l. subst (λ (x : List ℕ). All (λ n. (n < length ss) × (n < 6 * UNIT)) (spotsAt x (e .cell) 1 f)) (sym b-is)
-                  (widen (spotsAt (besideOf (S .size) (e .cell)) (e .cell) 1 f) (spots-inside (world S) e (g .within) run-inside 1 f l));
+              next = λ f l. let n = sym length-slots in
+                  subst (λ (x : ℕ × List ℕ). All (λ k. k < x .0) (spotsAt (x .1) (e .cell) 1 f)) (λ j. (n j, sym b-is j)) (spots-inside (world S) e (g .within) run-inside 1 f l);
             }
-          where
-            widen : (ks : List ℕ) → All (λ n. n < 6 * cells (S .size)) ks → All (λ n. (n < length ss) × (n < 6 * UNIT)) ks
-            widen [] a = tt
-            widen (n ∷ ks) a = let z = length-slots in let s = grid-small in let l = a .0 in ((omega arith, omega arith), widen ks (a .1))
 
         pub run-needed : quadsNeeded ss (e .cell) b w q ≡ needed (works k) m
         run-needed =
@@ -241,18 +216,25 @@ module _ (tested : Tested) {S : Scene} {room : ℕ} {log vs₀ ls₀ ss₀ : Lis
           unfolding run-ready
           run-few = let z = ready-run ds run-ready .steps in omega arith
 
-          pub run-replaying : Replaying (bare S) (done .steps) (shelf vs q)
-          run-replaying =
+          replayed-now : Can (Drawn (bare S)) room steps (length m) × (replayed (span S) (wordsBy (bare S)) steps (shelf (laid (span S) (λ q x. x .words) h m vs₀) (length m))
+              ≡ shelf (laid (span S) (λ q x. x .words) (highest h (opsOf (quadBy (wordsBy (bare S))) ds) m) (run (opsOf (quadBy (wordsBy (bare S))) ds) m) vs₀) (length (run (opsOf (quadBy (wordsBy (bare S))) ds) m)))
+          replayed-now =
+              replay-run (span S) (λ x. x .words) (wordsBy (bare S)) (Drawn (bare S)) (λ n t d. words-sized S t (n % 6) (n / 6)) room vs₀ (g .rows) ds m h
+              (meshes.all-map (λ x f i. f .1) m (sane .fits)) able (sane .reached) fits-deeds
+
+          pub run-replaying : length vs ≡ length vs₀ → Replaying (bare S) (done .steps) (shelf vs q)
+          run-replaying kept =
               let c = r .holds .count in
               let l = sane .reached in
               let b = sane .within in
-              let z = run-kept .0 in
               let y = g .rows in
               record {
                 room = room;
-                shelved = record { within = g .within; fits = omega arith; here = omega arith };
+                within = g .within;
+                fits = omega arith;
+                here = omega arith;
                 can = subst (Can (Drawn (bare S)) room (done .steps)) (sym c)
-                    (subst (λ (ys : List Step). Can (Drawn (bare S)) room ys (length m)) (sym steps-are) (can-run (wordsBy (bare S)) (Drawn (bare S)) room ds m h able fits-deeds));
+                    (subst (λ (ys : List Step). Can (Drawn (bare S)) room ys (length m)) (sym steps-are) (replayed-now .0));
               }
 
           -- what the entry leaves
@@ -264,8 +246,7 @@ module _ (tested : Tested) {S : Scene} {room : ℕ} {log vs₀ ls₀ ss₀ : Lis
               let after : List Quad = run (ops (works k)) m in
               let rows = s
               ∙ (λ j. replayed (span S) (wordsBy (bare S)) (steps-are j) (shelf (r .holds .vertices j) (r .holds .count j)))
-              ∙ replay-run (span S) (λ x. x .words) (wordsBy (bare S)) (Drawn (bare S)) (λ n t d. words-sized S t (n % 6) (n / 6)) room vs₀ (g .rows) ds m h
-              (meshes.all-map (λ x f i. f .1) m (sane .fits)) able (sane .reached) fits-deeds
+              ∙ replayed-now .1
               ∙ (λ j. shelf (laid (span S) (λ q x. x .words) (highest h (as-ops j) m) (run (as-ops j) m) vs₀) (length (run (as-ops j) m))) in
               let few = entry-moves tested (world S) (entryAt log k) m in
               let old = r .moves in

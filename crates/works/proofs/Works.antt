@@ -1,11 +1,11 @@
 -- What an entry tells of a side, of the cells beside its cell, and of what is done there. Assumes nothing.
 use mathlib.Core.Path.{_≡_, refl, sym, ap, _∙_}
 use mathlib.Core.Bool.{Bool, true, false, cond, not}
-use mathlib.Core.List.{List, [], _∷_}
-use Prim.Native.Nat.{ℕ, zero, suc, _+_, _-_, _*_, _%_, _≤_, _<_}
+use mathlib.Core.List.{[], _∷_}
+use Prim.Native.Nat.{ℕ, zero, suc, _+_, _-_, _*_, _%_, _<_}
 use native.Mathlib.Omega.{arith}
 use lib.Dec.{eqb}
-use lib.ListN.{length, getD, List·getD-eq-default}
+use lib.ListN.{getD}
 use Rattle.rules.specs.Cells.{opposite, keyOf, has}
 use Rattle.rules.specs.Mesh.{World, NONE}
 use Rattle.rules.specs.Update.{Entry, givenAt, outside, isOpen}
@@ -18,9 +18,6 @@ use Rattle.works.specs.declared.Work.{Work}
 use Rattle.works.specs.Sets.{setIn, act, deedBy, facing, spotsBy}
 
 -- ---- types and neighbours
-pub past : (xs : List ℕ) (t : ℕ) → length xs ≤ t → getD xs t 0 ≡ 0
-past xs t h = List·getD-eq-default xs 0 h
-
 given-outside : (g : ℕ) → neighbourOf g ≡ Outside → outside g ≡ true
 given-outside g = split (λ b. cond b Outside (Voxel g) ≡ Outside → b ≡ true) (eqb g 255)
     (λ e r. refl) (λ e r. absurd (let z : _≡_ {A = ℕ} 0 1 = cc in omega arith))

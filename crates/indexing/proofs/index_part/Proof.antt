@@ -11,14 +11,15 @@ use Rattle.steps.specs.Steps.{Deed}
 use Rattle.works.specs.Sets.{spotIn, spotsBy, act, deedBy, deedAt}
 use Rattle.indexing.specs.Index.{Index, indexOf, indexRun, Ready}
 use Rattle.indexing.proofs.Bits.{Left, left-start, left-none, left-at, left-skip, left-below, left-next}
-use Rattle.indexing.proofs.Doing.{Turning, start, this, skip, turn, done, deed-told, no-deed}
+use Rattle.steps.proofs.Turning.{Turning, start, this, skip, turn, done}
+use Rattle.indexing.proofs.Doing.{piecewise, deed-told, no-deed}
 use borrow.Author.Needs.{needs}
 use Rattle.indexing.proofs.index_part.Statement.{statement}
 use Rattle.indexing.proofs.index_part.Tie as tie
 
 abbrev Inv-loop : tie.InvT-loop
 Inv-loop links₀ slots₀ steps₀ entry set part beside left₀ f₀ rest₀ links slots steps left f rest =
-    Turning (length steps₀) 6 (deedAt beside (entryIn entry) set part) f (indexOf links₀ slots₀ steps₀ left₀) (indexOf links slots steps left)
+    Turning indexRun (Ready (length steps₀)) 6 (deedAt beside (entryIn entry) set part) f (indexOf links₀ slots₀ steps₀ left₀) (indexOf links slots steps left)
     × Left set f rest × (set < 64) × (length links ≡ length links₀) × (length slots ≡ length slots₀) × (length steps ≡ length steps₀)
 
 abbrev μ-loop : tie.MeasureT-loop
@@ -41,7 +42,7 @@ below : (i : tie.In-loop Inv-loop μ-loop) → i .before .loop .f + low i < 6
 below i = let v = i .before .loop .inv in left-below (v .1) (i .loop-test .taken) refl (v .2)
 
 turned : (i : tie.In-loop Inv-loop μ-loop) →
-    let a = begun i .args in Turning (length (a .steps .now)) 6 (deed i) (i .before .loop .f + low i) (indexOf (a .links .now) (a .slots .now) (a .steps .now) (a .tally)) (here i)
+    let a = begun i .args in Turning indexRun (Ready (length (a .steps .now))) 6 (deed i) (i .before .loop .f + low i) (indexOf (a .links .now) (a .slots .now) (a .steps .now) (a .tally)) (here i)
 turned i =
     let l = i .before .loop in
     let a = begun i .args in
@@ -66,33 +67,15 @@ told c =
 loop-holds : tie.Need-loop-holds Inv-loop μ-loop
 loop-holds c = let t = c .before .before .before in (start (t .pre .1), left-start (t .pre .0), t .pre .0, refl, refl, refl)
 
-add-face-at : tie.Need-add-face-at Inv-loop μ-loop
-add-face-at c = omega (arith, below c)
-
-face-at-requires : tie.Need-face-at-requires Inv-loop μ-loop
-face-at-requires c κs = below c
-
 do-deed-requires : tie.Need-do-deed-requires Inv-loop μ-loop
 do-deed-requires c κs =
     let i = c .before .before .before .before .before .before in
     let n = sym (i .before .loop .inv .5) in
     let d = sym (told c) in
-    subst (λ (x : ℕ × List Deed). Ready (x .0) (x .1) (here i)) (λ j. (n j, d j)) (this (turned i) (below i))
+    subst (λ (x : ℕ × List Deed). Ready (x .0) (x .1) (here i)) (λ j. (n j, d j)) (this (turned i) (piecewise _) (below i))
 
 abbrev into : tie.After-slice-known6 Inv-loop μ-loop → tie.In-loop Inv-loop μ-loop
 into c = c .before .before .before .before .before .before .before .before .before .before .before .before .before
-
-add-f : tie.Need-add-f Inv-loop μ-loop
-add-f c = omega (arith, below (into c))
-
-add-f-2 : tie.Need-add-f-2 Inv-loop μ-loop
-add-f-2 c = omega (arith, below (into c))
-
-cast-rest : tie.Need-cast-rest Inv-loop μ-loop
-cast-rest c = omega (arith, below (into c))
-
-shr-rest : tie.Need-shr-rest Inv-loop μ-loop
-shr-rest c = omega (arith, below (into c))
 
 loop-less : tie.Need-loop-less Inv-loop μ-loop
 loop-less c =
@@ -107,7 +90,7 @@ loop-again c =
     let marked = went .before in
     let i = marked .before .before .before .before .before .before in
     let l = i .before .loop in (
-      turn (turned i) (below i) (went .do-deed .ensures ∙ ap (λ (ds : List Deed). indexRun ds (here i)) (told marked)),
+      turn (turned i) (piecewise _) (below i) (went .do-deed .ensures ∙ ap (λ (ds : List Deed). indexRun ds (here i)) (told marked)),
       left-next (l .inv .1) (i .loop-test .taken) refl,
       l .inv .2,
       went .do-deed .kept .0 ∙ l .inv .3,
@@ -120,11 +103,11 @@ returns c =
     let l = c .before .loop in
     let a = c .before .before .before .before .before .args in
     let b = l .inv .0 .below in
-    done (skip (l .inv .0) b (omega arith) (λ k u v. no-deed (a .t4) (entryIn (a .entry)) (a .set) (a .part) k (left-none (l .inv .1) (c .loop-test .left) k u))) (omega arith)
+    done (skip (l .inv .0) b (omega arith) (λ k u v. no-deed (a .t4) (entryIn (a .entry)) (a .set) (a .part) k (left-none (l .inv .1) (c .loop-test .left) k u))) (λ s. refl) (omega arith)
 
 pub index-part-spec : {M : Type 1} → statement M
 index-part-spec =
     tie.close
-    (tie.spec Inv-loop μ-loop loop-holds add-face-at face-at-requires (λ c. omega (arith, below (c .before))) (λ c. omega (arith, below (c .before)))
-    (λ c. omega (arith, below (c .before))) (λ c. below (c .before)) (λ c κs. search needs) (λ c κs. search needs) do-deed-requires add-f add-f-2
-    cast-rest shr-rest loop-less loop-again (λ c. c .before .loop .inv .3) (λ c. c .before .loop .inv .4) (λ c. c .before .loop .inv .5) returns)
+    (tie.spec Inv-loop μ-loop loop-holds (λ c. omega (arith, below c)) (λ c κs. below c) (λ c. omega (arith, below (c .before))) (λ c. omega (arith, below (c .before)))
+    (λ c. omega (arith, below (c .before))) (λ c. below (c .before)) (λ c κs. search needs) (λ c κs. search needs) do-deed-requires (λ c. omega (arith, below (into c))) (λ c. omega (arith, below (into c)))
+    (λ c. omega (arith, below (into c))) (λ c. omega (arith, below (into c))) loop-less loop-again (λ c. c .before .loop .inv .3) (λ c. c .before .loop .inv .4) (λ c. c .before .loop .inv .5) returns)

@@ -7,21 +7,19 @@ use Rattle.rules.specs.Lists.{each}
 use Rattle.entries.specs.Log.{entryIn}
 use Rattle.works.specs.Sets.{setIn, deedAt}
 use Rattle.indexing.specs.Index.{indexOf, indexRun, Ready}
-use Rattle.indexing.proofs.Doing.{Turning, start, this, turn, done}
+use Rattle.steps.proofs.Turning.{Turning, start, this, turn, done}
+use Rattle.indexing.proofs.Doing.{piecewise}
 use borrow.Author.Needs.{needs}
 use Rattle.indexing.proofs.index_work.Statement.{statement}
 use Rattle.indexing.proofs.index_work.Tie as tie
 
 abbrev Inv-loop : tie.InvT-loop
 Inv-loop links₀ slots₀ steps₀ beside entry work left₀ part₀ links slots steps left part =
-    Turning (length steps₀) 4 (λ j. each 6 0 (deedAt beside (entryIn entry) (setIn work j) j)) part (indexOf links₀ slots₀ steps₀ left₀) (indexOf links slots steps left)
+    Turning indexRun (Ready (length steps₀)) 4 (λ j. each 6 0 (deedAt beside (entryIn entry) (setIn work j) j)) part (indexOf links₀ slots₀ steps₀ left₀) (indexOf links slots steps left)
     × (length links ≡ length links₀) × (length slots ≡ length slots₀) × (length steps ≡ length steps₀)
 
 abbrev μ-loop : tie.MeasureT-loop
 μ-loop links₀ slots₀ steps₀ beside entry work left₀ part₀ links slots steps left part = 4 - part
-
-loop-holds : tie.Need-loop-holds Inv-loop μ-loop
-loop-holds c = (start (c .before .before .before .pre .1), refl, refl, refl)
 
 index-part-requires : tie.Need-index-part-requires Inv-loop μ-loop
 index-part-requires c κs =
@@ -34,7 +32,7 @@ index-part-requires c κs =
     let n = sym (l .inv .3) in (
       subst (λ (n : ℕ). n < 64) e (t .pre .0 (l .part)),
       subst (λ (x : ℕ × ℕ). Ready (x .0) (each 6 0 (deedAt (a .beside) (entryIn (a .entry)) (x .1) (l .part))) (indexOf (l .links) (l .slots) (l .steps) (l .left)))
-          (λ j. (n j, e j)) (this (l .inv .0) (i .loop-test .taken)),
+          (λ j. (n j, e j)) (this (l .inv .0) (piecewise _) (i .loop-test .taken)),
     )
 
 loop-again : tie.Need-loop-again Inv-loop μ-loop
@@ -44,7 +42,7 @@ loop-again c =
     let i = set .before in
     let l = i .before .loop in
     let a = i .before .before .before .before .before .args in (
-      turn (l .inv .0) (i .loop-test .taken)
+      turn (l .inv .0) (piecewise _) (i .loop-test .taken)
           (went .index-part .ensures
           ∙ ap (λ (n : ℕ). indexRun (each 6 0 (deedAt (a .beside) (entryIn (a .entry)) n (l .part))) (indexOf (l .links) (l .slots) (l .steps) (l .left))) (set .set-of .ensures)),
       went .index-part .kept .0 ∙ l .inv .1,
@@ -52,11 +50,8 @@ loop-again c =
       went .index-part .kept .1 .1 .0 ∙ l .inv .3,
     )
 
-returns : tie.Need-returns Inv-loop μ-loop
-returns c = done (c .before .loop .inv .0) (c .loop-test .left)
-
 pub index-work-spec : {M : Type 1} → statement M
 index-work-spec =
     tie.close
-    (tie.spec Inv-loop μ-loop loop-holds (λ c κs. search needs) index-part-requires (λ c. omega arith) (λ c. omega arith) loop-again (λ c. c .before .loop .inv .1)
-    (λ c. c .before .loop .inv .2) (λ c. c .before .loop .inv .3) returns)
+    (tie.spec Inv-loop μ-loop (λ c. (start (c .before .before .before .pre .1), refl, refl, refl)) (λ c κs. search needs) index-part-requires (λ c. omega arith) (λ c. omega arith) loop-again (λ c. c .before .loop .inv .1)
+    (λ c. c .before .loop .inv .2) (λ c. c .before .loop .inv .3) (λ c. done (c .before .loop .inv .0) (λ s. refl) (c .loop-test .left)))

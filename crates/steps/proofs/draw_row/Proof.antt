@@ -24,18 +24,6 @@ ends : (c : tie.After-floats-of) →
     24 * c .floats-of .result * a .voxel + 24 * c .floats-of .result ≤ length (a .cubes .now)
 ends c = rw (c .floats-of .ensures) (c .before .before .before .pre .2 .whole)
 
-mul-start-2 : tie.Need-mul-start-2
-mul-start-2 c = omega (arith, words c, ends c)
-
-add-end : tie.Need-add-end
-add-end c = omega (arith, words c, ends c)
-
-mul-write-place : tie.Need-mul-write-place
-mul-write-place c = omega (arith, ends (c .before .before))
-
-part-write-place-end : tie.Need-part-write-place-end
-part-write-place-end c = omega (arith, ends (c .before .before))
-
 write-place-requires : tie.Need-write-place-requires
 write-place-requires c κs =
     let placed = c .before .before in
@@ -59,5 +47,5 @@ returns c =
 pub draw-row-spec : {M : Type 1} → statement M
 draw-row-spec =
     tie.close
-    (tie.spec (λ c κs. search needs) (λ c. search needs) mul-start-2 (λ c. search needs) add-end (λ c κs. search needs) mul-write-place
-    (λ c. search needs) (λ c. search needs) part-write-place-end write-place-requires (λ c. search needs) returns)
+    (tie.spec (λ c κs. search needs) (λ c. search needs) (λ c. omega (arith, words c, ends c)) (λ c. search needs) (λ c. omega (arith, words c, ends c)) (λ c κs. search needs) (λ c. omega (arith, ends (c .before .before)))
+    (λ c. search needs) (λ c. search needs) (λ c. omega (arith, ends (c .before .before))) write-place-requires (λ c. search needs) returns)

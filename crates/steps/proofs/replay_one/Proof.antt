@@ -1,6 +1,6 @@
 -- `steps::replay_one` meets its contract. Assumes nothing.
 use mathlib.Core.Path.{_≡_, sym, ap, _∙_, subst}
-use mathlib.Core.List.{List, []}
+use mathlib.Core.List.{List, [], _∷_}
 use Prim.Native.Nat.{ℕ, _+_, _-_, _*_}
 use native.Mathlib.Omega.{arith}
 use lib.ListN.{length}
@@ -12,7 +12,7 @@ use Rattle.voxel_mesh.proofs.Shapes.{few}
 use Rattle.terms.specs.Scenes.{sceneOf}
 use Rattle.vav.specs.Rows.{put, freed}
 use Rattle.steps.specs.Steps.{Step, Shelf, shelf, replayOne}
-use Rattle.steps.specs.Rows.{stepOf, wordsBy, Stepping}
+use Rattle.steps.specs.Rows.{stepOf, wordsBy, Replaying}
 use Rattle.steps.proofs.Turns.{words-key, freeable, drawable, room-le}
 use borrow.Author.Needs.{needs}
 use Rattle.steps.proofs.replay_one.Statement.{statement}
@@ -24,8 +24,8 @@ scene t = sceneOf (t .args .scene) [] [] (t .args .cubes .now)
 abbrev there : tie.Start → Shelf
 there t = shelf (t .args .vertices .now) (t .args .count)
 
-known : (t : tie.Start) {x : Step} → stepOf (t .args .step) ≡ x → Stepping (scene t) x (there t)
-known t e = subst (λ (x : Step). Stepping (scene t) x (there t)) e (t .pre .0)
+known : (t : tie.Start) {x : Step} → stepOf (t .args .step) ≡ x → Replaying (scene t) (x ∷ []) (there t)
+known t e = subst (λ (x : Step). Replaying (scene t) (x ∷ []) (there t)) e (t .pre .0)
 
 mul-free-row : tie.Need-mul-free-row
 mul-free-row c =

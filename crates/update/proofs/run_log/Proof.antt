@@ -18,7 +18,7 @@ use Rattle.works.specs.Sets.{meant}
 use Rattle.works.proofs.Meant.{meant-types}
 use Rattle.indexing.specs.Index.{Index}
 use Rattle.update.proofs.Drawing.{bare}
-use Rattle.update.proofs.Running.{Running, run-start, run-inside, run-sets, run-gridded, run-small, run-needed, run-ready, run-few, run-replaying, run-on, run-full, run-through, run-ended, run-kept}
+use Rattle.update.proofs.Running.{Running, run-start, run-inside, run-sets, run-gridded, run-small, run-needed, run-ready, run-few, run-replaying, run-on, run-full, run-through, run-ended}
 use borrow.Author.Needs.{needs}
 use Rattle.update.proofs.run_log.Statement.{statement}
 use Rattle.update.proofs.run_log.Tie as tie
@@ -26,7 +26,7 @@ use Rattle.update.proofs.run_log.Tie as tie
 abbrev Inv-loop : tie.InvT-loop
 Inv-loop vertices₀ links₀ slots₀ kinds covers cubes log task scene tested inverse entries steps₀ quads₀ moved₀ highest₀ k₀ vertices links slots steps quads moved highest k =
     Running (testedBy (task .tested)) (sceneOf (task .scene) kinds covers cubes) (task .room) log vertices₀ links₀ (task .quads) k highest vertices links slots quads moved
-    × (length steps ≡ 48)
+    × (length vertices ≡ length vertices₀) × (length links ≡ length links₀) × (length slots ≡ length slots₀) × (length steps ≡ 48)
 
 abbrev μ-loop : tie.MeasureT-loop
 μ-loop vertices₀ links₀ slots₀ kinds covers cubes log task scene tested inverse entries steps₀ quads₀ moved₀ highest₀ k₀ vertices links slots steps quads moved highest k =
@@ -66,7 +66,7 @@ inverted-requires : tie.Need-inverted-requires Inv-loop μ-loop
 inverted-requires c κs = c .before .before .before .before .before .before .before .before .pre .within .sides
 
 loop-holds : tie.Need-loop-holds Inv-loop μ-loop
-loop-holds c = let t = c .before .before .before .before .before .before .before .before .before in (run-start (side t) (t .pre), refl)
+loop-holds c = let t = c .before .before .before .before .before .before .before .before .before in (run-start (side t) (t .pre), refl, refl, refl, refl)
 
 read-entry-requires : tie.Need-read-entry-requires Inv-loop μ-loop
 read-entry-requires c κs = let h = c .loop-test .taken in omega arith
@@ -85,10 +85,6 @@ has-room-requires c κs =
     let r = i .before .loop .inv .0 in
     (run-gridded (side t) (t .pre) r (i .loop-test .taken) (b .before .before .read-entry .ensures) (sets b) (b .cells-beside .ensures), run-small (side t) (t .pre) r)
 
-kept : (i : tie.In-loop Inv-loop μ-loop) →
-    let l = i .before .loop in let a = begun i .args in (length (l .vertices) ≡ length (a .vertices .now)) × (length (l .links) ≡ length (a .links .now)) × (length (l .slots) ≡ length (a .slots .now))
-kept i = run-kept (side (begun i)) (begun i .pre) (i .before .loop .inv .0)
-
 returns : tie.Need-returns Inv-loop μ-loop
 returns c =
     let found = c .before in
@@ -103,7 +99,7 @@ fits : (c : tie.Else1 Inv-loop μ-loop) → let b = c .before .before .before in
 fits c = leb-true _ _ (sym (asked (c .before)) ∙ not-true _ (c .if1 .left))
 
 slice-aggregate-index-work : tie.Need-slice-aggregate-index-work Inv-loop μ-loop
-slice-aggregate-index-work c = sym (looped (c .before .before .before .before .before .before) .before .loop .inv .1)
+slice-aggregate-index-work c = sym (looped (c .before .before .before .before .before .before) .before .loop .inv .4)
 
 index-work-requires : tie.Need-index-work-requires Inv-loop μ-loop
 index-work-requires c κs =
@@ -114,12 +110,12 @@ index-work-requires c κs =
     let l = i .before .loop in
     let lt = i .loop-test .taken in
     let at = b .before .before .read-entry .ensures in
-    (run-sets (side t) (t .pre) (l .inv .0) lt at (sets b) (b .cells-beside .ensures), run-ready (side t) (t .pre) (l .inv .0) lt at (sets b) (b .cells-beside .ensures) (fits test) (l .steps) (l .inv .1))
+    (run-sets (side t) (t .pre) (l .inv .0) lt at (sets b) (b .cells-beside .ensures), run-ready (side t) (t .pre) (l .inv .0) lt at (sets b) (b .cells-beside .ensures) (fits test) (l .steps) (l .inv .4))
 
 slice-aggregate-replay : tie.Need-slice-aggregate-replay Inv-loop μ-loop
 slice-aggregate-replay c =
     let went = c .before .before .before .before .before .before .before in
-    sym (went .index-work .kept .1 .1 .0 ∙ looped (went .before .before .before .before .before .before .before) .before .loop .inv .1)
+    sym (went .index-work .kept .1 .1 .0 ∙ looped (went .before .before .before .before .before .before .before) .before .loop .inv .4)
 
 replay-requires : tie.Need-replay-requires Inv-loop μ-loop
 replay-requires c κs =
@@ -132,12 +128,12 @@ replay-requires c κs =
     let lt = i .loop-test .taken in
     let at = b .before .before .read-entry .ensures in
     let is = ap (λ (I : Index). I .steps) (went .index-work .ensures) in
-    let few = run-few (side t) (t .pre) (l .inv .0) lt at (sets b) (b .cells-beside .ensures) (fits test) (l .steps) (l .inv .1) in
+    let few = run-few (side t) (t .pre) (l .inv .0) lt at (sets b) (b .cells-beside .ensures) (fits test) (l .steps) (l .inv .4) in
     let n = length-table (stepAt (went .index-work .last .1 .1 .0)) (went .index-work .result .steps) in
     let long = went .index-work .kept .1 .1 .0 in (
       omega (arith, ap length is, n, few, long),
       subst (λ (xs : List Step). Replaying (bare (scene-of t)) xs (shelf (l .vertices) (l .quads))) (sym is)
-          (run-replaying (side t) (t .pre) (l .inv .0) lt at (sets b) (b .cells-beside .ensures) (fits test) (l .steps) (l .inv .1)),
+          (run-replaying (side t) (t .pre) (l .inv .0) lt at (sets b) (b .cells-beside .ensures) (fits test) (l .steps) (l .inv .4) (l .inv .1)),
       i .before .before .inverted .ensures,
     )
 
@@ -158,17 +154,14 @@ loop-again c =
     let l = i .before .loop in
     let S = bare (scene-of t) in
     let is = ap (λ (I : Index). I .steps) (went .index-work .ensures) in (
-      run-on (side t) (t .pre) (l .inv .0) (i .loop-test .taken) (b .before .before .read-entry .ensures) (sets b) (b .cells-beside .ensures) (fits test) (l .steps) (l .inv .1)
+      run-on (side t) (t .pre) (l .inv .0) (i .loop-test .taken) (b .before .before .read-entry .ensures) (sets b) (b .cells-beside .ensures) (fits test) (l .steps) (l .inv .4)
           (went .index-work .ensures)
           (drew .replay .ensures ∙ ap (λ (xs : List Step). replayed (span S) (wordsBy S) xs (shelf (l .vertices) (l .quads))) is),
-      went .index-work .kept .1 .1 .0 ∙ l .inv .1,
+      drew .replay .kept .0 ∙ l .inv .1,
+      went .index-work .kept .0 ∙ l .inv .2,
+      went .index-work .kept .1 .0 ∙ l .inv .3,
+      went .index-work .kept .1 .1 .0 ∙ l .inv .4,
     )
-
-ended-kept : (c : tie.After-loop Inv-loop μ-loop) →
-    let t = c .before .before .before .before .before .before .before .before .before .before .before in
-    let l = c .before .loop in
-    (length (l .vertices) ≡ length (t .args .vertices .now)) × (length (l .links) ≡ length (t .args .links .now)) × (length (l .slots) ≡ length (t .args .slots .now))
-ended-kept c = let t = c .before .before .before .before .before .before .before .before .before .before .before in run-kept (side t) (t .pre) (c .before .loop .inv .0)
 
 returns-2 : tie.Need-returns-2 Inv-loop μ-loop
 returns-2 c =
@@ -180,6 +173,6 @@ pub run-log-spec : {M : Type 1} → statement M
 run-log-spec =
     tie.close
     (tie.spec Inv-loop μ-loop inverted-requires loop-holds read-entry-requires (λ c κs. search needs) cells-beside-requires has-room-requires
-    (λ c. kept (looped (c .before .before .before)) .0) (λ c. kept (looped (c .before .before .before)) .1)
-    (λ c. kept (looped (c .before .before .before)) .2) returns slice-aggregate-index-work index-work-requires slice-aggregate-replay replay-requires
-    add-k loop-less loop-again (λ c. ended-kept c .0) (λ c. ended-kept c .1) (λ c. ended-kept c .2) returns-2)
+    (λ c. looped (c .before .before .before) .before .loop .inv .1) (λ c. looped (c .before .before .before) .before .loop .inv .2)
+    (λ c. looped (c .before .before .before) .before .loop .inv .3) returns slice-aggregate-index-work index-work-requires slice-aggregate-replay replay-requires
+    add-k loop-less loop-again (λ c. c .before .loop .inv .1) (λ c. c .before .loop .inv .2) (λ c. c .before .loop .inv .3) returns-2)

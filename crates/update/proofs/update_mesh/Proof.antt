@@ -128,9 +128,6 @@ returns c =
     let t = begun (c .before .before .before) in
     refused-so (side t) (scene t) (t .args .log .now) (lists t) (t .args .quads) (at-it _ (sym (told-is (c .before .before .before)) ∙ ap verdictOf (c .before .told .given .1)))
 
-cell-count-requires : tie.Need-cell-count-requires
-cell-count-requires c κs = within (c .before) .sides
-
 links-verdict-requires : tie.Need-links-verdict-requires
 links-verdict-requires c κs =
     let counted = c .before .before in
@@ -230,7 +227,7 @@ returns-6 c = ended (c .before .before .before .before .before) (c .before .end 
 pub update-mesh-spec : {M : Type 1} → statement M
 update-mesh-spec =
     tie.close
-    (tie.spec (λ c κs. search needs) (λ c. search needs) returns (λ c. search needs) cell-count-requires links-verdict-requires (λ c. search needs)
+    (tie.spec (λ c κs. search needs) (λ c. search needs) returns (λ c. search needs) (λ c κs. within (c .before) .sides) links-verdict-requires (λ c. search needs)
     (λ c. search needs) (λ c. search needs) returns-2 (λ c. search needs) triangles-verdict-requires (λ c. search needs) (λ c. search needs)
     (λ c. search needs) (λ c. search needs) returns-3 (λ c. search needs) cast-entry-verdict (λ c κs. search needs) (λ c. search needs)
     (λ c. search needs) (λ c. search needs) (λ c. search needs) returns-4 (λ c. search needs) (λ c. search needs) (λ c. search needs)

@@ -6,11 +6,8 @@ use borrow.Author.Needs.{needs}
 use Rattle.works.proofs.given.Statement.{statement}
 use Rattle.works.proofs.given.Tie as tie
 
-element-copy-out-result : tie.Need-element-copy-out-result
-element-copy-out-result c = omega (arith, number-below (c .before .args .face))
-
 returns : tie.Need-returns
 returns c = let a = c .before .before .args in cc (given-is (a .t1) (a .face))
 
 pub given-spec : {M : Type 1} → statement M
-given-spec = tie.close (tie.spec (λ c κs. search needs) (λ c. search needs) element-copy-out-result returns)
+given-spec = tie.close (tie.spec (λ c κs. search needs) (λ c. search needs) (λ c. omega (arith, number-below (c .before .args .face))) returns)

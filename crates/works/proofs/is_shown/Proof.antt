@@ -3,8 +3,5 @@ use borrow.Author.Needs.{needs}
 use Rattle.works.proofs.is_shown.Statement.{statement}
 use Rattle.works.proofs.is_shown.Tie as tie
 
-returns : tie.Need-returns
-returns c = cc
-
 pub is-shown-spec : {M : Type 1} → statement M
-is-shown-spec = tie.close (tie.spec (λ c κs. search needs) (λ c κs. search needs) (λ c κs. search needs) returns)
+is-shown-spec = tie.close (tie.spec (λ c κs. search needs) (λ c κs. search needs) (λ c κs. search needs) (λ c. cc))

@@ -3,8 +3,5 @@ use borrow.Author.Needs.{needs}
 use Rattle.works.proofs.work_if.Statement.{statement}
 use Rattle.works.proofs.work_if.Tie as tie
 
-returns : tie.Need-returns-2
-returns c = cc
-
 pub work-if-spec : {M : Type 1} → statement M
-work-if-spec = tie.close (tie.spec (λ c. search needs) returns)
+work-if-spec = tie.close (tie.spec (λ c. search needs) (λ c. cc))
