@@ -1,9 +1,12 @@
 -- `types::is_classed` meets its contract: the six words of a face are the corners that the rule names. Assumes nothing.
 use mathlib.Core.Path.{_≡_, _∙_}
+use mathlib.Core.Bool.{_&&_}
 use Prim.Native.Nat.{_+_, _*_}
-use lib.Dec.{lit<}
-use Rattle.rules.specs.Types.{classed}
+use lib.Dec.{eqb, lit<}
+use denote.Ref.{now}
+use Rattle.rules.specs.Types.{classed, classOf}
 use Rattle.voxel_mesh.proofs.Triangles.{word-of-face}
+use Rattle.floats.specs.Triples.{tripleOf}
 use borrow.Author.Needs.{needs}
 use Rattle.types.proofs.is_classed.Statement.{statement}
 use Rattle.types.proofs.is_classed.Tie as tie
@@ -49,7 +52,9 @@ returns c =
     let g : second .before .corner-of5 .result ≡ 4 * f + 3 =
     second .before .corner-of5 .ensures .0 ∙ word-of-face f 4 (start .pre .1) (lit< tt) in
     let h : second .corner-of6 .result ≡ 4 * f + 1 = second .corner-of6 .ensures .0 ∙ word-of-face f 5 (start .pre .1) (lit< tt) in
-    cc
+    let class = classOf (now (start .args .cube)) (start .args .floats) (tripleOf (start .args .centre)) in
+    let one = second .before .before .before .class-of .ensures ∙ (λ i. class (a i) (b i) (d i)) in
+    let two = c .class-of2 .ensures ∙ (λ i. class (e i) (g i) (h i)) in λ i. eqb (one i) f && eqb (two i) f
 
 pub is-classed-spec : {M : Type 1} → statement M
 is-classed-spec =
