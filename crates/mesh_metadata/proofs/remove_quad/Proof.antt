@@ -1,3 +1,6 @@
+use denote.Ref.{now}
+use lib.ListN.{set}
+use Rattle.rules.specs.Mesh.{NONE}
 use borrow.Author.Needs.{needs}
 use Rattle.mesh_metadata.proofs.remove_quad.Statement.{statement}
 use Rattle.mesh_metadata.proofs.remove_quad.Tie as tie
@@ -15,7 +18,7 @@ same-length : tie.Need-same-length
 same-length c = search needs
 
 returns : tie.Need-returns
-returns c = cc
+returns c = λ i. set (now (c .before .before .before .args .slots)) (c .slot-of .ensures i) NONE
 
 pub remove-quad-spec : {M : Type 1} → statement M
 remove-quad-spec =
