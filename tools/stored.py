@@ -4,6 +4,7 @@ A maker that is run plainly writes crates/PROGRAM/stdin and stdout, or one of se
 line of stdout. With `--to DIR` it writes below DIR/PROGRAM instead, so that what is stored can be held to what the maker makes today.
 """
 import argparse
+import fcntl
 import os
 import sys
 
@@ -46,7 +47,9 @@ def keep(program, stdin, stdout=None):
 def keep_set(program, name, data, line):
     """Stores one of the sets that a program reads, and the line that it must print for it; the lines are in order."""
     put(program, "data/" + name.replace(" ", "_"), data)
-    path = os.path.join(folder(), program, "stdout")
-    old = open(path, encoding="utf-8").readlines() if os.path.exists(path) else []
-    others = [said for said in old if not said.startswith(name + " ")]
-    put(program, "stdout", "".join(sorted(others + [line])).encode())
+    with open(os.path.join(folder(), program, "stdout"), "a+", encoding="utf-8") as out:
+        fcntl.flock(out, fcntl.LOCK_EX)  # the makers of other sets may run at the same time
+        out.seek(0)
+        others = [said for said in out if not said.startswith(name + " ")]
+        out.truncate(0)
+        out.write("".join(sorted(others + [line])))

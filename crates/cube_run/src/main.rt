@@ -194,14 +194,15 @@ fn is_right_moved(r: &[u32]) -> bool {
     is_moved_to(r[0], r[1], r[2], r[3])
 }
 
-fn is_right(kind: u32, r: &[u32], room: &mut [u32], kinds: &mut [u8], covers: &mut [u8]) -> bool
-    requires { ⌜ (512 ≤ length (now room)) × (256 ≤ length (now kinds)) × (256 ≤ length (now covers)) ⌝ }
-{
+fn is_right(kind: u32, r: &[u32]) -> bool {
     if kind == 0 {
-        return is_right_cube(r, room);
+        let mut room = words_of();
+        return is_right_cube(r, &mut room);
     }
     if kind == 1 {
-        return is_right_types(r, kinds, covers);
+        let mut kinds = bytes_of();
+        let mut covers = bytes_of();
+        return is_right_types(r, &mut kinds, &mut covers);
     }
     is_right_moved(r)
 }
@@ -239,15 +240,8 @@ impl Tally {
     }
 }
 
-fn run(
-    bytes: &mut [u8],
-    words: &mut [u32],
-    room: &mut [u32],
-    kinds: &mut [u8],
-    covers: &mut [u8],
-) -> Tally
+fn run(bytes: &mut [u8], words: &mut [u32]) -> Tally
     requires { ⌜ length (now bytes) ≡ 4 * length (now words) ⌝ }
-    requires { ⌜ (512 ≤ length (now room)) × (256 ≤ length (now kinds)) × (256 ≤ length (now covers)) ⌝ }
 {
     let mut tally = Tally {
         cubes: Count::none(),
@@ -261,7 +255,7 @@ fn run(
             return tally;
         }
         let kind = words[0];
-        tally = tally.and(kind, is_right(kind, &words[1..n], room, kinds, covers));
+        tally = tally.and(kind, is_right(kind, &words[1..n]));
         turn += 1;
     }
     tally
@@ -283,10 +277,7 @@ fn bytes_of() -> [u8; 256]
 fn main() {
     let mut bytes = io::buffer();
     let mut words = words_of();
-    let mut room = words_of();
-    let mut kinds = bytes_of();
-    let mut covers = bytes_of();
-    let tally = run(&mut bytes, &mut words, &mut room, &mut kinds, &mut covers);
+    let tally = run(&mut bytes, &mut words);
     say(b"cubes (11 wrong on purpose):", tally.cubes);
     say(b"types (6 wrong on purpose):", tally.types);
     say(b"moved (5 wrong on purpose):", tally.moved);

@@ -146,12 +146,12 @@ unfoldable pub mended : Tested → ℕ → List ℕ
 mended tested t = quadsIn (withAbove tested t) ∷ quadsIn (fresh 1 2 1 [] (1 ∷ t ∷ []) true) ∷ []
 
 -- 9. Added Null: as many quads as before (that nothing changes: `null-changes-nothing`, Idle)
-unfoldable pub addedNull : List ℕ
-addedNull = quadsIn (withAbove source 0) ∷ []
+unfoldable pub added : ℕ → List ℕ
+added t = quadsIn (withAbove source t) ∷ []
 
 -- what the cases work out
 unfoldable pub cases : List (List ℕ)
-cases = freshCases ++ (removalCases ++ (mended source 3 ∷ mended source 4 ∷ addedNull ∷ (linkWord 5 0 ∷ []) ∷ []))
+cases = freshCases ++ (removalCases ++ (mended source 3 ∷ mended source 4 ∷ added 0 ∷ (linkWord 5 0 ∷ []) ∷ []))
 
 -- the seventh and the eighth in the new mode (02, Q-2): as many quads as fresh
 pub slab-cases : mended itself 3 ∷ mended itself 4 ∷ []
@@ -177,8 +177,8 @@ mended-top : mended source 4 ≡ 10 ∷ 11 ∷ []
 unfolding mended answers._then_ answers.refuseIf answers.badLimits answers.BAD-TYPES answers.badCounts lowestFrom answers.badType answers.BAD-NUMBER answers.notACube types.isCube every types.classed types.classOf types.classAt types.classOn ieee.eq ieee.ofBits ieee.lt answers.roomOf meshBy each neighbour count laid slotted answers.badLink answers.BAD-LINKS same answers.badEntry answers.BAD-ENTRY courseFrom entryAt needed ops remove removeAt types.quadWords
 mended-top = refl
 
-null-is : addedNull ≡ 6 ∷ []
-unfolding addedNull answers._then_ answers.refuseIf answers.badLimits answers.BAD-TYPES answers.badCounts lowestFrom answers.badType answers.BAD-NUMBER answers.notACube types.isCube every types.classed types.classOf types.classAt types.classOn ieee.eq ieee.ofBits ieee.lt answers.roomOf meshBy each neighbour count laid slotted answers.badLink answers.BAD-LINKS same answers.badEntry answers.BAD-ENTRY courseFrom entryAt needed ops remove removeAt types.quadWords
+null-is : added 0 ≡ 6 ∷ []
+unfolding added answers._then_ answers.refuseIf answers.badLimits answers.BAD-TYPES answers.badCounts lowestFrom answers.badType answers.BAD-NUMBER answers.notACube types.isCube every types.classed types.classOf types.classAt types.classOn ieee.eq ieee.ofBits ieee.lt answers.roomOf meshBy each neighbour count laid slotted answers.badLink answers.BAD-LINKS same answers.badEntry answers.BAD-ENTRY courseFrom entryAt needed ops remove removeAt types.quadWords
 null-is = refl
 
 -- the ninth is not refused, and its entry does nothing

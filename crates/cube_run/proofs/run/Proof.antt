@@ -7,12 +7,10 @@ use Rattle.cube_run.proofs.run.Statement.{statement}
 use Rattle.cube_run.proofs.run.Tie as tie
 
 abbrev Inv-loop : tie.InvT-loop
-Inv-loop bytes₀ words₀ room₀ kinds₀ covers₀ tally₀ turn₀ bytes words room kinds covers tally turn =
-    (length bytes ≡ length bytes₀) × (length words ≡ length words₀) × (length room ≡ length room₀) × (length kinds ≡ length kinds₀)
-    × (length covers ≡ length covers₀) × (turn ≤ 4096)
+Inv-loop bytes₀ words₀ tally₀ turn₀ bytes words tally turn = (length bytes ≡ length bytes₀) × (length words ≡ length words₀) × (turn ≤ 4096)
 
 abbrev μ-loop : tie.MeasureT-loop
-μ-loop bytes₀ words₀ room₀ kinds₀ covers₀ tally₀ turn₀ bytes words room kinds covers tally turn = 4096 - turn
+μ-loop bytes₀ words₀ tally₀ turn₀ bytes words tally turn = 4096 - turn
 
 none-requires : tie.Need-none-requires Inv-loop μ-loop
 none-requires c κs = search needs
@@ -34,15 +32,6 @@ same-length c = search needs
 
 same-length-2 : tie.Need-same-length-2 Inv-loop μ-loop
 same-length-2 c = search needs
-
-same-length-3 : tie.Need-same-length-3 Inv-loop μ-loop
-same-length-3 c = search needs
-
-same-length-4 : tie.Need-same-length-4 Inv-loop μ-loop
-same-length-4 c = search needs
-
-same-length-5 : tie.Need-same-length-5 Inv-loop μ-loop
-same-length-5 c = search needs
 
 returns : tie.Need-returns Inv-loop μ-loop
 returns c = search needs
@@ -74,20 +63,11 @@ loop-less c = search needs
 loop-again : tie.Need-loop-again Inv-loop μ-loop
 loop-again c = search needs
 
-same-length-6 : tie.Need-same-length-6 Inv-loop μ-loop
-same-length-6 c = search needs
+same-length-3 : tie.Need-same-length-3 Inv-loop μ-loop
+same-length-3 c = search needs
 
-same-length-7 : tie.Need-same-length-7 Inv-loop μ-loop
-same-length-7 c = search needs
-
-same-length-8 : tie.Need-same-length-8 Inv-loop μ-loop
-same-length-8 c = search needs
-
-same-length-9 : tie.Need-same-length-9 Inv-loop μ-loop
-same-length-9 c = search needs
-
-same-length-10 : tie.Need-same-length-10 Inv-loop μ-loop
-same-length-10 c = search needs
+same-length-4 : tie.Need-same-length-4 Inv-loop μ-loop
+same-length-4 c = search needs
 
 returns-2 : tie.Need-returns-2 Inv-loop μ-loop
 returns-2 c = search needs
@@ -105,9 +85,6 @@ run-spec =
     read-record-requires
     same-length
     same-length-2
-    same-length-3
-    same-length-4
-    same-length-5
     returns
     slice-read-kind
     sub-is-right
@@ -118,9 +95,6 @@ run-spec =
     add-turn
     loop-less
     loop-again
-    same-length-6
-    same-length-7
-    same-length-8
-    same-length-9
-    same-length-10
+    same-length-3
+    same-length-4
     returns-2)

@@ -28,7 +28,7 @@ returns c =
     let l = c .before .before .before .loop in
     let a = c .before .before .before .before .before .args in
     let bad = badEntry (a .cells) (a .types) (a .log .now) in
-    let e : bad (l .k) ≡ true = cc (c .if1 .taken) in
+    let e : bad (l .k) ≡ true = sym (c .before .bad-entry .ensures) ∙ c .if1 .taken in
     sym (l .inv .1 ∙ lowest-here (l .k) (length (a .log .now) / 12) bad (omega arith) e)
 
 loop-again : tie.Need-loop-again Inv-loop μ-loop
@@ -36,7 +36,7 @@ loop-again c =
     let l = c .before .before .before .loop in
     let a = c .before .before .before .before .before .args in
     let bad = badEntry (a .cells) (a .types) (a .log .now) in
-    let e : bad (l .k) ≡ false = cc (c .if1 .left) in
+    let e : bad (l .k) ≡ false = sym (c .before .bad-entry .ensures) ∙ c .if1 .left in
     (omega arith, l .inv .1 ∙ lowest-next (l .k) (length (a .log .now) / 12) bad (omega arith) e)
 
 returns-2 : tie.Need-returns-2 Inv-loop μ-loop

@@ -1,9 +1,11 @@
+use denote.Ref.{now}
+use lib.ListN.{set}
 use borrow.Author.Needs.{needs}
 use Rattle.mesh_metadata.proofs.fill.Statement.{statement}
 use Rattle.mesh_metadata.proofs.fill.Tie as tie
 
 returns : tie.Need-returns
-returns c = cc
+returns c = λ i. set (now (c .before .before .args .slots)) (c .before .before .args .slot) (c .first-vertex .ensures i)
 
 pub fill-spec : {M : Type 1} → statement M
 fill-spec =

@@ -1,4 +1,5 @@
-use mathlib.Core.Path.{_≡_}
+use mathlib.Core.Path.{sym, ap, _∙_}
+use Prim.Native.Nat.{ℕ}
 use lib.ListN.{getD}
 use Rattle.rules.specs.Cells.{keyOf}
 use Rattle.rules.specs.Mesh.{NONE}
@@ -13,14 +14,16 @@ returns : tie.Need-returns
 returns c =
     let t = c .before .before .before .before .before in
     let key = keyOf (t .args .cell .0) (number (t .args .face)) in
-    vertex-none (getD (t .args .slots .now) key NONE) (cc (c .if1 .taken, within (t .args .slots .now) key NONE 0 (t .pre .1)))
+    let slot = c .before .before .wide .ensures .0 ∙ c .before .before .before .key .ensures in
+    let e = ap (λ (k : ℕ). getD (t .args .slots .now) k 0) slot ∙ sym (within (t .args .slots .now) key NONE 0 (t .pre .1)) in
+    vertex-none (getD (t .args .slots .now) key NONE) (sym e ∙ c .if1 .taken)
 
 returns-2 : tie.Need-returns-2
 returns-2 c =
     let t = c .before .before .before .before .before in
     let key = keyOf (t .args .cell .0) (number (t .args .face)) in
-    let e : getD (t .args .slots .now) (c .before .before .wide .result) 0 ≡ getD (t .args .slots .now) key NONE =
-    cc (within (t .args .slots .now) key NONE 0 (t .pre .1)) in
+    let slot = c .before .before .wide .ensures .0 ∙ c .before .before .before .key .ensures in
+    let e = ap (λ (k : ℕ). getD (t .args .slots .now) k 0) slot ∙ sym (within (t .args .slots .now) key NONE 0 (t .pre .1)) in
     vertex-some (getD (t .args .slots .now) key NONE) (getD (t .args .slots .now) (c .before .before .wide .result) 0)
     (rw e at (c .if1 .left)) e
 

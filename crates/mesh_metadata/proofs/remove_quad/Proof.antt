@@ -1,9 +1,12 @@
+use denote.Ref.{now}
+use lib.ListN.{set}
+use Rattle.rules.specs.Mesh.{NONE}
 use borrow.Author.Needs.{needs}
 use Rattle.mesh_metadata.proofs.remove_quad.Statement.{statement}
 use Rattle.mesh_metadata.proofs.remove_quad.Tie as tie
 
 returns : tie.Need-returns
-returns c = cc
+returns c = λ i. set (now (c .before .before .before .args .slots)) (c .slot-of .ensures i) NONE
 
 pub remove-quad-spec : {M : Type 1} → statement M
 remove-quad-spec =
