@@ -3,18 +3,18 @@ use mathlib.Core.Path.{_≡_, sym, ap, _∙_}
 use mathlib.Core.Bool.{true, false}
 use mathlib.Core.List.{List}
 use Prim.Native.Nat.{ℕ, _+_, _-_, _*_, _≤_, _<_}
-use native.Mathlib.Nat.{zero-add, mul-suc}
+use native.Mathlib.Nat.{mul-suc}
 use native.Mathlib.Numerals.{add-one}
 use native.Mathlib.Omega.{arith}
 use lib.Dec.{T}
 use lib.ListN.{length, getD, take, drop}
 use lib.Seq.{ext-getD}
-use Rattle.rules.specs.Lists.{table, part, row, same}
+use Rattle.rules.specs.Lists.{part, row, same}
 use Rattle.rules.specs.Cells.{Triple, coordinates, code, codeIn, cellIn}
 use Rattle.rules.specs.Floats.{finite3}
 use Rattle.rules.specs.Types.{quadWord, quadWords}
 use Rattle.rules.specs.Mesh.{typeAt}
-use Rattle.rules.proofs.ListLaws.{both-ways, same-true, same-refl, length-each, length-table, getD-table, within}
+use Rattle.rules.proofs.ListLaws.{both-ways, same-true, same-refl, within}
 use borrow.Author.Tests.{le-ltb}
 use Rattle.face.specs.declared.Face.{Face}
 use Rattle.face.specs.declared.FoundFace.the-variants as Found
@@ -24,11 +24,11 @@ use Rattle.util.specs.Grid.{sizeOf}
 use Rattle.rules.proofs.Neighbours.{inside-of}
 use Rattle.floats.specs.Triples.{tripleOf}
 use Rattle.voxel_mesh.proofs.Shapes.{row-within}
-use Rattle.rules.proofs.Rows.{length-lent, getD-each}
+use Rattle.rules.proofs.Rows.{length-lent}
 use Rattle.terms.specs.declared.Scene.{Scene}
 use Rattle.quads.specs.Quads.{Drawable}
 use Rattle.quads.proofs.Writing.{word-at}
-use Rattle.checking.specs.Quads.{Comparable, cubeAt, quadAt}
+use Rattle.checking.specs.Quads.{Comparable, cubeAt, quadWordsAt}
 
 -- ---- the face of a code
 
@@ -75,12 +75,12 @@ module _ (scene : Scene) (n : ℕ) (g cubes : List ℕ) (link : ℕ) where
     pub at : a ≡ coordinates (sizeOf (scene .dims)) (cellIn link)
 
   pub named-quad : (t f : ℕ) (a : Triple) → Named t f a
-      → quadWords (take (24 * n * t + 24 * n - 24 * n * t) (drop (24 * n * t) cubes)) n (tripleOf (scene .d)) f a ≡ quadAt scene n g cubes link
+      → quadWords (take (24 * n * t + 24 * n - 24 * n * t) (drop (24 * n * t) cubes)) n (tripleOf (scene .d)) f a ≡ quadWordsAt scene n g cubes link
   named-quad t f a r = rw (lent-is (24 * n * t) (24 * n) cubes, r .type, r .face, r .at)
 
   pub named-word : (t f : ℕ) (a : Triple) → Named t f a → (i k : ℕ) → i < 4 → k < n
       → quadWord (take (24 * n * t + 24 * n - 24 * n * t) (drop (24 * n * t) cubes)) n (tripleOf (scene .d)) f a i k
-      ≡ getD (quadAt scene n g cubes link) (n * i + k) 0
+      ≡ getD (quadWordsAt scene n g cubes link) (n * i + k) 0
   named-word t f a r i k I K =
       rw (lent-is (24 * n * t) (24 * n) cubes, r .type, r .face, r .at)
       (sym (word-at (cubeAt n g cubes (cellIn link)) n (tripleOf (scene .d)) (code (codeIn link)) (coordinates (sizeOf (scene .dims)) (cellIn link)) i k I K))

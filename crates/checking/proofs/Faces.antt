@@ -12,14 +12,14 @@ use borrow.Author.Tests.{eqb-true, eqb-false}
 use Rattle.rules.specs.Lists.{lowestFrom, lowest}
 use Rattle.rules.specs.Cells.{has, setOf}
 use Rattle.rules.specs.Mesh.{World, Lists, NONE, there, placeOf, decode}
-use Rattle.rules.specs.Answers.{slotAt, wrongFace}
+use Rattle.rules.specs.Answers.{slotAt, wrongFace, isFilled, unlike}
 use Rattle.rules.proofs.ListLaws.{both-ways, lowest-good, lowest-bad, within}
 use Rattle.rules.proofs.Searches.{Searched, passed, found}
 use Rattle.rules.proofs.Checking.{Book, filled-named, there-of, place-of}
 use Rattle.culling.specs.Culling.{worldOf}
 use Rattle.rules.proofs.Sets.{has-setOf}
 use Rattle.culling.proofs.Sides.{setOf-cong, drawn-by}
-use Rattle.checking.specs.Faces.{isFilled, filledSet, bits, fourSets, unlike, wrongSlot}
+use Rattle.checking.specs.Faces.{filledSet, bits, fourSets, wrongSlot}
 
 -- ---- searches
 

@@ -8,7 +8,8 @@ use Rattle.rules.specs.Lists.{lowest}
 use Rattle.rules.specs.Mesh.{World, drawn}
 use Rattle.rules.proofs.ListLaws.{lowest-good, lowest-bad}
 use Rattle.rules.proofs.Searches.{Searched, found}
-use Rattle.checking.specs.Faces.{isFilled, unlike, wrongSlot, wrongInRow}
+use Rattle.rules.specs.Answers.{isFilled, unlike}
+use Rattle.checking.specs.Faces.{wrongSlot, wrongInRow}
 use Rattle.checking.proofs.Faces.{passed-many}
 
 -- a face of a cell of a row, by its key

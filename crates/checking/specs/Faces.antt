@@ -1,16 +1,13 @@
 -- WRONG_SET, told by slots: after BAD_LINKS has passed, a face is there exactly if its slot is filled. Definitions only.
 use Prim.Native.Nat.{ℕ, zero, suc, _+_, _*_, _/_, _%_, _^_, _≤_, _<_}
 use mathlib.Core.Path.{_≡_}
-use mathlib.Core.Bool.{Bool, cond, not}
+use mathlib.Core.Bool.{Bool, cond}
 use mathlib.Core.List.{List}
 use lib.ListN.{length, getD}
-use lib.Dec.{eqb}
 use Rattle.rules.specs.Cells.{Size, cells, keyOf, setOf}
-use Rattle.rules.specs.Mesh.{World, NONE, drawn}
+use Rattle.rules.specs.Mesh.{World, drawn}
+use Rattle.rules.specs.Answers.{isFilled, unlike}
 use Rattle.util.specs.Grid.{Within}
-
-abbrev pub isFilled : List ℕ → ℕ → Bool
-isFilled slots k = not (eqb (getD slots k NONE) NONE)
 
 -- the faces of a cell whose slots are filled
 abbrev pub filledSet : List ℕ → ℕ → ℕ
@@ -24,9 +21,6 @@ bits p (suc k) = bits p k + cond (p k) (2 ^ k) 0
 -- four side sets side by side
 abbrev pub fourSets : (ℕ → ℕ) → ℕ
 fourSets set = set 0 + 64 * set 1 + 4096 * set 2 + 262144 * set 3
-
-abbrev pub unlike : Bool → Bool → Bool
-unlike a b = cond a (not b) b
 
 -- a face that is drawn and not there, or there and not drawn
 abbrev pub wrongSlot : World → List ℕ → List ℕ → List ℕ → ℕ → Bool

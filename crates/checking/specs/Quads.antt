@@ -18,13 +18,13 @@ abbrev pub cubeAt : ℕ → List ℕ → List ℕ → ℕ → List ℕ
 cubeAt n g cubes c = part (24 * n * typeAt g c) (24 * n) cubes
 
 -- the words of the face that a link names
-abbrev pub quadAt : Scene → ℕ → List ℕ → List ℕ → ℕ → List ℕ
-quadAt scene n g cubes link =
+abbrev pub quadWordsAt : Scene → ℕ → List ℕ → List ℕ → ℕ → List ℕ
+quadWordsAt scene n g cubes link =
     quadWords (cubeAt n g cubes (cellIn link)) n (tripleOf (scene .d)) (code (codeIn link)) (coordinates (sizeOf (scene .dims)) (cellIn link))
 
 -- quad q differs in any of its words
 abbrev pub otherQuad : Scene → ℕ → List ℕ → List ℕ → List ℕ → List ℕ → ℕ → Bool
-otherQuad scene n g cubes vertices links q = not (same (row (4 * n) vertices q) (quadAt scene n g cubes (getD links q 0)))
+otherQuad scene n g cubes vertices links q = not (same (row (4 * n) vertices q) (quadWordsAt scene n g cubes (getD links q 0)))
 
 -- quads that are linked to cubes of the grid, n words a vertex
 pub record Comparable (size : Size) (n : ℕ) (g cubes vertices links : List ℕ) (count : ℕ) : Type 0 where

@@ -28,7 +28,8 @@ ghost use Rattle.util.specs.Grid.{sizeOf};
 ghost use Rattle.terms.specs.Loans.{sceneLent, before};
 ghost use Rattle.culling.specs.Culling.{worldOf, outerSet};
 ghost use Rattle.row_sets.specs.Rows.{Along};
-ghost use Rattle.checking.specs.Faces.{isFilled, filledSet, bits, fourSets, unlike, wrongSlot, wrongInRow, Gridded};
+ghost use Rattle.rules.specs.Answers.{isFilled, unlike};
+ghost use Rattle.checking.specs.Faces.{filledSet, bits, fourSets, wrongSlot, wrongInRow, Gridded};
 ghost use Rattle.checking.specs.Outcome.{Checks};
 
 pub mod words; // words.rt: the words of the quads, compared

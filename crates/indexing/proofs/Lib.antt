@@ -1,4 +1,3 @@
-pub mod Bits
 pub mod Booking
 pub mod Doing
 pub mod Needed

@@ -178,16 +178,14 @@ fn index_part(
         ≡ indexRun (each 6 0 (deedAt beside (entryIn entry) set part)) (indexOf (now (links .entry)) (now (slots .entry)) (now (steps .entry)) tally) ⌝ }
 {
     let mut left = tally;
-    let mut f: u32 = 0;
     let mut rest = set;
     while rest != 0 {
-        let skip = u8::trailing_zeros(rest);
-        let face = face_at(f + skip);
-        let side = (f + skip) as usize;
+        let f = u8::trailing_zeros(rest);
+        let face = face_at(f);
+        let side = f as usize;
         let spot = spot_at(entry.cell, beside[side], part, face);
         left = do_deed(links, slots, steps, spot, mark_of(entry, part, face), left);
-        f = f + skip + 1;
-        rest = rest >> skip >> 1;
+        rest = rest & (rest - 1);
     }
     left
 }

@@ -1,14 +1,14 @@
 -- Laws of the words that are written: corners, positions, a vertex, a quad. Assumes nothing.
 use mathlib.Core.Path.{_≡_, refl, sym, ap, subst, _∙_}
 use mathlib.Core.Bool.{Bool, true, false, cond, _&&_}
-use mathlib.Core.List.{List, [], _∷_, _++_, append-nil, append-assoc}
+use mathlib.Core.List.{List, [], _∷_, _++_}
 use Prim.Native.Nat.{ℕ, zero, suc, _+_, _-_, _*_, _≤_, _<_}
 use native.Mathlib.Nat.{mul-le-mul-left, add-zero, zero-add}
 use native.Mathlib.Decide.{decLt}
 use native.Mathlib.Omega.{arith}
 use lib.Dec.{T, eqb}
-use lib.ListN.{length, getD, take, drop, length-append, length-take, drop-of-length-le}
-use lib.Seq.{ext-getD, sets, sets-eq, take-at, drop-append-add, drop-drop}
+use lib.ListN.{length, getD}
+use lib.Seq.{ext-getD}
 use lib.Ieee.Fits.{and-l, and-r}
 use borrow.Author.Tests.{le-ltb}
 use Rattle.rules.specs.Lists.{each, table}

@@ -6,10 +6,9 @@ use mathlib.Core.List.{List, [], _∷_}
 use lib.ListN.{getD}
 use lib.Dec.{T, ltb}
 use Rattle.rules.specs.Lists.{table}
-use Rattle.rules.specs.Cells.{Triple, along, keyOf}
+use Rattle.rules.specs.Cells.{Triple, along}
 use Rattle.rules.specs.Floats.{finite3}
-use Rattle.rules.specs.Types.{movedWord, quadWords}
-use Rattle.rules.specs.Mesh.{Quad}
+use Rattle.rules.specs.Types.{movedWord}
 use Rattle.types.specs.Tests.{Words, Placed}
 
 -- four of the words v 0, v 1, .., from word k on

@@ -161,11 +161,11 @@ NO-ROOM floats B quads = refuseIf (ltb (roomOf floats B) quads) 14 0
 
 -- ---- 15: a face missing or extra, the lowest 6·cell + face
 
-abbrev pub differ : Bool → Bool → Bool
-differ a b = cond a (not b) b
+abbrev pub unlike : Bool → Bool → Bool
+unlike a b = cond a (not b) b
 
 unfoldable pub wrongFace : World → List ℕ → List ℕ → List Quad → ℕ → Bool
-wrongFace W outer g m k = differ (drawn W outer g (k / 6) (k % 6)) (there k m)
+wrongFace W outer g m k = unlike (drawn W outer g (k / 6) (k % 6)) (there k m)
 
 abbrev pub WRONG-SET : World → List ℕ → List ℕ → List Quad → Verdict
 WRONG-SET W outer g m = refuseLowest 15 (6 * cells (W .size)) (wrongFace W outer g m)

@@ -36,7 +36,7 @@ use vectors::read_record;
 use vectors::say;
 use vectors::size;
 ghost use mathlib.Core.Path.{_≡_};
-ghost use Prim.Native.Nat.{_+_, _*_, _^_, _≤_, _<_};
+ghost use Prim.Native.Nat.{_+_, _*_, _≤_, _<_};
 ghost use lib.ListN.{length};
 
 // How many words come before the lists, in a base as in a trial.

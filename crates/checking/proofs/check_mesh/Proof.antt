@@ -119,12 +119,6 @@ faces-are c =
 faced-so : (c : tie.Else4) → refuses (verdictOf (c .before .before .refuse-if .result)) ≡ false
 faced-so c = sym (c .before .is-refusal4 .ensures) ∙ c .if4 .left
 
-open-verdict-requires : tie.Need-open-verdict-requires
-open-verdict-requires c κs = search needs
-
-is-refusal-requires : tie.Need-is-refusal-requires
-is-refusal-requires c κs = search needs
-
 returns : tie.Need-returns
 returns c = stops _ _ _ (opened-is (c .before .before)) (sym (c .before .is-refusal .ensures) ∙ c .if1 .taken)
 
@@ -133,9 +127,6 @@ cell-count-requires c κs = was-opened (c .before) .input .within .sides
 
 links-verdict-requires : tie.Need-links-verdict-requires
 links-verdict-requires c κs = rw (c .cell-count .ensures) (was-opened (c .before .before) .lent)
-
-is-refusal-requires-2 : tie.Need-is-refusal-requires-2
-is-refusal-requires-2 c κs = search needs
 
 returns-2 : tie.Need-returns-2
 returns-2 c =
@@ -148,9 +139,6 @@ triangles-verdict-requires c κs =
     let o = was-opened (opened-at c) in
     let passed = passes _ _ (links-are (c .before .before)) (linked-so c) in
     (o .room .triangles, omega (arith, few-linked (cells (scene s .size)) (lists s) (s .args .count) (o .input .slotted) passed, o .input .within .most))
-
-is-refusal-requires-3 : tie.Need-is-refusal-requires-3
-is-refusal-requires-3 c κs = search needs
 
 returns-3 : tie.Need-returns-3
 returns-3 c =
@@ -172,19 +160,10 @@ lowest-wrong-face-requires c κs =
       rw (c .outer-set .ensures) (setOf-lt (λ f. member f (now (args .outer)))),
     )
 
-cast-refuse-if : tie.Need-cast-refuse-if
-cast-refuse-if c = search needs
-
 mul-refuse-if : tie.Need-mul-refuse-if
 mul-refuse-if c =
     let linked = linked-at (c .before .before) in
     omega (arith, linked .before .before .before .cell-count .ensures, was-opened (opened-at linked) .input .within .most)
-
-refuse-if-requires : tie.Need-refuse-if-requires
-refuse-if-requires c κs = search needs
-
-is-refusal-requires-4 : tie.Need-is-refusal-requires-4
-is-refusal-requires-4 c κs = search needs
 
 returns-4 : tie.Need-returns-4
 returns-4 c = after-book (c .before .before .before .before .before) (stops _ _ _ (faces-are (c .before .before)) (sym (c .before .is-refusal4 .ensures) ∙ c .if4 .taken))
@@ -199,9 +178,6 @@ first-wrong-quad-requires c κs =
       o .input .typed .d,
     )
 
-refuse-if-requires-2 : tie.Need-refuse-if-requires-2
-refuse-if-requires-2 c κs = search needs
-
 returns-5 : tie.Need-returns-5
 returns-5 c =
     let booked = c .before .before .before .before .before .before .before in
@@ -215,24 +191,6 @@ returns-5 c =
 pub check-mesh-spec : {M : Type 1} → statement M
 check-mesh-spec =
     tie.close
-    (tie.spec
-    open-verdict-requires
-    is-refusal-requires
-    returns
-    cell-count-requires
-    links-verdict-requires
-    is-refusal-requires-2
-    returns-2
-    triangles-verdict-requires
-    is-refusal-requires-3
-    returns-3
-    outer-set-requires
-    lowest-wrong-face-requires
-    cast-refuse-if
-    mul-refuse-if
-    refuse-if-requires
-    is-refusal-requires-4
-    returns-4
-    first-wrong-quad-requires
-    refuse-if-requires-2
-    returns-5)
+    (tie.spec (λ c κs. search needs) (λ c κs. search needs) returns cell-count-requires links-verdict-requires (λ c κs. search needs) returns-2
+    triangles-verdict-requires (λ c κs. search needs) returns-3 outer-set-requires lowest-wrong-face-requires (λ c. search needs) mul-refuse-if
+    (λ c κs. search needs) (λ c κs. search needs) returns-4 first-wrong-quad-requires (λ c κs. search needs) returns-5)

@@ -1,12 +1,13 @@
 -- `checking::filled_bits` meets its contract: the bits of the slots before the one at hand. Assumes nothing.
 use mathlib.Core.Path.{_≡_, refl, sym, ap, ap₂, _∙_}
 use mathlib.Core.Bool.{Bool, cond}
-use Prim.Native.Nat.{ℕ, suc, _+_, _-_, _*_, _^_, _≤_, _<_}
+use Prim.Native.Nat.{ℕ, _+_, _-_, _*_, _^_, _≤_, _<_}
 use native.Mathlib.Nat.{pow-suc}
 use native.Mathlib.Numerals.{add-one}
 use denote.Ref.{now}
 use lib.Pow.{pow-mono}
-use Rattle.checking.specs.Faces.{isFilled, bits}
+use Rattle.rules.specs.Answers.{isFilled}
+use Rattle.checking.specs.Faces.{bits}
 use Rattle.checking.proofs.Faces.{slot-is, bits-more}
 use borrow.Author.Needs.{needs}
 use native.Mathlib.Omega.{arith}
@@ -28,29 +29,11 @@ loop-holds : tie.Need-loop-holds Inv-loop μ-loop
 unfolding bits
 loop-holds c = (omega arith, refl, refl, omega arith)
 
-add-weight-if : tie.Need-add-weight-if Inv-loop μ-loop
-add-weight-if c = search needs
-
-mul-weight-if : tie.Need-mul-weight-if Inv-loop μ-loop
-mul-weight-if c = search needs
-
-shared-slice-read-weight-if : tie.Need-shared-slice-read-weight-if Inv-loop μ-loop
-shared-slice-read-weight-if c = search needs
-
-weight-if-requires : tie.Need-weight-if-requires Inv-loop μ-loop
-weight-if-requires c κs = search needs
-
 add-filled : tie.Need-add-filled Inv-loop μ-loop
 add-filled c = let i = c .before .before in omega (arith, light i, i .before .loop .inv .3, c .weight-if .ensures .1)
 
 mul-weight : tie.Need-mul-weight Inv-loop μ-loop
 mul-weight c = omega (arith, light (c .before .before))
-
-add-k : tie.Need-add-k Inv-loop μ-loop
-add-k c = search needs
-
-loop-less : tie.Need-loop-less Inv-loop μ-loop
-loop-less c = search needs
 
 loop-again : tie.Need-loop-again Inv-loop μ-loop
 loop-again c =
@@ -76,17 +59,5 @@ returns c =
 pub filled-bits-spec : {M : Type 1} → statement M
 filled-bits-spec =
     tie.close
-    (tie.spec
-    Inv-loop
-    μ-loop
-    loop-holds
-    add-weight-if
-    mul-weight-if
-    shared-slice-read-weight-if
-    weight-if-requires
-    add-filled
-    mul-weight
-    add-k
-    loop-less
-    loop-again
-    returns)
+    (tie.spec Inv-loop μ-loop loop-holds (λ c. search needs) (λ c. search needs) (λ c. search needs) (λ c κs. search needs) add-filled mul-weight
+    (λ c. search needs) (λ c. search needs) loop-again returns)

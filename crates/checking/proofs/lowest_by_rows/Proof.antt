@@ -41,9 +41,6 @@ world s = worldOf (size s) (now (s .args .kinds)) (now (s .args .covers))
 look-of-requires : tie.Need-look-of-requires Inv-loop μ-loop
 look-of-requires c κs = (start c .pre .1, start c .pre .2)
 
-cast-width : tie.Need-cast-width Inv-loop μ-loop
-cast-width c = search needs
-
 cell-count-requires : tie.Need-cell-count-requires Inv-loop μ-loop
 cell-count-requires c κs = start (c .before .before) .pre .0 .within .sides
 
@@ -73,9 +70,6 @@ drawn-row-requires c κs =
       omega (arith, i .before .before .loop .inv .2, s .pre .4),
       s .pre .5,
     )
-
-cast-start : tie.Need-cast-start Inv-loop μ-loop
-cast-start c = search needs
 
 -- the list of sets has room for a row
 long-enough : (c : tie.After-drawn-row Inv-loop μ-loop) → given (c .before .before) .args .dims .width ≤ length (c .drawn-row .last .0)
@@ -176,9 +170,6 @@ loop-again c =
       c .next .ensures .1,
     )
 
-cast-result : tie.Need-cast-result Inv-loop μ-loop
-cast-result c = search needs
-
 mul-result-2 : tie.Need-mul-result-2 Inv-loop μ-loop
 mul-result-2 c = omega (arith, c .before .before .loop .inv .0, start (c .before .before .before .before .before .before) .pre .0 .within .most)
 
@@ -194,27 +185,6 @@ returns-2 c =
 pub lowest-by-rows-spec : {M : Type 1} → statement M
 lowest-by-rows-spec =
     tie.close
-    (tie.spec
-    Inv-loop
-    μ-loop
-    look-of-requires
-    cast-width
-    cell-count-requires
-    loop-holds
-    drawn-row-requires
-    cast-start
-    slice-reshare-prefix-lowest-in-row
-    slice-aggregate-lowest-in-row
-    lowest-in-row-requires
-    mul-if2
-    mul-result
-    add-result
-    same-length
-    returns
-    next-requires
-    loop-less
-    loop-again
-    cast-result
-    mul-result-2
-    same-length-2
-    returns-2)
+    (tie.spec Inv-loop μ-loop look-of-requires (λ c. search needs) cell-count-requires loop-holds drawn-row-requires (λ c. search needs)
+    slice-reshare-prefix-lowest-in-row slice-aggregate-lowest-in-row lowest-in-row-requires mul-if2 mul-result add-result same-length returns
+    next-requires loop-less loop-again (λ c. search needs) mul-result-2 same-length-2 returns-2)

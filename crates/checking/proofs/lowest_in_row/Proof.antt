@@ -8,7 +8,8 @@ use Rattle.rules.specs.Cells.{has, setOf, keyOf}
 use Rattle.rules.proofs.ListLaws.{lowestFrom-le}
 use Rattle.rules.proofs.Sets.{setOf-lt}
 use Rattle.rules.proofs.Searches.{Searched, searched, ended}
-use Rattle.checking.specs.Faces.{isFilled, filledSet, unlike, wrongInRow}
+use Rattle.rules.specs.Answers.{isFilled, unlike}
+use Rattle.checking.specs.Faces.{filledSet, wrongInRow}
 use Rattle.checking.proofs.Faces.{all-like, first-unlike, cells-like, four-same, same-side}
 use Rattle.checking.proofs.Rows.{row-slot}
 use borrow.Author.Needs.{needs}
@@ -34,9 +35,6 @@ inside i = i .loop-test .taken
 loop-holds : tie.Need-loop-holds Inv-loop μ-loop
 loop-holds c = (omega arith, λ sides e. searched _ _)
 
-shared-slice-read-drawn : tie.Need-shared-slice-read-drawn Inv-loop μ-loop
-shared-slice-read-drawn c = search needs
-
 add-filled-set : tie.Need-add-filled-set Inv-loop μ-loop
 add-filled-set c = let i = c .before .before .before in omega (arith, inside i, start i .pre .1)
 
@@ -45,9 +43,6 @@ filled-set-requires c κs = let i = c .before .before .before in omega (arith, i
 
 mul-result : tie.Need-mul-result Inv-loop μ-loop
 mul-result c = let i = c .before .before .before .before .before in omega (arith, inside i, start i .pre .1)
-
-lowest-unlike-requires : tie.Need-lowest-unlike-requires Inv-loop μ-loop
-lowest-unlike-requires c κs = search needs
 
 abbrev set : tie.In-loop Inv-loop μ-loop → ℕ
 set i = getD (now (start i .args .sets)) (i .before .loop .x) 0
@@ -132,23 +127,5 @@ returns-2 c = λ sides e. ended _ _ (6 * c .before .loop .x) (omega (arith, c .l
 pub lowest-in-row-spec : {M : Type 1} → statement M
 lowest-in-row-spec =
     tie.close
-    (tie.spec
-    Inv-loop
-    μ-loop
-    loop-holds
-    are-alike-requires
-    add-x
-    loop-less
-    loop-again
-    shared-slice-read-drawn
-    add-filled-set
-    filled-set-requires
-    mul-result
-    lowest-unlike-requires
-    add-result
-    returns
-    add-x-2
-    loop-less-2
-    loop-again-2
-    mul-result-2
-    returns-2)
+    (tie.spec Inv-loop μ-loop loop-holds are-alike-requires add-x loop-less loop-again (λ c. search needs) add-filled-set filled-set-requires
+    mul-result (λ c κs. search needs) add-result returns add-x-2 loop-less-2 loop-again-2 mul-result-2 returns-2)

@@ -5,7 +5,7 @@ use Prim.Native.Nat.{_-_, _/_, _%_, _^_}
 use lib.Dec.{eqb}
 use borrow.Author.Tests.{eq-eqb, ne-eqb}
 use Rattle.rules.specs.Cells.{has}
-use Rattle.checking.specs.Faces.{unlike}
+use Rattle.rules.specs.Answers.{unlike}
 use Rattle.checking.proofs.Faces.{unlike-bits}
 use Rattle.rules.proofs.Searches.{Searched, searched, found, passed, ended}
 use borrow.Author.Needs.{needs}
@@ -31,26 +31,8 @@ bits c =
 loop-holds : tie.Need-loop-holds Inv-loop μ-loop
 loop-holds c = searched _ _
 
-cast-if1 : tie.Need-cast-if1 Inv-loop μ-loop
-cast-if1 c = search needs
-
-shr-if1 : tie.Need-shr-if1 Inv-loop μ-loop
-shr-if1 c = search needs
-
-cast-if1-2 : tie.Need-cast-if1-2 Inv-loop μ-loop
-cast-if1-2 c = search needs
-
-shr-if1-2 : tie.Need-shr-if1-2 Inv-loop μ-loop
-shr-if1-2 c = search needs
-
 returns : tie.Need-returns Inv-loop μ-loop
 returns c = found _ _ _ (c .before .loop-test .taken) (c .before .before .loop .inv) (bits (c .before) ∙ ap not (ne-eqb _ _ (c .if1 .taken)))
-
-add-face : tie.Need-add-face Inv-loop μ-loop
-add-face c = search needs
-
-loop-less : tie.Need-loop-less Inv-loop μ-loop
-loop-less c = search needs
 
 loop-again : tie.Need-loop-again Inv-loop μ-loop
 loop-again c = passed _ _ _ (c .before .loop-test .taken) (c .before .before .loop .inv) (bits (c .before) ∙ ap not (eq-eqb _ _ (c .if1 .left)))
@@ -61,16 +43,5 @@ returns-2 c = ended _ _ _ (c .loop-test .left) (c .before .loop .inv)
 pub lowest-unlike-spec : {M : Type 1} → statement M
 lowest-unlike-spec =
     tie.close
-    (tie.spec
-    Inv-loop
-    μ-loop
-    loop-holds
-    cast-if1
-    shr-if1
-    cast-if1-2
-    shr-if1-2
-    returns
-    add-face
-    loop-less
-    loop-again
-    returns-2)
+    (tie.spec Inv-loop μ-loop loop-holds (λ c. search needs) (λ c. search needs) (λ c. search needs) (λ c. search needs) returns (λ c. search needs)
+    (λ c. search needs) loop-again returns-2)

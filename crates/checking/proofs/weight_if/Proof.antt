@@ -12,9 +12,6 @@ weighed : (b : Bool) (n : ℕ) → (n * boolByte b ≡ cond b n 0) × (n * boolB
 weighed true n = (omega arith, omega arith)
 weighed false n = (omega arith, omega arith)
 
-cast-result : tie.Need-cast-result
-cast-result c = search needs
-
 mul-result : tie.Need-mul-result
 mul-result c = omega (arith, weighed (c .args .on) (c .args .weight) .1)
 
@@ -22,4 +19,6 @@ returns : tie.Need-returns
 returns c = weighed (c .args .on) (c .args .weight)
 
 pub weight-if-spec : {M : Type 1} → statement M
-weight-if-spec = tie.close (tie.spec cast-result mul-result returns)
+weight-if-spec =
+    tie.close
+    (tie.spec (λ c. search needs) mul-result returns)

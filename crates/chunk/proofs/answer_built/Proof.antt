@@ -30,20 +30,11 @@ few-covers c = omega (arith, few-types (c .before .before .before .before .befor
 read-work-requires : tie.Need-read-work-requires
 read-work-requires c κs = c .before .before .before .pre .0
 
-slice-aggregate-kinds-of : tie.Need-slice-aggregate-kinds-of
-slice-aggregate-kinds-of c = search needs
-
 kinds-of-requires : tie.Need-kinds-of-requires
 kinds-of-requires c κs = let start = c .before .before .before .before .before in (start .pre .0, start .pre .0 .types)
 
-slice-aggregate-covers-of : tie.Need-slice-aggregate-covers-of
-slice-aggregate-covers-of c = search needs
-
 covers-of-requires : tie.Need-covers-of-requires
 covers-of-requires c κs = let start = c .before .before .before .before .before .before .before .before in (start .pre .0, start .pre .0 .types)
-
-slice-aggregate-outer-of : tie.Need-slice-aggregate-outer-of
-slice-aggregate-outer-of c = search needs
 
 outer-of-requires : tie.Need-outer-of-requires
 outer-of-requires c κs = lit≤ tt
@@ -70,9 +61,6 @@ slice-aggregate-answer-typed-3 c = sym (length-take-le _ _ (few-covers (c .befor
 answer-typed-requires : tie.Need-answer-typed-requires
 answer-typed-requires c κs = c .before .before .before .before .before .before .before .before .before .before .before .before .before .before .before .before .before .pre
 
-same-length : tie.Need-same-length
-same-length c = search needs
-
 returns : tie.Need-returns
 returns c =
     let called = c .before .before in
@@ -94,20 +82,6 @@ returns c =
 pub answer-built-spec : {M : Type 1} → statement M
 answer-built-spec =
     tie.close
-    (tie.spec
-    read-work-requires
-    slice-aggregate-kinds-of
-    kinds-of-requires
-    slice-aggregate-covers-of
-    covers-of-requires
-    slice-aggregate-outer-of
-    outer-of-requires
-    array-share-prefix-outer
-    slice-aggregate-answer-typed
-    array-share-prefix-kinds
-    slice-aggregate-answer-typed-2
-    array-share-prefix-covers
-    slice-aggregate-answer-typed-3
-    answer-typed-requires
-    same-length
-    returns)
+    (tie.spec read-work-requires (λ c. search needs) kinds-of-requires (λ c. search needs) covers-of-requires (λ c. search needs) outer-of-requires
+    array-share-prefix-outer slice-aggregate-answer-typed array-share-prefix-kinds slice-aggregate-answer-typed-2 array-share-prefix-covers
+    slice-aggregate-answer-typed-3 answer-typed-requires (λ c. search needs) returns)

@@ -9,9 +9,6 @@ use borrow.Author.Needs.{needs}
 use Rattle.chunk.proofs.answer_file.Statement.{statement}
 use Rattle.chunk.proofs.answer_file.Tie as tie
 
-is-bad-file-requires : tie.Need-is-bad-file-requires
-is-bad-file-requires c κs = search needs
-
 write-refused-requires : tie.Need-write-refused-requires
 write-refused-requires c κs = refused-room _ _ (omega arith) (omega arith) (omega arith)
 
@@ -29,4 +26,4 @@ returns-2 c =
 pub answer-file-spec : {M : Type 1} → statement M
 answer-file-spec =
     tie.close
-    (tie.spec is-bad-file-requires write-refused-requires returns answer-good-requires returns-2)
+    (tie.spec (λ c κs. search needs) write-refused-requires returns answer-good-requires returns-2)

@@ -27,14 +27,8 @@ back-first : (c : tie.After-build-cubes)
     ≡ c .build-cubes .last .1 .0
 back-first c = take-at _ _ _ (back c)
 
-empty-room-requires : tie.Need-empty-room-requires
-empty-room-requires c κs = search needs
-
 registry-words-requires : tie.Need-registry-words-requires
 registry-words-requires c κs = c .before .before .before .pre .0
-
-array-borrow-prefix-registry : tie.Need-array-borrow-prefix-registry
-array-borrow-prefix-registry c = search needs
 
 slice-aggregate-build-cubes : tie.Need-slice-aggregate-build-cubes
 slice-aggregate-build-cubes c = room-lent (c .before .before .empty-room .ensures) _ (omega (arith, c .before .registry-words .ensures .1))
@@ -46,9 +40,6 @@ build-cubes-requires c κs =
 
 write-refused-requires : tie.Need-write-refused-requires
 write-refused-requires c κs = refused-room _ _ (omega arith) (omega arith) (omega arith)
-
-same-length : tie.Need-same-length
-same-length c = search needs
 
 returns : tie.Need-returns
 returns c =
@@ -67,9 +58,6 @@ slice-aggregate-answer-built c = let made = c .before .before .before .before in
 answer-built-requires : tie.Need-answer-built-requires
 answer-built-requires c κs = c .before .before .before .before .before .before .before .before .before .before .before .pre
 
-same-length-2 : tie.Need-same-length-2
-same-length-2 c = search needs
-
 returns-2 : tie.Need-returns-2
 returns-2 c =
     let called = c .before .before in
@@ -84,17 +72,6 @@ returns-2 c =
 pub answer-good-spec : {M : Type 1} → statement M
 answer-good-spec =
     tie.close
-    (tie.spec
-    empty-room-requires
-    registry-words-requires
-    array-borrow-prefix-registry
-    slice-aggregate-build-cubes
-    build-cubes-requires
-    write-refused-requires
-    same-length
-    returns
-    array-share-prefix-registry
-    slice-aggregate-answer-built
-    answer-built-requires
-    same-length-2
-    returns-2)
+    (tie.spec (λ c κs. search needs) registry-words-requires (λ c. search needs) slice-aggregate-build-cubes build-cubes-requires
+    write-refused-requires (λ c. search needs) returns array-share-prefix-registry slice-aggregate-answer-built answer-built-requires
+    (λ c. search needs) returns-2)

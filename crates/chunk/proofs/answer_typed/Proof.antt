@@ -69,39 +69,18 @@ back-first : (c : tie.After-work-lists)
     → take 128 ((exit c) .links ++ drop 128 ((counted c) .before .before .before .empty-room3 .result)) ≡ (exit c) .links
 back-first c = take-at _ _ _ (back c)
 
-empty-room-requires : tie.Need-empty-room-requires
-empty-room-requires c κs = search needs
-
-empty-room-requires-2 : tie.Need-empty-room-requires-2
-empty-room-requires-2 c κs = search needs
-
-empty-room-requires-3 : tie.Need-empty-room-requires-3
-empty-room-requires-3 c κs = search needs
-
-empty-room-requires-4 : tie.Need-empty-room-requires-4
-empty-room-requires-4 c κs = search needs
-
 vertex-words-requires : tie.Need-vertex-words-requires
 vertex-words-requires c κs = c .before .before .before .before .before .before .before .before .before .before .pre .0
 
 slot-count-requires : tie.Need-slot-count-requires
 slot-count-requires c κs = c .before .before .before .before .before .before .before .before .before .before .before .pre .0
 
-array-borrow-prefix-vertices : tie.Need-array-borrow-prefix-vertices
-array-borrow-prefix-vertices c = search needs
-
 slice-aggregate-work-lists : tie.Need-slice-aggregate-work-lists
 slice-aggregate-work-lists c =
     let words = c .before .before in room-lent (words .before .before .before .before .empty-room .ensures) _ (words .vertex-words .ensures .1)
 
-array-borrow-prefix-triangles : tie.Need-array-borrow-prefix-triangles
-array-borrow-prefix-triangles c = search needs
-
 slice-aggregate-work-lists-2 : tie.Need-slice-aggregate-work-lists-2
 slice-aggregate-work-lists-2 c = room-lent (c .before .before .before .before .before .before .empty-room2 .ensures) _ (omega arith)
-
-array-borrow-prefix-links : tie.Need-array-borrow-prefix-links
-array-borrow-prefix-links c = search needs
 
 slice-aggregate-work-lists-3 : tie.Need-slice-aggregate-work-lists-3
 slice-aggregate-work-lists-3 c = room-lent (c .before .before .before .before .before .before .empty-room3 .ensures) _ (omega arith)
@@ -127,9 +106,6 @@ write-answer-requires c κs =
     let w = worked (c .before .before) in
     let s = start (counted w) in (omega arith, λ e. rw (back-first w) (shown-in w (now (s .args .out)) (s .pre .1) e))
 
-same-length : tie.Need-same-length
-same-length c = search needs
-
 returns : tie.Need-returns
 returns c =
     let wrote = c .before .before in
@@ -145,24 +121,7 @@ returns c =
 pub answer-typed-spec : {M : Type 1} → statement M
 answer-typed-spec =
     tie.close
-    (tie.spec
-    empty-room-requires
-    empty-room-requires-2
-    empty-room-requires-3
-    empty-room-requires-4
-    vertex-words-requires
-    slot-count-requires
-    array-borrow-prefix-vertices
-    slice-aggregate-work-lists
-    array-borrow-prefix-triangles
-    slice-aggregate-work-lists-2
-    array-borrow-prefix-links
-    slice-aggregate-work-lists-3
-    array-borrow-prefix-slots
-    slice-aggregate-work-lists-4
-    work-lists-requires
-    array-share-prefix-links
-    slice-aggregate-write-answer
-    write-answer-requires
-    same-length
-    returns)
+    (tie.spec (λ c κs. search needs) (λ c κs. search needs) (λ c κs. search needs) (λ c κs. search needs) vertex-words-requires slot-count-requires
+    (λ c. search needs) slice-aggregate-work-lists (λ c. search needs) slice-aggregate-work-lists-2 (λ c. search needs) slice-aggregate-work-lists-3
+    array-borrow-prefix-slots slice-aggregate-work-lists-4 work-lists-requires array-share-prefix-links slice-aggregate-write-answer
+    write-answer-requires (λ c. search needs) returns)

@@ -13,9 +13,6 @@ use Rattle.chunk.proofs.vertex_words.Tie as tie
 read-work-requires : tie.Need-read-work-requires
 read-work-requires c κs = c .before .pre
 
-floats-of-requires : tie.Need-floats-of-requires
-floats-of-requires c κs = search needs
-
 mul-result : tie.Need-mul-result
 mul-result c = omega (arith, c .floats-of .ensures, few-floats (c .before .read-work .result .coloured))
 
@@ -25,4 +22,6 @@ returns c =
     vertices-are (now (read .before .before .args .file)) (c .floats-of .ensures ∙ ap (λ (w : Work). floatsOf (w .coloured)) (read .read-work .ensures))
 
 pub vertex-words-spec : {M : Type 1} → statement M
-vertex-words-spec = tie.close (tie.spec read-work-requires floats-of-requires mul-result returns)
+vertex-words-spec =
+    tie.close
+    (tie.spec read-work-requires (λ c κs. search needs) mul-result returns)

@@ -14,9 +14,6 @@ use Rattle.chunk.proofs.write_answer.Tie as tie
 write-refused-requires : tie.Need-write-refused-requires
 write-refused-requires c κs = refused-room _ _ (omega arith) (omega arith) (omega arith)
 
-same-length : tie.Need-same-length
-same-length c = search needs
-
 returns : tie.Need-returns
 returns c =
     let wrote = c .before .before in
@@ -32,9 +29,6 @@ write-lines-requires : tie.Need-write-lines-requires
 write-lines-requires c κs =
     let test = c .before .before in let shown = test .before .before .before .before .pre .1 (test .if1 .left) in (shown .faces, shown .room)
 
-same-length-2 : tie.Need-same-length-2
-same-length-2 c = search needs
-
 returns-2 : tie.Need-returns-2
 returns-2 c =
     let wrote = c .before .before in
@@ -45,11 +39,4 @@ returns-2 c =
 pub write-answer-spec : {M : Type 1} → statement M
 write-answer-spec =
     tie.close
-    (tie.spec
-    write-refused-requires
-    same-length
-    returns
-    slice-aggregate-write-lines
-    write-lines-requires
-    same-length-2
-    returns-2)
+    (tie.spec write-refused-requires (λ c. search needs) returns slice-aggregate-write-lines write-lines-requires (λ c. search needs) returns-2)

@@ -12,21 +12,6 @@ use Rattle.cube_run.proofs.is_moved_to.Tie as tie
 passed : {r b : Bool} → r ≡ b → not r ≡ false → T b
 passed {r} e n = subst T (sym (sym e ∙ not-false r n)) tt
 
-is-finite-bits-requires : tie.Need-is-finite-bits-requires
-is-finite-bits-requires c κs = search needs
-
-returns : tie.Need-returns
-returns c = search needs
-
-returns-2 : tie.Need-returns-2
-returns-2 c = search needs
-
-is-finite-bits-requires-2 : tie.Need-is-finite-bits-requires-2
-is-finite-bits-requires-2 c κs = search needs
-
-returns-3 : tie.Need-returns-3
-returns-3 c = search needs
-
 moved-word-requires : tie.Need-moved-word-requires
 moved-word-requires c κs =
     let first = c .before .before .before .before in (
@@ -35,17 +20,8 @@ moved-word-requires c κs =
       passed (c .before .is-finite-bits2 .ensures) (c .if3 .left),
     )
 
-returns-4 : tie.Need-returns-4
-returns-4 c = search needs
-
 pub is-moved-to-spec : {M : Type 1} → statement M
 is-moved-to-spec =
     tie.close
-    (tie.spec
-    is-finite-bits-requires
-    returns
-    returns-2
-    is-finite-bits-requires-2
-    returns-3
-    moved-word-requires
-    returns-4)
+    (tie.spec (λ c κs. search needs) (λ c. search needs) (λ c. search needs) (λ c κs. search needs) (λ c. search needs) moved-word-requires
+    (λ c. search needs))

@@ -28,43 +28,10 @@ isCube c t = eqb (getD (now (start c .args .kinds)) t 0) 1
 cube : (c : tie.After-wide) → isCube c (typeAt (now (start c .args .grid)) (start c .args .cell .0)) ≡ isCube c (c .wide .result)
 cube c = ap (isCube c) (sym (code c))
 
-cast-here : tie.Need-cast-here
-cast-here c = search needs
-
-shared-slice-read-wide : tie.Need-shared-slice-read-wide
-shared-slice-read-wide c = search needs
-
-wide-requires : tie.Need-wide-requires
-wide-requires c κs = search needs
-
-is-shown-requires : tie.Need-is-shown-requires
-is-shown-requires c κs = search needs
-
-is-shown-requires-2 : tie.Need-is-shown-requires-2
-is-shown-requires-2 c κs = search needs
-
-is-shown-requires-3 : tie.Need-is-shown-requires-3
-is-shown-requires-3 c κs = search needs
-
-is-shown-requires-4 : tie.Need-is-shown-requires-4
-is-shown-requires-4 c κs = search needs
-
-is-shown-requires-5 : tie.Need-is-shown-requires-5
-is-shown-requires-5 c κs = search needs
-
-is-shown-requires-6 : tie.Need-is-shown-requires-6
-is-shown-requires-6 c κs = search needs
-
-side-set-requires : tie.Need-side-set-requires
-side-set-requires c κs = search needs
-
 shared-slice-read-bit-if : tie.Need-shared-slice-read-bit-if
 shared-slice-read-bit-if c =
     let w = c .before .before .before .before .before .before .before .before in
     omega (arith, w .wide .ensures, start w .pre .0 .typed (start w .args .cell .0) (omega arith))
-
-bit-if-requires : tie.Need-bit-if-requires
-bit-if-requires c κs = search needs
 
 returns : tie.Need-returns
 returns c =
@@ -86,17 +53,6 @@ returns c =
 pub drawn-set-spec : {M : Type 1} → statement M
 drawn-set-spec =
     tie.close
-    (tie.spec
-    cast-here
-    shared-slice-read-wide
-    wide-requires
-    is-shown-requires
-    is-shown-requires-2
-    is-shown-requires-3
-    is-shown-requires-4
-    is-shown-requires-5
-    is-shown-requires-6
-    side-set-requires
-    shared-slice-read-bit-if
-    bit-if-requires
+    (tie.spec (λ c. search needs) (λ c. search needs) (λ c κs. search needs) (λ c κs. search needs) (λ c κs. search needs) (λ c κs. search needs)
+    (λ c κs. search needs) (λ c κs. search needs) (λ c κs. search needs) (λ c κs. search needs) shared-slice-read-bit-if (λ c κs. search needs)
     returns)

@@ -34,35 +34,11 @@ inside c =
     let sides = whole .within .sides in
     rw (whole .whole) (beside _ (sides .wide) (sides .long) _ (start c .pre .1) (number face) _ (next c) .inside)
 
-neighbor-at-requires : tie.Need-neighbor-at-requires
-neighbor-at-requires c κs = search needs
-
-enum-known-beside : tie.Need-enum-known-beside
-enum-known-beside c = search needs
-
-cast-next : tie.Need-cast-next
-cast-next c = search needs
-
 shared-slice-read-wide : tie.Need-shared-slice-read-wide
 shared-slice-read-wide c = inside (c .before .before .before)
 
-wide-requires : tie.Need-wide-requires
-wide-requires c κs = search needs
-
-opposite-requires : tie.Need-opposite-requires
-opposite-requires c κs = search needs
-
 shared-slice-read-has : tie.Need-shared-slice-read-has
 shared-slice-read-has c = let side = c .before .before .before .before .before .before in rw (c .before .before .wide .ensures) (start side .pre .0 .typed _ (inside side))
-
-has-requires : tie.Need-has-requires
-has-requires c κs = search needs
-
-enum-told : tie.Need-enum-told
-enum-told c = search needs
-
-has-requires-2 : tie.Need-has-requires-2
-has-requires-2 c κs = search needs
 
 returns : tie.Need-returns
 returns c =
@@ -81,16 +57,5 @@ returns-2 c =
 pub is-shown-spec : {M : Type 1} → statement M
 is-shown-spec =
     tie.close
-    (tie.spec
-    neighbor-at-requires
-    enum-known-beside
-    cast-next
-    shared-slice-read-wide
-    wide-requires
-    opposite-requires
-    shared-slice-read-has
-    has-requires
-    enum-told
-    has-requires-2
-    returns
-    returns-2)
+    (tie.spec (λ c κs. search needs) (λ c. search needs) (λ c. search needs) shared-slice-read-wide (λ c κs. search needs) (λ c κs. search needs)
+    shared-slice-read-has (λ c κs. search needs) (λ c. search needs) (λ c κs. search needs) returns returns-2)

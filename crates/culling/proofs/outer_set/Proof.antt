@@ -21,17 +21,8 @@ abbrev μ-loop : tie.MeasureT-loop
 loop-holds : tie.Need-loop-holds Inv-loop μ-loop
 loop-holds c = (omega arith, outer-none (now (c .args .outer)))
 
-shared-slice-read-face : tie.Need-shared-slice-read-face Inv-loop μ-loop
-shared-slice-read-face c = search needs
-
 shl-set : tie.Need-shl-set Inv-loop μ-loop
 shl-set c = omega (arith, c .before .before .before .pre (c .before .before .loop .i) (omega arith))
-
-add-i : tie.Need-add-i Inv-loop μ-loop
-add-i c = search needs
-
-loop-less : tie.Need-loop-less Inv-loop μ-loop
-loop-less c = search needs
 
 loop-again : tie.Need-loop-again Inv-loop μ-loop
 loop-again c =
@@ -49,13 +40,4 @@ returns c =
 pub outer-set-spec : {M : Type 1} → statement M
 outer-set-spec =
     tie.close
-    (tie.spec
-    Inv-loop
-    μ-loop
-    loop-holds
-    shared-slice-read-face
-    shl-set
-    add-i
-    loop-less
-    loop-again
-    returns)
+    (tie.spec Inv-loop μ-loop loop-holds (λ c. search needs) shl-set (λ c. search needs) (λ c. search needs) loop-again returns)

@@ -39,9 +39,6 @@ drawn-set-requires c κs =
     let w = s .pre .0 .within in
     (s .pre .0, omega (arith, row-end size w (s .pre .2)), row-cords size w (s .pre .2) _ (c .before .if1 .taken), s .pre .1)
 
-cast-sets : tie.Need-cast-sets Inv-loop μ-loop
-cast-sets c = search needs
-
 slice-write-sets : tie.Need-slice-write-sets Inv-loop μ-loop
 slice-write-sets c = omega arith
 
@@ -63,16 +60,5 @@ returns c = λ faces e x h. c .before .before .loop .inv .2 faces e .right x (om
 pub row-by-cells-spec : {M : Type 1} → statement M
 row-by-cells-spec =
     tie.close
-    (tie.spec
-    Inv-loop
-    μ-loop
-    loop-holds
-    add-t12
-    drawn-set-requires
-    cast-sets
-    slice-write-sets
-    add-x
-    loop-less
-    loop-again
-    same-length
+    (tie.spec Inv-loop μ-loop loop-holds add-t12 drawn-set-requires (λ c. search needs) slice-write-sets add-x loop-less loop-again same-length
     returns)

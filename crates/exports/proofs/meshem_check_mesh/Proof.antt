@@ -9,15 +9,6 @@ use borrow.Author.Needs.{needs}
 use Rattle.exports.proofs.meshem_check_mesh.Statement.{statement}
 use Rattle.exports.proofs.meshem_check_mesh.Tie as tie
 
-scene-of-requires : tie.Need-scene-of-requires
-scene-of-requires c κs = search needs
-
-check-mesh-requires : tie.Need-check-mesh-requires
-check-mesh-requires c κs = search needs
-
-told-by-verdict-requires : tie.Need-told-by-verdict-requires
-told-by-verdict-requires c κs = search needs
-
 returns : tie.Need-returns
 returns c =
     let k = c .before in
@@ -31,4 +22,5 @@ returns c =
 
 pub meshem-check-mesh-spec : {M : Type 1} → statement M
 meshem-check-mesh-spec =
-    tie.close (tie.spec scene-of-requires check-mesh-requires told-by-verdict-requires returns)
+    tie.close
+    (tie.spec (λ c κs. search needs) (λ c κs. search needs) (λ c κs. search needs) returns)

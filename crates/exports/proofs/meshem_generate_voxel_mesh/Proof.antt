@@ -5,18 +5,6 @@ use borrow.Author.Needs.{needs}
 use Rattle.exports.proofs.meshem_generate_voxel_mesh.Statement.{statement}
 use Rattle.exports.proofs.meshem_generate_voxel_mesh.Tie as tie
 
-is-yes-requires : tie.Need-is-yes-requires
-is-yes-requires c κs = search needs
-
-generate-voxel-mesh-requires : tie.Need-generate-voxel-mesh-requires
-generate-voxel-mesh-requires c κs = search needs
-
-told-by-cube-requires : tie.Need-told-by-cube-requires
-told-by-cube-requires c κs = search needs
-
-same-length : tie.Need-same-length
-same-length c = search needs
-
 returns : tie.Need-returns
 returns c =
     let g = c .before .before .before in
@@ -27,9 +15,4 @@ returns c =
 pub meshem-generate-voxel-mesh-spec : {M : Type 1} → statement M
 meshem-generate-voxel-mesh-spec =
     tie.close
-    (tie.spec
-    is-yes-requires
-    generate-voxel-mesh-requires
-    told-by-cube-requires
-    same-length
-    returns)
+    (tie.spec (λ c κs. search needs) (λ c κs. search needs) (λ c κs. search needs) (λ c. search needs) returns)

@@ -8,33 +8,6 @@ use borrow.Author.Needs.{needs}
 use Rattle.exports.proofs.meshem_mesh_grid.Statement.{statement}
 use Rattle.exports.proofs.meshem_mesh_grid.Tie as tie
 
-scene-of-requires : tie.Need-scene-of-requires
-scene-of-requires c κs = search needs
-
-is-yes-requires : tie.Need-is-yes-requires
-is-yes-requires c κs = search needs
-
-algorithm-of-requires : tie.Need-algorithm-of-requires
-algorithm-of-requires c κs = search needs
-
-mesh-grid-requires : tie.Need-mesh-grid-requires
-mesh-grid-requires c κs = search needs
-
-told-by-mesh-requires : tie.Need-told-by-mesh-requires
-told-by-mesh-requires c κs = search needs
-
-same-length : tie.Need-same-length
-same-length c = search needs
-
-same-length-2 : tie.Need-same-length-2
-same-length-2 c = search needs
-
-same-length-3 : tie.Need-same-length-3
-same-length-3 c = search needs
-
-same-length-4 : tie.Need-same-length-4
-same-length-4 c = search needs
-
 returns : tie.Need-returns
 returns c =
     let m = c .before .before .before .before .before .before .before .before .before in
@@ -50,14 +23,5 @@ returns c =
 pub meshem-mesh-grid-spec : {M : Type 1} → statement M
 meshem-mesh-grid-spec =
     tie.close
-    (tie.spec
-    scene-of-requires
-    is-yes-requires
-    algorithm-of-requires
-    mesh-grid-requires
-    told-by-mesh-requires
-    same-length
-    same-length-2
-    same-length-3
-    same-length-4
-    returns)
+    (tie.spec (λ c κs. search needs) (λ c κs. search needs) (λ c κs. search needs) (λ c κs. search needs) (λ c κs. search needs) (λ c. search needs)
+    (λ c. search needs) (λ c. search needs) (λ c. search needs) returns)

@@ -9,33 +9,6 @@ use borrow.Author.Needs.{needs}
 use Rattle.exports.proofs.meshem_update_mesh.Statement.{statement}
 use Rattle.exports.proofs.meshem_update_mesh.Tie as tie
 
-scene-of-requires : tie.Need-scene-of-requires
-scene-of-requires c κs = search needs
-
-is-yes-requires : tie.Need-is-yes-requires
-is-yes-requires c κs = search needs
-
-tested-of-requires : tie.Need-tested-of-requires
-tested-of-requires c κs = search needs
-
-update-mesh-requires : tie.Need-update-mesh-requires
-update-mesh-requires c κs = search needs
-
-told-by-update-requires : tie.Need-told-by-update-requires
-told-by-update-requires c κs = search needs
-
-same-length : tie.Need-same-length
-same-length c = search needs
-
-same-length-2 : tie.Need-same-length-2
-same-length-2 c = search needs
-
-same-length-3 : tie.Need-same-length-3
-same-length-3 c = search needs
-
-same-length-4 : tie.Need-same-length-4
-same-length-4 c = search needs
-
 returns : tie.Need-returns
 returns c =
     let m = c .before .before .before .before .before .before .before .before .before in
@@ -50,14 +23,5 @@ returns c =
 pub meshem-update-mesh-spec : {M : Type 1} → statement M
 meshem-update-mesh-spec =
     tie.close
-    (tie.spec
-    scene-of-requires
-    is-yes-requires
-    tested-of-requires
-    update-mesh-requires
-    told-by-update-requires
-    same-length
-    same-length-2
-    same-length-3
-    same-length-4
-    returns)
+    (tie.spec (λ c κs. search needs) (λ c κs. search needs) (λ c κs. search needs) (λ c κs. search needs) (λ c κs. search needs) (λ c. search needs)
+    (λ c. search needs) (λ c. search needs) (λ c. search needs) returns)

@@ -4,14 +4,10 @@ use borrow.Author.Needs.{needs}
 use Rattle.lent.proofs.cell_verdict.Statement.{statement}
 use Rattle.lent.proofs.cell_verdict.Tie as tie
 
-lowest-bad-cell-requires : tie.Need-lowest-bad-cell-requires
-lowest-bad-cell-requires c κs = search needs
-
-refuse-if-requires : tie.Need-refuse-if-requires
-refuse-if-requires c κs = search needs
-
 returns : tie.Need-returns
 returns c = λ T e. c .refuse-if .ensures ∙ rw (c .before .lowest-bad-cell .ensures, e)
 
 pub cell-verdict-spec : {M : Type 1} → statement M
-cell-verdict-spec = tie.close (tie.spec lowest-bad-cell-requires refuse-if-requires returns)
+cell-verdict-spec =
+    tie.close
+    (tie.spec (λ c κs. search needs) (λ c κs. search needs) returns)

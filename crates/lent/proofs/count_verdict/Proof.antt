@@ -4,14 +4,10 @@ use borrow.Author.Needs.{needs}
 use Rattle.lent.proofs.count_verdict.Statement.{statement}
 use Rattle.lent.proofs.count_verdict.Tie as tie
 
-room-of-requires : tie.Need-room-of-requires
-room-of-requires c κs = search needs
-
-refuse-if-requires : tie.Need-refuse-if-requires
-refuse-if-requires c κs = search needs
-
 returns : tie.Need-returns
 returns c = λ B long. c .refuse-if .ensures ∙ rw (c .before .room-of .ensures B long)
 
 pub count-verdict-spec : {M : Type 1} → statement M
-count-verdict-spec = tie.close (tie.spec room-of-requires refuse-if-requires returns)
+count-verdict-spec =
+    tie.close
+    (tie.spec (λ c κs. search needs) (λ c κs. search needs) returns)

@@ -17,20 +17,8 @@ abbrev μ-loop : tie.MeasureT-loop
 loop-holds : tie.Need-loop-holds Inv-loop μ-loop
 loop-holds c = searched _ _
 
-shared-slice-read-wide : tie.Need-shared-slice-read-wide Inv-loop μ-loop
-shared-slice-read-wide c = search needs
-
-wide-requires : tie.Need-wide-requires Inv-loop μ-loop
-wide-requires c κs = search needs
-
 returns : tie.Need-returns Inv-loop μ-loop
 returns c = found _ _ _ (c .before .before .before .loop-test .taken) (c .before .before .before .before .loop .inv) (rw (c .before .wide .ensures) at (le-leb _ _ (c .if1 .taken)))
-
-add-cell : tie.Need-add-cell Inv-loop μ-loop
-add-cell c = search needs
-
-loop-less : tie.Need-loop-less Inv-loop μ-loop
-loop-less c = search needs
 
 loop-again : tie.Need-loop-again Inv-loop μ-loop
 loop-again c = passed _ _ _ (c .before .before .before .loop-test .taken) (c .before .before .before .before .loop .inv) (rw (c .before .wide .ensures) at (lt-leb _ _ (c .if1 .left)))
@@ -41,14 +29,5 @@ returns-2 c = ended _ _ _ (c .loop-test .left) (c .before .loop .inv)
 pub find-bad-cell-spec : {M : Type 1} → statement M
 find-bad-cell-spec =
     tie.close
-    (tie.spec
-    Inv-loop
-    μ-loop
-    loop-holds
-    shared-slice-read-wide
-    wide-requires
-    returns
-    add-cell
-    loop-less
-    loop-again
+    (tie.spec Inv-loop μ-loop loop-holds (λ c. search needs) (λ c κs. search needs) returns (λ c. search needs) (λ c. search needs) loop-again
     returns-2)

@@ -54,47 +54,20 @@ after-cell c e = after-outer (c .before .before .before) (goes _ _ (c .before .b
 within : (c : tie.Else1) → Within (sizeOf (start c .args .scene .dims))
 within c = sized (scene (start c)) (passes _ _ (c .before .before .size-verdict .ensures) (sym (c .before .is-refusal .ensures) ∙ c .if1 .left))
 
-size-verdict-requires : tie.Need-size-verdict-requires
-size-verdict-requires c κs = search needs
-
-is-refusal-requires : tie.Need-is-refusal-requires
-is-refusal-requires c κs = search needs
-
 returns : tie.Need-returns
 returns c = λ B e. stops _ _ _ (c .before .before .size-verdict .ensures) (sym (c .before .is-refusal .ensures) ∙ c .if1 .taken)
 
 grid-verdict-requires : tie.Need-grid-verdict-requires
 grid-verdict-requires c κs = within c
 
-is-refusal-requires-2 : tie.Need-is-refusal-requires-2
-is-refusal-requires-2 c κs = search needs
-
 returns-2 : tie.Need-returns-2
 returns-2 c = λ B e. after-size (c .before .before .before) (stops _ _ _ (c .before .before .grid-verdict .ensures) (sym (c .before .is-refusal2 .ensures) ∙ c .if2 .taken))
-
-types-verdict-requires : tie.Need-types-verdict-requires
-types-verdict-requires c κs = search needs
-
-is-refusal-requires-3 : tie.Need-is-refusal-requires-3
-is-refusal-requires-3 c κs = search needs
 
 returns-3 : tie.Need-returns-3
 returns-3 c = λ B e. after-grid (c .before .before .before) (stops _ _ _ (c .before .before .types-verdict .ensures) (sym (c .before .is-refusal3 .ensures) ∙ c .if3 .taken))
 
-outer-verdict-requires : tie.Need-outer-verdict-requires
-outer-verdict-requires c κs = search needs
-
-is-refusal-requires-4 : tie.Need-is-refusal-requires-4
-is-refusal-requires-4 c κs = search needs
-
 returns-4 : tie.Need-returns-4
 returns-4 c = λ B e. after-types (c .before .before .before) (stops _ _ _ (c .before .before .outer-verdict .ensures) (sym (c .before .is-refusal4 .ensures) ∙ c .if4 .taken))
-
-cell-verdict-requires : tie.Need-cell-verdict-requires
-cell-verdict-requires c κs = search needs
-
-is-refusal-requires-5 : tie.Need-is-refusal-requires-5
-is-refusal-requires-5 c κs = search needs
 
 returns-5 : tie.Need-returns-5
 returns-5 c = λ B e. after-outer (c .before .before .before) (stops _ _ _ (c .before .before .cell-verdict .ensures (scene (start4 (c .before .before .before)) .types) refl) (sym (c .before .is-refusal5 .ensures) ∙ c .if5 .taken))
@@ -108,21 +81,6 @@ returns-6 c = λ B e. after-cell (c .before) (c .slots-verdict .ensures B e)
 pub input-verdict-spec : {M : Type 1} → statement M
 input-verdict-spec =
     tie.close
-    (tie.spec
-    size-verdict-requires
-    is-refusal-requires
-    returns
-    grid-verdict-requires
-    is-refusal-requires-2
-    returns-2
-    types-verdict-requires
-    is-refusal-requires-3
-    returns-3
-    outer-verdict-requires
-    is-refusal-requires-4
-    returns-4
-    cell-verdict-requires
-    is-refusal-requires-5
-    returns-5
-    slots-verdict-requires
-    returns-6)
+    (tie.spec (λ c κs. search needs) (λ c κs. search needs) returns grid-verdict-requires (λ c κs. search needs) returns-2 (λ c κs. search needs)
+    (λ c κs. search needs) returns-3 (λ c κs. search needs) (λ c κs. search needs) returns-4 (λ c κs. search needs) (λ c κs. search needs) returns-5
+    slots-verdict-requires returns-6)

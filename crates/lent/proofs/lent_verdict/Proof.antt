@@ -5,17 +5,8 @@ use borrow.Author.Needs.{needs}
 use Rattle.lent.proofs.lent_verdict.Statement.{statement}
 use Rattle.lent.proofs.lent_verdict.Tie as tie
 
-slots-verdict-requires : tie.Need-slots-verdict-requires
-slots-verdict-requires c κs = search needs
-
-is-refusal-requires : tie.Need-is-refusal-requires
-is-refusal-requires c κs = search needs
-
 returns : tie.Need-returns
 returns c = λ B long. stops _ _ _ (c .before .before .slots-verdict .ensures B (long .slots)) (sym (c .before .is-refusal .ensures) ∙ c .if1 .taken)
-
-count-verdict-requires : tie.Need-count-verdict-requires
-count-verdict-requires c κs = search needs
 
 returns-2 : tie.Need-returns-2
 returns-2 c =
@@ -25,4 +16,4 @@ returns-2 c =
 pub lent-verdict-spec : {M : Type 1} → statement M
 lent-verdict-spec =
     tie.close
-    (tie.spec slots-verdict-requires is-refusal-requires returns count-verdict-requires returns-2)
+    (tie.spec (λ c κs. search needs) (λ c κs. search needs) returns (λ c κs. search needs) returns-2)

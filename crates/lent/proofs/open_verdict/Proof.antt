@@ -19,19 +19,10 @@ joined : (c : tie.Start) (B : Lists) → let args = c .args in
     ≡ openVerdict S (now (args .outer)) (now (args .grid)) B (args .count)
 joined c B = simp then-assoc
 
-input-verdict-requires : tie.Need-input-verdict-requires
-input-verdict-requires c κs = search needs
-
-is-refusal-requires : tie.Need-is-refusal-requires
-is-refusal-requires c κs = search needs
-
 returns : tie.Need-returns
 returns c =
     λ B long. let start = c .before .before .before .before .before .before .before .before in
     stops _ _ _ (c .before .before .input-verdict .ensures B (long .slots)) (sym (c .before .is-refusal .ensures) ∙ c .if1 .taken) ∙ joined start B
-
-count-verdict-requires : tie.Need-count-verdict-requires
-count-verdict-requires c κs = search needs
 
 returns-2 : tie.Need-returns-2
 returns-2 c =
@@ -43,4 +34,4 @@ returns-2 c =
 pub open-verdict-spec : {M : Type 1} → statement M
 open-verdict-spec =
     tie.close
-    (tie.spec input-verdict-requires is-refusal-requires returns count-verdict-requires returns-2)
+    (tie.spec (λ c κs. search needs) (λ c κs. search needs) returns (λ c κs. search needs) returns-2)

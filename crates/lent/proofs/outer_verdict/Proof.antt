@@ -4,14 +4,10 @@ use borrow.Author.Needs.{needs}
 use Rattle.lent.proofs.outer_verdict.Statement.{statement}
 use Rattle.lent.proofs.outer_verdict.Tie as tie
 
-lowest-bad-outer-requires : tie.Need-lowest-bad-outer-requires
-lowest-bad-outer-requires c κs = search needs
-
-refuse-if-requires : tie.Need-refuse-if-requires
-refuse-if-requires c κs = search needs
-
 returns : tie.Need-returns
 returns c = c .refuse-if .ensures ∙ rw (c .before .lowest-bad-outer .ensures)
 
 pub outer-verdict-spec : {M : Type 1} → statement M
-outer-verdict-spec = tie.close (tie.spec lowest-bad-outer-requires refuse-if-requires returns)
+outer-verdict-spec =
+    tie.close
+    (tie.spec (λ c κs. search needs) (λ c κs. search needs) returns)

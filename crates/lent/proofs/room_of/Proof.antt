@@ -7,20 +7,11 @@ use native.Mathlib.Omega.{arith}
 use Rattle.lent.proofs.room_of.Statement.{statement}
 use Rattle.lent.proofs.room_of.Tie as tie
 
-floats-of-requires : tie.Need-floats-of-requires
-floats-of-requires c κs = search needs
-
 mul-least : tie.Need-mul-least
 mul-least c = omega (arith, c .floats-of .ensures, few (c .before .args .coloured))
 
 div-least : tie.Need-div-least
 div-least c = omega (arith, c .before .floats-of .ensures, few (c .before .before .args .coloured))
-
-least-requires : tie.Need-least-requires
-least-requires c κs = search needs
-
-least-requires-2 : tie.Need-least-requires-2
-least-requires-2 c κs = search needs
 
 returns : tie.Need-returns
 unfolding roomOf
@@ -29,4 +20,4 @@ returns c = λ B long. c .least2 .ensures ∙ rw (c .before .least .ensures, c .
 pub room-of-spec : {M : Type 1} → statement M
 room-of-spec =
     tie.close
-    (tie.spec floats-of-requires mul-least div-least least-requires least-requires-2 returns)
+    (tie.spec (λ c κs. search needs) mul-least div-least (λ c κs. search needs) (λ c κs. search needs) returns)

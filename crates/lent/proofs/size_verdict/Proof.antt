@@ -4,14 +4,10 @@ use borrow.Author.Needs.{needs}
 use Rattle.lent.proofs.size_verdict.Statement.{statement}
 use Rattle.lent.proofs.size_verdict.Tie as tie
 
-bad-limits-requires : tie.Need-bad-limits-requires
-bad-limits-requires c κs = search needs
-
-refuse-if-requires : tie.Need-refuse-if-requires
-refuse-if-requires c κs = search needs
-
 returns : tie.Need-returns
 returns c = c .refuse-if .ensures ∙ rw (c .before .bad-limits .ensures)
 
 pub size-verdict-spec : {M : Type 1} → statement M
-size-verdict-spec = tie.close (tie.spec bad-limits-requires refuse-if-requires returns)
+size-verdict-spec =
+    tie.close
+    (tie.spec (λ c κs. search needs) (λ c κs. search needs) returns)

@@ -1,5 +1,5 @@
 -- `quads::has_eight` meets its contract: its first four words and the next four. Assumes nothing.
-use mathlib.Core.Path.{_≡_, sym, ap, _∙_}
+use mathlib.Core.Path.{ap, _∙_}
 use Prim.Native.Nat.{ℕ}
 use native.Mathlib.Omega.{arith}
 use borrow.Author.Needs.{needs}
@@ -12,68 +12,20 @@ use Rattle.quads.proofs.Writing.{finite-x, finite-y, finite-z, eight-ri
 use Rattle.quads.proofs.has_eight.Statement.{statement}
 use Rattle.quads.proofs.has_eight.Tie as tie
 
-word-of-requires : tie.Need-word-of-requires
-word-of-requires c κs = search needs
-
 moved-word-requires : tie.Need-moved-word-requires
 moved-word-requires c κs =
     let t = c .before .before .before in
     (rw (c .word-of .ensures) (t .pre .0 .placed (t .args .corner) 0 (t .pre .1) (omega arith)), omega arith, finite-x (t .pre .0))
-
-word-of-requires-2 : tie.Need-word-of-requires-2
-word-of-requires-2 c κs = search needs
 
 moved-word-requires-2 : tie.Need-moved-word-requires-2
 moved-word-requires-2 c κs =
     let t = c .before .before .before .before .before in
     (rw (c .word-of2 .ensures) (t .pre .0 .placed (t .args .corner) 1 (t .pre .1) (omega arith)), omega arith, finite-y (t .pre .0))
 
-word-of-requires-3 : tie.Need-word-of-requires-3
-word-of-requires-3 c κs = search needs
-
 moved-word-requires-3 : tie.Need-moved-word-requires-3
 moved-word-requires-3 c κs =
     let t = c .before .before .before .before .before .before .before in
     (rw (c .word-of3 .ensures) (t .pre .0 .placed (t .args .corner) 2 (t .pre .1) (omega arith)), omega arith, finite-z (t .pre .0))
-
-word-of-requires-4 : tie.Need-word-of-requires-4
-word-of-requires-4 c κs = search needs
-
-mul-result : tie.Need-mul-result
-mul-result c = search needs
-
-shared-slice-read-result : tie.Need-shared-slice-read-result
-shared-slice-read-result c = search needs
-
-add-result : tie.Need-add-result
-add-result c = search needs
-
-mul-result-2 : tie.Need-mul-result-2
-mul-result-2 c = search needs
-
-shared-slice-read-result-2 : tie.Need-shared-slice-read-result-2
-shared-slice-read-result-2 c = search needs
-
-add-result-2 : tie.Need-add-result-2
-add-result-2 c = search needs
-
-mul-result-3 : tie.Need-mul-result-3
-mul-result-3 c = search needs
-
-shared-slice-read-result-3 : tie.Need-shared-slice-read-result-3
-shared-slice-read-result-3 c = search needs
-
-add-result-3 : tie.Need-add-result-3
-add-result-3 c = search needs
-
-mul-result-4 : tie.Need-mul-result-4
-mul-result-4 c = search needs
-
-shared-slice-read-result-4 : tie.Need-shared-slice-read-result-4
-shared-slice-read-result-4 c = search needs
-
-has-four-requires : tie.Need-has-four-requires
-has-four-requires c κs = search needs
 
 returns : tie.Need-returns
 returns c = λ e.
@@ -97,24 +49,6 @@ returns c = λ e.
 pub has-eight-spec : {M : Type 1} → statement M
 has-eight-spec =
     tie.close
-    (tie.spec
-    word-of-requires
-    moved-word-requires
-    word-of-requires-2
-    moved-word-requires-2
-    word-of-requires-3
-    moved-word-requires-3
-    word-of-requires-4
-    mul-result
-    shared-slice-read-result
-    add-result
-    mul-result-2
-    shared-slice-read-result-2
-    add-result-2
-    mul-result-3
-    shared-slice-read-result-3
-    add-result-3
-    mul-result-4
-    shared-slice-read-result-4
-    has-four-requires
-    returns)
+    (tie.spec (λ c κs. search needs) moved-word-requires (λ c κs. search needs) moved-word-requires-2 (λ c κs. search needs) moved-word-requires-3
+    (λ c κs. search needs) (λ c. search needs) (λ c. search needs) (λ c. search needs) (λ c. search needs) (λ c. search needs) (λ c. search needs)
+    (λ c. search needs) (λ c. search needs) (λ c. search needs) (λ c. search needs) (λ c. search needs) (λ c κs. search needs) returns)

@@ -12,17 +12,8 @@ within c =
     let t = c .before .before in
     rw (c .vertex-of .ensures) (corner-below (t .args .face) (t .args .i) (t .pre .1))
 
-vertex-of-requires : tie.Need-vertex-of-requires
-vertex-of-requires c κs = search needs
-
 word-of-requires : tie.Need-word-of-requires
 word-of-requires c κs = let t = c .before .before in (t .pre .0 .words, within c, t .pre .2)
-
-coordinate-requires : tie.Need-coordinate-requires
-coordinate-requires c κs = search needs
-
-along-requires : tie.Need-along-requires
-along-requires c κs = search needs
 
 moved-word-requires : tie.Need-moved-word-requires
 moved-word-requires c κs =
@@ -54,11 +45,4 @@ returns-2 c = simp (c .before .word-of .ensures, c .before .before .vertex-of .e
 pub quad-word-spec : {M : Type 1} → statement M
 quad-word-spec =
     tie.close
-    (tie.spec
-    vertex-of-requires
-    word-of-requires
-    coordinate-requires
-    along-requires
-    moved-word-requires
-    returns
-    returns-2)
+    (tie.spec (λ c κs. search needs) word-of-requires (λ c κs. search needs) (λ c κs. search needs) moved-word-requires returns returns-2)

@@ -50,23 +50,11 @@ whole c at v =
 within : (c : tie.Else1) → first c + 3 < 24
 within c = omega (arith, number-below (begun c .args .face), c .before .before .before .before .before .number .ensures)
 
-number-requires : tie.Need-number-requires
-number-requires c κs = search needs
-
-cast-first : tie.Need-cast-first
-cast-first c = search needs
-
-mul-first : tie.Need-mul-first
-mul-first c = search needs
-
 has-eight-requires : tie.Need-has-eight-requires
 has-eight-requires c κs =
     let numbered = c in
     let t = numbered .before .before .before in
     (t .pre .0, omega (arith, number-below (t .args .face), numbered .number .ensures), omega (arith, t .pre .1))
-
-add-has-eight : tie.Need-add-has-eight
-add-has-eight c = search needs
 
 has-eight-requires-2 : tie.Need-has-eight-requires-2
 has-eight-requires-2 c κs =
@@ -74,32 +62,17 @@ has-eight-requires-2 c κs =
     let t = numbered .before .before .before in
     (t .pre .0, omega (arith, number-below (t .args .face), numbered .number .ensures), omega (arith, t .pre .1))
 
-mul-has-eight : tie.Need-mul-has-eight
-mul-has-eight c = search needs
-
-add-has-eight-2 : tie.Need-add-has-eight-2
-add-has-eight-2 c = search needs
-
 has-eight-requires-3 : tie.Need-has-eight-requires-3
 has-eight-requires-3 c κs =
     let numbered = c .before .before in
     let t = numbered .before .before .before in
     (t .pre .0, omega (arith, number-below (t .args .face), numbered .number .ensures), omega (arith, t .pre .1))
 
-mul-has-eight-2 : tie.Need-mul-has-eight-2
-mul-has-eight-2 c = search needs
-
-add-has-eight-3 : tie.Need-add-has-eight-3
-add-has-eight-3 c = search needs
-
 has-eight-requires-4 : tie.Need-has-eight-requires-4
 has-eight-requires-4 c κs =
     let numbered = c .before .before .before in
     let t = numbered .before .before .before in
     (t .pre .0, omega (arith, number-below (t .args .face), numbered .number .ensures), omega (arith, t .pre .1))
-
-returns : tie.Need-returns
-returns c = search needs
 
 returns-2 : tie.Need-returns-2
 returns-2 c =
@@ -113,9 +86,6 @@ returns-2 c =
           (λ k l. h .2 k (omega (arith, c .if2 .taken))) (λ k l. h .3 k (omega (arith, c .if2 .taken))),
     )
 
-sub-k : tie.Need-sub-k
-sub-k c = search needs
-
 has-four-requires : tie.Need-has-four-requires
 has-four-requires c κs =
     let e = c .before in
@@ -123,21 +93,12 @@ has-four-requires c κs =
     let w = t .pre .0 .words in
     (w, omega (arith, within e), omega (arith, w .least), omega (arith, t .pre .1))
 
-add-has-four : tie.Need-add-has-four
-add-has-four c = search needs
-
 has-four-requires-2 : tie.Need-has-four-requires-2
 has-four-requires-2 c κs =
     let e = c .before .before in
     let t = begun e in
     let w = t .pre .0 .words in
     (w, omega (arith, within e), omega (arith, w .least), omega (arith, t .pre .1))
-
-mul-has-four : tie.Need-mul-has-four
-mul-has-four c = search needs
-
-add-has-four-2 : tie.Need-add-has-four-2
-add-has-four-2 c = search needs
 
 has-four-requires-3 : tie.Need-has-four-requires-3
 has-four-requires-3 c κs =
@@ -150,9 +111,6 @@ mul-has-four-2 : tie.Need-mul-has-four-2
 mul-has-four-2 c =
     let t = begun (c .before .before .before .before) in
     omega (arith, t .pre .0 .words .most)
-
-add-has-four-3 : tie.Need-add-has-four-3
-add-has-four-3 c = search needs
 
 has-four-requires-4 : tie.Need-has-four-requires-4
 has-four-requires-4 c κs =
@@ -179,36 +137,10 @@ returns-3 c =
           (whole e (3 * a .floats) (first e + 2) (h .3) (fourth .has-four4 .ensures (all .1))),
     )
 
-returns-4 : tie.Need-returns-4
-returns-4 c = search needs
-
 pub sure-vertices-spec : {M : Type 1} → statement M
 sure-vertices-spec =
     tie.close
-    (tie.spec
-    number-requires
-    cast-first
-    mul-first
-    has-eight-requires
-    add-has-eight
-    has-eight-requires-2
-    mul-has-eight
-    add-has-eight-2
-    has-eight-requires-3
-    mul-has-eight-2
-    add-has-eight-3
-    has-eight-requires-4
-    returns
-    returns-2
-    sub-k
-    has-four-requires
-    add-has-four
-    has-four-requires-2
-    mul-has-four
-    add-has-four-2
-    has-four-requires-3
-    mul-has-four-2
-    add-has-four-3
-    has-four-requires-4
-    returns-3
-    returns-4)
+    (tie.spec (λ c κs. search needs) (λ c. search needs) (λ c. search needs) has-eight-requires (λ c. search needs) has-eight-requires-2
+    (λ c. search needs) (λ c. search needs) has-eight-requires-3 (λ c. search needs) (λ c. search needs) has-eight-requires-4 (λ c. search needs)
+    returns-2 (λ c. search needs) has-four-requires (λ c. search needs) has-four-requires-2 (λ c. search needs) (λ c. search needs)
+    has-four-requires-3 mul-has-four-2 (λ c. search needs) has-four-requires-4 returns-3 (λ c. search needs))

@@ -19,9 +19,7 @@ shared-slice-read-result c =
     let t = c .before in
     omega (arith, vertex-within (t .args .floats) (t .args .vertex) (t .pre .1))
 
-returns : tie.Need-returns
-returns c = search needs
-
 pub word-of-spec : {M : Type 1} → statement M
 word-of-spec =
-    tie.close (tie.spec mul-result add-result mul-result-2 shared-slice-read-result returns)
+    tie.close
+    (tie.spec mul-result add-result mul-result-2 shared-slice-read-result (λ c. search needs))

@@ -9,22 +9,10 @@ use Rattle.quads.proofs.Writing.{quad-written}
 use Rattle.quads.proofs.write_quad.Statement.{statement}
 use Rattle.quads.proofs.write_quad.Tie as tie
 
-number-requires : tie.Need-number-requires
-number-requires c κs = search needs
-
-cast-first : tie.Need-cast-first
-cast-first c = search needs
-
-mul-first : tie.Need-mul-first
-mul-first c = search needs
-
 write-vertex-requires : tie.Need-write-vertex-requires
 write-vertex-requires c κs =
     let t = c .before .before .before .before in
     (t .pre .0, omega (arith, number-below (t .args .face), c .before .number .ensures), omega (arith, t .pre .1))
-
-add-write-vertex : tie.Need-add-write-vertex
-add-write-vertex c = search needs
 
 write-vertex-requires-2 : tie.Need-write-vertex-requires-2
 write-vertex-requires-2 c κs =
@@ -32,12 +20,6 @@ write-vertex-requires-2 c κs =
     let numbered = first .before .before in
     let t = numbered .before .before .before in
     (t .pre .0, omega (arith, number-below (t .args .face), numbered .number .ensures), omega (arith, t .pre .1, first .write-vertex .kept .0))
-
-add-write-vertex-2 : tie.Need-add-write-vertex-2
-add-write-vertex-2 c = search needs
-
-mul-write-vertex : tie.Need-mul-write-vertex
-mul-write-vertex c = search needs
 
 write-vertex-requires-3 : tie.Need-write-vertex-requires-3
 write-vertex-requires-3 c κs =
@@ -50,12 +32,6 @@ write-vertex-requires-3 c κs =
       omega (arith, t .pre .1, first .write-vertex .kept .0, second .write-vertex2 .kept .0),
     )
 
-add-write-vertex-3 : tie.Need-add-write-vertex-3
-add-write-vertex-3 c = search needs
-
-mul-write-vertex-2 : tie.Need-mul-write-vertex-2
-mul-write-vertex-2 c = search needs
-
 write-vertex-requires-4 : tie.Need-write-vertex-requires-4
 write-vertex-requires-4 c κs =
     let third = c .before .before .before in
@@ -67,9 +43,6 @@ write-vertex-requires-4 c κs =
       omega (arith, number-below (t .args .face), numbered .number .ensures),
       omega (arith, t .pre .1, first .write-vertex .kept .0, second .write-vertex2 .kept .0, third .write-vertex3 .kept .0),
     )
-
-same-length : tie.Need-same-length
-same-length c = search needs
 
 returns : tie.Need-returns
 returns c =
@@ -87,18 +60,6 @@ returns c =
 pub write-quad-spec : {M : Type 1} → statement M
 write-quad-spec =
     tie.close
-    (tie.spec
-    number-requires
-    cast-first
-    mul-first
-    write-vertex-requires
-    add-write-vertex
-    write-vertex-requires-2
-    add-write-vertex-2
-    mul-write-vertex
-    write-vertex-requires-3
-    add-write-vertex-3
-    mul-write-vertex-2
-    write-vertex-requires-4
-    same-length
-    returns)
+    (tie.spec (λ c κs. search needs) (λ c. search needs) (λ c. search needs) write-vertex-requires (λ c. search needs) write-vertex-requires-2
+    (λ c. search needs) (λ c. search needs) write-vertex-requires-3 (λ c. search needs) (λ c. search needs) write-vertex-requires-4
+    (λ c. search needs) returns)

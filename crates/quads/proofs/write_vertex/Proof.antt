@@ -40,41 +40,20 @@ eight-written c =
       first .before .word-of .ensures,
     )
 
-word-of-requires : tie.Need-word-of-requires
-word-of-requires c κs = search needs
-
 moved-word-requires : tie.Need-moved-word-requires
 moved-word-requires c κs =
     let t = c .before .before .before in
     (rw (c .word-of .ensures) (t .pre .0 .placed (t .args .vertex) 0 (t .pre .1) (omega arith)), omega arith, finite-x (t .pre .0))
-
-word-of-requires-2 : tie.Need-word-of-requires-2
-word-of-requires-2 c κs = search needs
 
 moved-word-requires-2 : tie.Need-moved-word-requires-2
 moved-word-requires-2 c κs =
     let t = c .before .before .before .before .before in
     (rw (c .word-of2 .ensures) (t .pre .0 .placed (t .args .vertex) 1 (t .pre .1) (omega arith)), omega arith, finite-y (t .pre .0))
 
-word-of-requires-3 : tie.Need-word-of-requires-3
-word-of-requires-3 c κs = search needs
-
 moved-word-requires-3 : tie.Need-moved-word-requires-3
 moved-word-requires-3 c κs =
     let t = c .before .before .before .before .before .before .before in
     (rw (c .word-of3 .ensures) (t .pre .0 .placed (t .args .vertex) 2 (t .pre .1) (omega arith)), omega arith, finite-z (t .pre .0))
-
-word-of-requires-4 : tie.Need-word-of-requires-4
-word-of-requires-4 c κs = search needs
-
-write-four-requires : tie.Need-write-four-requires
-write-four-requires c κs = search needs
-
-copy-four-requires : tie.Need-copy-four-requires
-copy-four-requires c κs = search needs
-
-same-length : tie.Need-same-length
-same-length c = search needs
 
 returns : tie.Need-returns
 returns c =
@@ -95,9 +74,6 @@ copy-four-requires-2 c κs =
     let w = t .pre .0 .words in
     (w, t .pre .1, omega (arith, w .least), omega (arith, t .pre .2, copied .copy-four .kept .0, copied .before .before .before .before .write-four .kept .0))
 
-same-length-2 : tie.Need-same-length-2
-same-length-2 c = search needs
-
 returns-2 : tie.Need-returns-2
 returns-2 c =
     let last = c .before .before in
@@ -113,19 +89,6 @@ returns-2 c =
 pub write-vertex-spec : {M : Type 1} → statement M
 write-vertex-spec =
     tie.close
-    (tie.spec
-    word-of-requires
-    moved-word-requires
-    word-of-requires-2
-    moved-word-requires-2
-    word-of-requires-3
-    moved-word-requires-3
-    word-of-requires-4
-    write-four-requires
-    copy-four-requires
-    same-length
-    returns
-    sub-copy-four
-    copy-four-requires-2
-    same-length-2
-    returns-2)
+    (tie.spec (λ c κs. search needs) moved-word-requires (λ c κs. search needs) moved-word-requires-2 (λ c κs. search needs) moved-word-requires-3
+    (λ c κs. search needs) (λ c κs. search needs) (λ c κs. search needs) (λ c. search needs) returns sub-copy-four copy-four-requires-2
+    (λ c. search needs) returns-2)

@@ -16,15 +16,6 @@ lists t = let a = t .args in listsOf (a .vertices .now) (a .triangles .now) (a .
 abbrev start : tie.After-made → tie.Start
 start m = m .before .before .before .before .before .before .before .before .before .before .before
 
-enum-known-made : tie.Need-enum-known-made
-enum-known-made c = search needs
-
-check-mesh-requires : tie.Need-check-mesh-requires
-check-mesh-requires c κs = search needs
-
-enum-known-made-2 : tie.Need-enum-known-made-2
-enum-known-made-2 c = search needs
-
 returns : tie.Need-returns
 returns c =
     let made = c .before .before in
@@ -39,4 +30,5 @@ returns-2 c =
 
 pub check-made-spec : {M : Type 1} → statement M
 check-made-spec =
-    tie.close (tie.spec enum-known-made check-mesh-requires enum-known-made-2 returns returns-2)
+    tie.close
+    (tie.spec (λ c. search needs) (λ c κs. search needs) (λ c. search needs) returns returns-2)

@@ -13,24 +13,6 @@ scene t = let a = t .args in sceneOf (a .scene) (a .kinds .now) (a .covers .now)
 abbrev lists : tie.Start → Lists
 lists t = let a = t .args in listsOf (a .vertices .now) (a .triangles .now) (a .links .now) (a .slots .now)
 
-mesh-grid-requires : tie.Need-mesh-grid-requires
-mesh-grid-requires c κs = search needs
-
-check-made-requires : tie.Need-check-made-requires
-check-made-requires c κs = search needs
-
-same-length : tie.Need-same-length
-same-length c = search needs
-
-same-length-2 : tie.Need-same-length-2
-same-length-2 c = search needs
-
-same-length-3 : tie.Need-same-length-3
-same-length-3 c = search needs
-
-same-length-4 : tie.Need-same-length-4
-same-length-4 c = search needs
-
 returns : tie.Need-returns
 returns c =
     let m = c .before .before .before .before .before .before .before .before .before .before .before .before .before in
@@ -40,11 +22,4 @@ returns c =
 pub make-and-check-spec : {M : Type 1} → statement M
 make-and-check-spec =
     tie.close
-    (tie.spec
-    mesh-grid-requires
-    check-made-requires
-    same-length
-    same-length-2
-    same-length-3
-    same-length-4
-    returns)
+    (tie.spec (λ c κs. search needs) (λ c κs. search needs) (λ c. search needs) (λ c. search needs) (λ c. search needs) (λ c. search needs) returns)

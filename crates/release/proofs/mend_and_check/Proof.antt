@@ -30,27 +30,6 @@ first-fine c = passes _ _ (c .before .before .check-mesh .ensures) (sym (c .befo
 abbrev exit : tie.After-update-mesh → Lists
 exit u = let l = u .update-mesh .last .1 .1 .1 .1 .1 .1 in listsOf (l .0) (l .1 .0) (l .1 .1 .0) (l .1 .1 .1 .0)
 
-slice-aggregate-no-face : tie.Need-slice-aggregate-no-face
-slice-aggregate-no-face c = search needs
-
-check-mesh-requires : tie.Need-check-mesh-requires
-check-mesh-requires c κs = search needs
-
-is-refusal-requires : tie.Need-is-refusal-requires
-is-refusal-requires c κs = search needs
-
-same-length : tie.Need-same-length
-same-length c = search needs
-
-same-length-2 : tie.Need-same-length-2
-same-length-2 c = search needs
-
-same-length-3 : tie.Need-same-length-3
-same-length-3 c = search needs
-
-same-length-4 : tie.Need-same-length-4
-same-length-4 c = search needs
-
 returns : tie.Need-returns
 returns c =
     let k = c .before .before in
@@ -58,27 +37,6 @@ returns c =
     promised (t .args .tested) (scene t) (t .args .grid .now) (t .args .log .now) (t .args .left .now) (lists t) (t .args .quads)
     (stopped (testedBy (t .args .tested)) (scene t) (t .args .grid .now) (t .args .log .now) (t .args .left .now) (lists t) (t .args .quads) _
     (k .check-mesh .ensures) (sym (c .before .is-refusal .ensures) ∙ c .if1 .taken))
-
-update-mesh-requires : tie.Need-update-mesh-requires
-update-mesh-requires c κs = search needs
-
-mesh-left-requires : tie.Need-mesh-left-requires
-mesh-left-requires c κs = search needs
-
-check-made-requires : tie.Need-check-made-requires
-check-made-requires c κs = search needs
-
-same-length-5 : tie.Need-same-length-5
-same-length-5 c = search needs
-
-same-length-6 : tie.Need-same-length-6
-same-length-6 c = search needs
-
-same-length-7 : tie.Need-same-length-7
-same-length-7 c = search needs
-
-same-length-8 : tie.Need-same-length-8
-same-length-8 c = search needs
 
 returns-2 : tie.Need-returns-2
 returns-2 c =
@@ -97,20 +55,6 @@ returns-2 c =
 pub mend-and-check-spec : {M : Type 1} → statement M
 mend-and-check-spec =
     tie.close
-    (tie.spec
-    slice-aggregate-no-face
-    check-mesh-requires
-    is-refusal-requires
-    same-length
-    same-length-2
-    same-length-3
-    same-length-4
-    returns
-    update-mesh-requires
-    mesh-left-requires
-    check-made-requires
-    same-length-5
-    same-length-6
-    same-length-7
-    same-length-8
-    returns-2)
+    (tie.spec (λ c. search needs) (λ c κs. search needs) (λ c κs. search needs) (λ c. search needs) (λ c. search needs) (λ c. search needs)
+    (λ c. search needs) returns (λ c κs. search needs) (λ c κs. search needs) (λ c κs. search needs) (λ c. search needs) (λ c. search needs)
+    (λ c. search needs) (λ c. search needs) returns-2)

@@ -21,18 +21,6 @@ abbrev μ-loop : tie.MeasureT-loop
 loop-holds : tie.Need-loop-holds Inv-loop μ-loop
 loop-holds c = (omega arith, λ e k h. absurd (omega arith))
 
-add-code : tie.Need-add-code Inv-loop μ-loop
-add-code c = search needs
-
-shared-slice-read-code : tie.Need-shared-slice-read-code Inv-loop μ-loop
-shared-slice-read-code c = search needs
-
-add-i : tie.Need-add-i Inv-loop μ-loop
-add-i c = search needs
-
-loop-less : tie.Need-loop-less Inv-loop μ-loop
-loop-less c = search needs
-
 loop-again : tie.Need-loop-again Inv-loop μ-loop
 loop-again c =
     let l = c .before .before .before .before .loop in
@@ -47,4 +35,6 @@ returns : tie.Need-returns Inv-loop μ-loop
 returns c = λ e k h. c .before .loop .inv .1 e k (omega arith)
 
 pub are-plain-spec : {M : Type 1} → statement M
-are-plain-spec = tie.close (tie.spec Inv-loop μ-loop loop-holds add-code shared-slice-read-code add-i loop-less loop-again returns)
+are-plain-spec =
+    tie.close
+    (tie.spec Inv-loop μ-loop loop-holds (λ c. search needs) (λ c. search needs) (λ c. search needs) (λ c. search needs) loop-again returns)

@@ -34,15 +34,6 @@ cell-set-requires c κs =
     let s = c .before .before .before .before .before in
     (s .pre .0, beside-in-grid (s .args .rows) (s .pre .0 .rows-are) _ (omega (arith, s .pre .2)) (s .pre .1) (omega (arith, s .pre .3, s .pre .0 .whole)))
 
-array-write-block : tie.Need-array-write-block Inv-loop μ-loop
-array-write-block c = search needs
-
-add-i : tie.Need-add-i Inv-loop μ-loop
-add-i c = search needs
-
-loop-less : tie.Need-loop-less Inv-loop μ-loop
-loop-less c = search needs
-
 loop-again : tie.Need-loop-again Inv-loop μ-loop
 loop-again c =
     let l = c .before .before .before .loop in
@@ -54,17 +45,5 @@ returns c = λ i h. c .before .loop .inv .1 .right i (omega arith)
 pub block-of-spec : {M : Type 1} → statement M
 block-of-spec =
     tie.close
-    (tie.spec
-    Inv-loop
-    μ-loop
-    loop-holds
-    add-on
-    add-here
-    add-cell-set
-    sub-cell-set
-    cell-set-requires
-    array-write-block
-    add-i
-    loop-less
-    loop-again
-    returns)
+    (tie.spec Inv-loop μ-loop loop-holds add-on add-here add-cell-set sub-cell-set cell-set-requires (λ c. search needs) (λ c. search needs)
+    (λ c. search needs) loop-again returns)

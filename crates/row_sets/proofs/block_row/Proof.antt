@@ -14,9 +14,6 @@ Inv-loop sets₀ look along grid rows width x₀ sets x = (x ≤ width) × Passe
 abbrev μ-loop : tie.MeasureT-loop
 μ-loop sets₀ look along grid rows width x₀ sets x = width - x
 
-cast-width : tie.Need-cast-width Inv-loop μ-loop
-cast-width c = search needs
-
 loop-holds : tie.Need-loop-holds Inv-loop μ-loop
 loop-holds c = (omega arith, passed _ _)
 
@@ -50,16 +47,5 @@ returns c = λ x h. c .before .loop .inv .1 .right x (omega arith)
 pub block-row-spec : {M : Type 1} → statement M
 block-row-spec =
     tie.close
-    (tie.spec
-    Inv-loop
-    μ-loop
-    cast-width
-    loop-holds
-    block-start-requires
-    block-of-requires
-    store-block-requires
-    add-x
-    loop-less
-    loop-again
-    same-length
-    returns)
+    (tie.spec Inv-loop μ-loop (λ c. search needs) loop-holds block-start-requires block-of-requires store-block-requires add-x loop-less loop-again
+    same-length returns)

@@ -39,9 +39,6 @@ plain-row-requires c κs =
       subst (λ (d : Dimensions). d .width ≤ length (now (s .args .sets))) (sym (r .1)) (s .pre .2),
     )
 
-same-length : tie.Need-same-length
-same-length c = search needs
-
 returns : tie.Need-returns
 returns c =
     λ faces e x h. let a = c .before .before .before .before .before .before .before .before .before .before .before .before .args in
@@ -54,21 +51,11 @@ returns c =
 row-by-cells-requires : tie.Need-row-by-cells-requires
 row-by-cells-requires c κs = let s = c .before .before .before .before .before .before .before .before .before in (s .pre .0 .grid, s .pre .0 .both, s .pre .1, s .pre .2)
 
-same-length-2 : tie.Need-same-length-2
-same-length-2 c = search needs
-
 returns-2 : tie.Need-returns-2
 returns-2 c = c .before .before .row-by-cells .ensures
 
 pub drawn-row-spec : {M : Type 1} → statement M
 drawn-row-spec =
     tie.close
-    (tie.spec
-    rows-around-requires
-    is-plain-row-requires
-    plain-row-requires
-    same-length
-    returns
-    row-by-cells-requires
-    same-length-2
+    (tie.spec rows-around-requires is-plain-row-requires plain-row-requires (λ c. search needs) returns row-by-cells-requires (λ c. search needs)
     returns-2)

@@ -8,9 +8,6 @@ use Rattle.rules.proofs.ListLaws.{and-true}
 use Rattle.row_sets.proofs.has_blocks.Statement.{statement}
 use Rattle.row_sets.proofs.has_blocks.Tie as tie
 
-add-result : tie.Need-add-result
-add-result c = search needs
-
 returns : tie.Need-returns
 returns c =
     λ e. let a = c .args in
@@ -19,4 +16,6 @@ returns c =
     (leb-true 16 (a .width) (first .0), ltb-true 0 (a .at) (first .1), ltb-true (a .at + a .width) (a .cells) (all .1))
 
 pub has-blocks-spec : {M : Type 1} → statement M
-has-blocks-spec = tie.close (tie.spec add-result returns)
+has-blocks-spec =
+    tie.close
+    (tie.spec (λ c. search needs) returns)

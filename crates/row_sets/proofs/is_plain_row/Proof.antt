@@ -12,9 +12,6 @@ use Rattle.row_sets.proofs.is_plain_row.Tie as tie
 returns : tie.Need-returns
 returns c = λ e x h. (all-plain _ _ _ (c .if1 .taken), λ f n l q. all-plain _ _ _ (c .if1 .taken))
 
-cast-n : tie.Need-cast-n
-cast-n c = search needs
-
 are-plain-requires : tie.Need-are-plain-requires
 are-plain-requires c κs = omega arith
 
@@ -46,13 +43,5 @@ returns-3 c =
 pub is-plain-row-spec : {M : Type 1} → statement M
 is-plain-row-spec =
     tie.close
-    (tie.spec
-    returns
-    cast-n
-    are-plain-requires
-    returns-2
-    are-plain-requires-2
-    are-plain-requires-3
-    are-plain-requires-4
-    are-plain-requires-5
-    returns-3)
+    (tie.spec returns (λ c. search needs) are-plain-requires returns-2 are-plain-requires-2 are-plain-requires-3 are-plain-requires-4
+    are-plain-requires-5 returns-3)

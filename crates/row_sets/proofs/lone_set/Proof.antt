@@ -5,23 +5,8 @@ use native.Mathlib.Omega.{arith}
 use Rattle.row_sets.proofs.lone_set.Statement.{statement}
 use Rattle.row_sets.proofs.lone_set.Tie as tie
 
-add-here : tie.Need-add-here
-add-here c = search needs
-
-add-right : tie.Need-add-right
-add-right c = search needs
-
-cast-right : tie.Need-cast-right
-cast-right c = search needs
-
-cast-right-2 : tie.Need-cast-right-2
-cast-right-2 c = search needs
-
 add-right-2 : tie.Need-add-right-2
 add-right-2 c = let s = c .before .before .before .before in omega (arith, beside-lone (s .args .rows) (s .pre .0 .rows-are) (s .args .x) (s .pre .1) .right-in, s .pre .0 .rows-are .within .most)
-
-cast-left : tie.Need-cast-left
-cast-left c = search needs
 
 sub-left : tie.Need-sub-left
 sub-left c = step-back _ _
@@ -29,8 +14,8 @@ sub-left c = step-back _ _
 cell-set-requires : tie.Need-cell-set-requires
 cell-set-requires c κs = let s = c .before .before .before .before in (s .pre .0, beside-lone (s .args .rows) (s .pre .0 .rows-are) (s .args .x) (s .pre .1))
 
-returns : tie.Need-returns
-returns c = search needs
-
 pub lone-set-spec : {M : Type 1} → statement M
-lone-set-spec = tie.close (tie.spec add-here add-right cast-right cast-right-2 add-right-2 cast-left sub-left cell-set-requires returns)
+lone-set-spec =
+    tie.close
+    (tie.spec (λ c. search needs) (λ c. search needs) (λ c. search needs) (λ c. search needs) add-right-2 (λ c. search needs) sub-left
+    cell-set-requires (λ c. search needs))

@@ -13,9 +13,6 @@ Inv-loop sets₀ look along grid rows width x₀ sets x = (x ≤ width) × Passe
 abbrev μ-loop : tie.MeasureT-loop
 μ-loop sets₀ look along grid rows width x₀ sets x = width - x
 
-cast-width : tie.Need-cast-width Inv-loop μ-loop
-cast-width c = search needs
-
 has-blocks-requires : tie.Need-has-blocks-requires Inv-loop μ-loop
 has-blocks-requires c κs = let r = c .before .before .before .before .pre .0 .rows-are in (omega (arith, r .fits, r .within .most), r .within .sides .widest)
 
@@ -24,9 +21,6 @@ block-row-requires c κs =
     let s = c .before .before .before .before .before .before .before in
     let b = c .before .before .has-blocks .ensures (c .before .if1 .taken) in
     (s .pre .0, s .pre .1, b .0, b .1, b .2)
-
-same-length : tie.Need-same-length Inv-loop μ-loop
-same-length c = search needs
 
 returns : tie.Need-returns Inv-loop μ-loop
 returns c = c .before .before .block-row .ensures
@@ -39,12 +33,6 @@ lone-set-requires c κs = (c .before .before .before .before .before .before .be
 
 slice-write-sets : tie.Need-slice-write-sets Inv-loop μ-loop
 slice-write-sets c = omega (arith, c .before .loop-test .taken, c .before .before .loop .inv .1 .long, c .before .before .before .before .before .before .before .before .before .pre .1)
-
-add-x : tie.Need-add-x Inv-loop μ-loop
-add-x c = search needs
-
-loop-less : tie.Need-loop-less Inv-loop μ-loop
-loop-less c = search needs
 
 loop-again : tie.Need-loop-again Inv-loop μ-loop
 loop-again c =
@@ -60,19 +48,5 @@ returns-2 c = λ x h. c .before .loop .inv .1 .right x (omega arith)
 pub plain-row-spec : {M : Type 1} → statement M
 plain-row-spec =
     tie.close
-    (tie.spec
-    Inv-loop
-    μ-loop
-    cast-width
-    has-blocks-requires
-    block-row-requires
-    same-length
-    returns
-    loop-holds
-    lone-set-requires
-    slice-write-sets
-    add-x
-    loop-less
-    loop-again
-    same-length-2
-    returns-2)
+    (tie.spec Inv-loop μ-loop (λ c. search needs) has-blocks-requires block-row-requires (λ c. search needs) returns loop-holds lone-set-requires
+    slice-write-sets (λ c. search needs) (λ c. search needs) loop-again same-length-2 returns-2)

@@ -11,14 +11,8 @@ use native.Mathlib.Omega.{arith}
 use Rattle.row_sets.proofs.plain_set.Statement.{statement}
 use Rattle.row_sets.proofs.plain_set.Tie as tie
 
-side-set-requires : tie.Need-side-set-requires
-side-set-requires c κs = search needs
-
 sub-edge : tie.Need-sub-edge
 sub-edge c = let s = c .before .before .before .before .before .before .before in omega (arith, or-lt 6 (s .args .keep) (s .args .outer) (s .pre .0) (s .pre .1))
-
-bit-if-requires : tie.Need-bit-if-requires
-bit-if-requires c κs = search needs
 
 returns : tie.Need-returns
 unfolding plainSet
@@ -30,4 +24,6 @@ returns c =
     (formula-is (λ f. ltb (codeOf (a .codes) f) (a .full)) (c .before .side-set .result) (a .keep) (a .outer) (c .before .side-set .ensures) (s .pre .0) (s .pre .1))
 
 pub plain-set-spec : {M : Type 1} → statement M
-plain-set-spec = tie.close (tie.spec side-set-requires sub-edge bit-if-requires returns)
+plain-set-spec =
+    tie.close
+    (tie.spec (λ c κs. search needs) sub-edge (λ c κs. search needs) returns)

@@ -7,42 +7,6 @@ use native.Mathlib.Omega.{arith}
 use Rattle.row_sets.proofs.rows_around.Statement.{statement}
 use Rattle.row_sets.proofs.rows_around.Tie as tie
 
-cast-at : tie.Need-cast-at
-cast-at c = search needs
-
-row-beside-requires : tie.Need-row-beside-requires
-row-beside-requires c κs = search needs
-
-row-beside-requires-2 : tie.Need-row-beside-requires-2
-row-beside-requires-2 c κs = search needs
-
-row-beside-requires-3 : tie.Need-row-beside-requires-3
-row-beside-requires-3 c κs = search needs
-
-row-beside-requires-4 : tie.Need-row-beside-requires-4
-row-beside-requires-4 c κs = search needs
-
-bit-if-requires : tie.Need-bit-if-requires
-bit-if-requires c κs = search needs
-
-bit-if-requires-2 : tie.Need-bit-if-requires-2
-bit-if-requires-2 c κs = search needs
-
-add-sides : tie.Need-add-sides
-add-sides c = search needs
-
-bit-if-requires-3 : tie.Need-bit-if-requires-3
-bit-if-requires-3 c κs = search needs
-
-add-sides-2 : tie.Need-add-sides-2
-add-sides-2 c = search needs
-
-bit-if-requires-4 : tie.Need-bit-if-requires-4
-bit-if-requires-4 c κs = search needs
-
-add-sides-3 : tie.Need-add-sides-3
-add-sides-3 c = search needs
-
 returns : tie.Need-returns
 returns c =
     let s = c .before .before .before .before .before .before .before .before .before in (
@@ -65,17 +29,5 @@ returns c =
 pub rows-around-spec : {M : Type 1} → statement M
 rows-around-spec =
     tie.close
-    (tie.spec
-    cast-at
-    row-beside-requires
-    row-beside-requires-2
-    row-beside-requires-3
-    row-beside-requires-4
-    bit-if-requires
-    bit-if-requires-2
-    add-sides
-    bit-if-requires-3
-    add-sides-2
-    bit-if-requires-4
-    add-sides-3
-    returns)
+    (tie.spec (λ c. search needs) (λ c κs. search needs) (λ c κs. search needs) (λ c κs. search needs) (λ c κs. search needs) (λ c κs. search needs)
+    (λ c κs. search needs) (λ c. search needs) (λ c κs. search needs) (λ c. search needs) (λ c κs. search needs) (λ c. search needs) returns)

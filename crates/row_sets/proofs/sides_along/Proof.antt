@@ -19,15 +19,6 @@ loop-holds c = (omega arith, passed _ _)
 sides-at-requires : tie.Need-sides-at-requires Inv-loop μ-loop
 sides-at-requires c κs = omega arith
 
-slice-write-along : tie.Need-slice-write-along Inv-loop μ-loop
-slice-write-along c = search needs
-
-add-x : tie.Need-add-x Inv-loop μ-loop
-add-x c = search needs
-
-loop-less : tie.Need-loop-less Inv-loop μ-loop
-loop-less c = search needs
-
 loop-again : tie.Need-loop-again Inv-loop μ-loop
 loop-again c =
     let l = c .before .before .loop in
@@ -42,14 +33,4 @@ returns c = let p = c .before .loop .inv .1 in record { long = omega (arith, p .
 pub sides-along-spec : {M : Type 1} → statement M
 sides-along-spec =
     tie.close
-    (tie.spec
-    Inv-loop
-    μ-loop
-    loop-holds
-    sides-at-requires
-    slice-write-along
-    add-x
-    loop-less
-    loop-again
-    same-length
-    returns)
+    (tie.spec Inv-loop μ-loop loop-holds sides-at-requires (λ c. search needs) (λ c. search needs) (λ c. search needs) loop-again same-length returns)

@@ -13,9 +13,6 @@ Inv-loop from to₀ n i₀ to i = (length to ≡ length to₀) × (i ≤ n)
 abbrev μ-loop : tie.MeasureT-loop
 μ-loop from to₀ n i₀ to i = n - i
 
-least-requires : tie.Need-least-requires Inv-loop μ-loop
-least-requires c κs = search needs
-
 loop-holds : tie.Need-loop-holds Inv-loop μ-loop
 loop-holds c = (refl, omega arith)
 
@@ -43,23 +40,8 @@ loop-again c = (simp length-set (c .before .before .loop .inv .0), omega arith)
 same-length : tie.Need-same-length Inv-loop μ-loop
 same-length c = c .before .loop .inv .0
 
-returns : tie.Need-returns Inv-loop μ-loop
-returns c = search needs
-
 pub copy-spec : {M : Type 1} → statement M
 copy-spec =
     tie.close
-    (tie.spec
-    Inv-loop
-    μ-loop
-    least-requires
-    loop-holds
-    mul-to
-    shared-slice-read-to
-    mul-to-2
-    slice-write-to
-    add-i
-    loop-less
-    loop-again
-    same-length
-    returns)
+    (tie.spec Inv-loop μ-loop (λ c κs. search needs) loop-holds mul-to shared-slice-read-to mul-to-2 slice-write-to add-i loop-less loop-again
+    same-length (λ c. search needs))

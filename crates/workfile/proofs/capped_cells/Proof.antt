@@ -7,17 +7,8 @@ use Rattle.workfile.proofs.Files.{product-fits, capped-under, capped-ov
 use Rattle.workfile.proofs.capped_cells.Statement.{statement}
 use Rattle.workfile.proofs.capped_cells.Tie as tie
 
-cast-layer : tie.Need-cast-layer
-cast-layer c = search needs
-
-cast-layer-2 : tie.Need-cast-layer-2
-cast-layer-2 c = search needs
-
 mul-layer : tie.Need-mul-layer
 mul-layer c = let dims = c .before .before .args .dims in omega (arith, product-fits (dims .height) (dims .length) (omega arith) (omega arith))
-
-cast-width : tie.Need-cast-width
-cast-width c = search needs
 
 returns : tie.Need-returns
 returns c = (sym (capped-empty _ _ (c .if1 .taken)), omega arith)
@@ -39,13 +30,4 @@ returns-4 c = (sym (capped-over _ (c .if3 .left)), omega arith)
 pub capped-cells-spec : {M : Type 1} → statement M
 capped-cells-spec =
     tie.close
-    (tie.spec
-    cast-layer
-    cast-layer-2
-    mul-layer
-    cast-width
-    returns
-    returns-2
-    mul-cells
-    returns-3
-    returns-4)
+    (tie.spec (λ c. search needs) (λ c. search needs) mul-layer (λ c. search needs) returns returns-2 mul-cells returns-3 returns-4)

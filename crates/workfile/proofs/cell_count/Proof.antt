@@ -8,16 +8,12 @@ use borrow.Author.Needs.{needs}
 use Rattle.workfile.proofs.cell_count.Statement.{statement}
 use Rattle.workfile.proofs.cell_count.Tie as tie
 
-dims-of-requires : tie.Need-dims-of-requires
-dims-of-requires c κs = search needs
-
-capped-cells-requires : tie.Need-capped-cells-requires
-capped-cells-requires c κs = search needs
-
 returns : tie.Need-returns
 returns c =
     let count = c .capped-cells in
     (count .ensures .0 ∙ ap (λ (d : Dimensions). capped (cells (sizeOf d))) (c .before .dims-of .ensures), count .ensures .1)
 
 pub cell-count-spec : {M : Type 1} → statement M
-cell-count-spec = tie.close (tie.spec dims-of-requires capped-cells-requires returns)
+cell-count-spec =
+    tie.close
+    (tie.spec (λ c κs. search needs) (λ c κs. search needs) returns)

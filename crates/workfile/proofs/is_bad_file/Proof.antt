@@ -11,11 +11,7 @@ returns c = sym (too-short _ (c .if1 .taken))
 returns-2 : tie.Need-returns-2
 returns-2 c = sym (too-long _ (c .before .if1 .left) (c .if2 .taken))
 
-is-bad-trailer-requires : tie.Need-is-bad-trailer-requires
-is-bad-trailer-requires c κs = search needs
-
-returns-3 : tie.Need-returns-3
-returns-3 c = search needs
-
 pub is-bad-file-spec : {M : Type 1} → statement M
-is-bad-file-spec = tie.close (tie.spec returns returns-2 is-bad-trailer-requires returns-3)
+is-bad-file-spec =
+    tie.close
+    (tie.spec returns returns-2 (λ c κs. search needs) (λ c. search needs))

@@ -5,27 +5,6 @@ use borrow.Author.Needs.{needs}
 use Rattle.workfile.proofs.is_bad_trailer.Statement.{statement}
 use Rattle.workfile.proofs.is_bad_trailer.Tie as tie
 
-word-requires : tie.Need-word-requires
-word-requires c κs = search needs
-
-cell-count-requires : tie.Need-cell-count-requires
-cell-count-requires c κs = search needs
-
-word-requires-2 : tie.Need-word-requires-2
-word-requires-2 c κs = search needs
-
-is-adjoining-requires : tie.Need-is-adjoining-requires
-is-adjoining-requires c κs = search needs
-
-word-requires-3 : tie.Need-word-requires-3
-word-requires-3 c κs = search needs
-
-word-requires-4 : tie.Need-word-requires-4
-word-requires-4 c κs = search needs
-
-word-requires-5 : tie.Need-word-requires-5
-word-requires-5 c κs = search needs
-
 returns : tie.Need-returns
 returns c =
     let counted = c .before .before .before .before .before in
@@ -37,12 +16,5 @@ returns c =
 pub is-bad-trailer-spec : {M : Type 1} → statement M
 is-bad-trailer-spec =
     tie.close
-    (tie.spec
-    word-requires
-    cell-count-requires
-    word-requires-2
-    is-adjoining-requires
-    word-requires-3
-    word-requires-4
-    word-requires-5
-    returns)
+    (tie.spec (λ c κs. search needs) (λ c κs. search needs) (λ c κs. search needs) (λ c κs. search needs) (λ c κs. search needs)
+    (λ c κs. search needs) (λ c κs. search needs) returns)

@@ -8,17 +8,11 @@ use Rattle.workfile.proofs.log_of.Tie as tie
 read-work-requires : tie.Need-read-work-requires
 read-work-requires c κs = c .before .pre
 
-sub-end : tie.Need-sub-end
-sub-end c = search needs
-
 sub-result : tie.Need-sub-result
 sub-result c = log-ends (now (c .before .before .args .file)) (c .before .before .pre) (c .read-work .ensures)
 
 part-result-start : tie.Need-part-result-start
 part-result-start c = log-ends (now (c .before .before .args .file)) (c .before .before .pre) (c .read-work .ensures)
-
-part-result-end : tie.Need-part-result-end
-part-result-end c = search needs
 
 returns : tie.Need-returns
 returns c = log-part (now (c .before .before .before .args .file)) (c .before .before .before .pre) (c .before .read-work .ensures)
@@ -26,4 +20,4 @@ returns c = log-part (now (c .before .before .before .args .file)) (c .before .b
 pub log-of-spec : {M : Type 1} → statement M
 log-of-spec =
     tie.close
-    (tie.spec read-work-requires sub-end sub-result part-result-start part-result-end returns)
+    (tie.spec read-work-requires (λ c. search needs) sub-result part-result-start (λ c. search needs) returns)

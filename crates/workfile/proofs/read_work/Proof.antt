@@ -10,9 +10,6 @@ use Rattle.workfile.proofs.read_work.Tie as tie
 word-requires : tie.Need-word-requires
 word-requires c κs = (c .before .pre .least, lit< tt)
 
-cast-types : tie.Need-cast-types
-cast-types c = search needs
-
 cell-count-requires : tie.Need-cell-count-requires
 cell-count-requires c κs = c .before .before .pre .least
 
@@ -25,17 +22,11 @@ triple-at-requires c κs = (c .before .before .before .before .pre .least, lit< 
 triple-at-requires-2 : tie.Need-triple-at-requires-2
 triple-at-requires-2 c κs = (c .before .before .before .before .before .pre .least, lit< tt)
 
-mul-grid-start : tie.Need-mul-grid-start
-mul-grid-start c = search needs
-
 word-requires-2 : tie.Need-word-requires-2
 word-requires-2 c κs = (c .before .before .before .before .before .before .pre .least, lit< tt)
 
 word-requires-3 : tie.Need-word-requires-3
 word-requires-3 c κs = (c .before .before .before .before .before .before .before .pre .least, lit< tt)
-
-cast-t11 : tie.Need-cast-t11
-cast-t11 c = search needs
 
 word-requires-4 : tie.Need-word-requires-4
 word-requires-4 c κs = (c .before .before .before .before .before .before .before .before .pre .least, lit< tt)
@@ -76,23 +67,6 @@ returns c =
 pub read-work-spec : {M : Type 1} → statement M
 read-work-spec =
     tie.close
-    (tie.spec
-    word-requires
-    cast-types
-    cell-count-requires
-    dims-of-requires
-    triple-at-requires
-    triple-at-requires-2
-    mul-grid-start
-    word-requires-2
-    word-requires-3
-    cast-t11
-    word-requires-4
-    word-requires-5
-    word-requires-6
-    word-requires-7
-    word-requires-8
-    word-requires-9
-    word-requires-10
-    add-t21
-    returns)
+    (tie.spec word-requires (λ c. search needs) cell-count-requires dims-of-requires triple-at-requires triple-at-requires-2 (λ c. search needs)
+    word-requires-2 word-requires-3 (λ c. search needs) word-requires-4 word-requires-5 word-requires-6 word-requires-7 word-requires-8
+    word-requires-9 word-requires-10 add-t21 returns)

@@ -9,26 +9,8 @@ use borrow.Author.Needs.{needs}
 use Rattle.working.proofs.build_cube.Statement.{statement}
 use Rattle.working.proofs.build_cube.Tie as tie
 
-slice-aggregate-texture-of : tie.Need-slice-aggregate-texture-of
-slice-aggregate-texture-of c = search needs
-
 texture-of-requires : tie.Need-texture-of-requires
 texture-of-requires c κs = let s = c .before .before .before in (s .pre .0, omega (arith, s .pre .1), search needs)
-
-shape-in-requires : tie.Need-shape-in-requires
-shape-in-requires c κs = search needs
-
-slice-aggregate-generate-voxel-mesh : tie.Need-slice-aggregate-generate-voxel-mesh
-slice-aggregate-generate-voxel-mesh c = search needs
-
-generate-voxel-mesh-requires : tie.Need-generate-voxel-mesh-requires
-generate-voxel-mesh-requires c κs = search needs
-
-told-by-cube-requires : tie.Need-told-by-cube-requires
-told-by-cube-requires c κs = search needs
-
-same-length : tie.Need-same-length
-same-length c = search needs
 
 returns : tie.Need-returns
 returns c =
@@ -43,12 +25,5 @@ returns c =
 pub build-cube-spec : {M : Type 1} → statement M
 build-cube-spec =
     tie.close
-    (tie.spec
-    slice-aggregate-texture-of
-    texture-of-requires
-    shape-in-requires
-    slice-aggregate-generate-voxel-mesh
-    generate-voxel-mesh-requires
-    told-by-cube-requires
-    same-length
-    returns)
+    (tie.spec (λ c. search needs) texture-of-requires (λ c κs. search needs) (λ c. search needs) (λ c κs. search needs) (λ c κs. search needs)
+    (λ c. search needs) returns)

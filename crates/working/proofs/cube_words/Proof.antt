@@ -12,9 +12,6 @@ use Rattle.working.proofs.cube_words.Tie as tie
 read-work-requires : tie.Need-read-work-requires
 read-work-requires c κs = c .before .pre
 
-floats-of-requires : tie.Need-floats-of-requires
-floats-of-requires c κs = search needs
-
 mul-result : tie.Need-mul-result
 mul-result c = omega (arith, c .floats-of .ensures, few-floats (c .before .read-work .result .coloured))
 
@@ -23,4 +20,6 @@ returns c =
     ap (λ n. 24 * n) (c .floats-of .ensures ∙ ap floatsOf (ap (λ (w : Work). w .coloured) (c .before .read-work .ensures)))
 
 pub cube-words-spec : {M : Type 1} → statement M
-cube-words-spec = tie.close (tie.spec read-work-requires floats-of-requires mul-result returns)
+cube-words-spec =
+    tie.close
+    (tie.spec read-work-requires (λ c κs. search needs) mul-result returns)

@@ -55,29 +55,8 @@ scene-in-requires c κs = c .before .before .before .before .before .before .bef
 read-work-requires : tie.Need-read-work-requires
 read-work-requires c κs = c .before .before .before .before .before .before .before .before .before .before .pre
 
-algorithm-of-requires : tie.Need-algorithm-of-requires
-algorithm-of-requires c κs = search needs
-
 grid-of-requires : tie.Need-grid-of-requires
 grid-of-requires c κs = c .before .before .before .before .before .before .before .before .before .before .before .before .pre
-
-mesh-grid-requires : tie.Need-mesh-grid-requires
-mesh-grid-requires c κs = search needs
-
-told-by-mesh-requires : tie.Need-told-by-mesh-requires
-told-by-mesh-requires c κs = search needs
-
-same-length : tie.Need-same-length
-same-length c = search needs
-
-same-length-2 : tie.Need-same-length-2
-same-length-2 c = search needs
-
-same-length-3 : tie.Need-same-length-3
-same-length-3 c = search needs
-
-same-length-4 : tie.Need-same-length-4
-same-length-4 c = search needs
 
 returns : tie.Need-returns
 returns c =
@@ -88,26 +67,11 @@ returns c =
 log-of-requires : tie.Need-log-of-requires
 log-of-requires c κs = start (meshed (c .before .before)) .pre
 
-update-mesh-requires : tie.Need-update-mesh-requires
-update-mesh-requires c κs = search needs
-
-told-by-update-requires : tie.Need-told-by-update-requires
-told-by-update-requires c κs = search needs
-
 same-length-5 : tie.Need-same-length-5
 same-length-5 c =
     let updated = c .before .before .before .before .before .before .before .before .before in
     let told = updated .before .before .before .before .before .before .before .before in
     updated .update-mesh .kept .1 .1 .1 .1 .1 .1 .0 ∙ meshed told .mesh-grid .kept .1 .1 .1 .1 .1 .1 .1 .0
-
-same-length-6 : tie.Need-same-length-6
-same-length-6 c = search needs
-
-same-length-7 : tie.Need-same-length-7
-same-length-7 c = search needs
-
-same-length-8 : tie.Need-same-length-8
-same-length-8 c = search needs
 
 returns-2 : tie.Need-returns-2
 returns-2 c =
@@ -125,23 +89,6 @@ returns-2 c =
 pub work-lists-spec : {M : Type 1} → statement M
 work-lists-spec =
     tie.close
-    (tie.spec
-    scene-in-requires
-    read-work-requires
-    algorithm-of-requires
-    grid-of-requires
-    mesh-grid-requires
-    told-by-mesh-requires
-    same-length
-    same-length-2
-    same-length-3
-    same-length-4
-    returns
-    log-of-requires
-    update-mesh-requires
-    told-by-update-requires
-    same-length-5
-    same-length-6
-    same-length-7
-    same-length-8
-    returns-2)
+    (tie.spec scene-in-requires read-work-requires (λ c κs. search needs) grid-of-requires (λ c κs. search needs) (λ c κs. search needs)
+    (λ c. search needs) (λ c. search needs) (λ c. search needs) (λ c. search needs) returns log-of-requires (λ c κs. search needs)
+    (λ c κs. search needs) same-length-5 (λ c. search needs) (λ c. search needs) (λ c. search needs) returns-2)

@@ -17,7 +17,7 @@ use Rattle.floats.specs.Triples as floats
 use Rattle.voxel_mesh.proofs.Shapes.{few, row-within}
 use Rattle.rules.proofs.Rows.{length-lent}
 use Rattle.rules.proofs.ListLaws.{within}
-use Rattle.checking.specs.Quads.{quadAt, otherQuad, cubeAt, Comparable}
+use Rattle.checking.specs.Quads.{quadWordsAt, otherQuad, cubeAt, Comparable}
 use Rattle.quads.proofs.Writing as quads
 use Rattle.rules.proofs.Searches.{Searched, searched, found, passed, ended}
 use Rattle.checking.proofs.Compared.{Agreed, agreed-same, agreed-not, lent-is, row-next, Named, named-quad, named-word, stretch-within, drawable, quad-within, length-quad}
@@ -28,14 +28,14 @@ use Rattle.checking.proofs.words.first_wrong_quad.Tie as tie
 
 abbrev Inv-loop2 : tie.InvT-loop2
 Inv-loop2 scene grid cubes vertices links count dims inverse floats words span quad link face at place start end from to vertex float₀ float =
-    (float ≤ floats) × Agreed (row (4 * floats) vertices quad) (quadAt scene floats grid cubes (getD links quad 0)) (floats * vertex + float)
+    (float ≤ floats) × Agreed (row (4 * floats) vertices quad) (quadWordsAt scene floats grid cubes (getD links quad 0)) (floats * vertex + float)
 
 abbrev μ-loop2 : tie.MeasureT-loop2
 μ-loop2 scene grid cubes vertices links count dims inverse floats words span quad link face at place start end from to vertex float₀ float = floats - float
 
 abbrev Inv-loop : tie.InvT-loop
 Inv-loop scene grid cubes vertices links count dims inverse floats words span quad link face at place start end from to vertex₀ vertex =
-    (vertex ≤ 4) × Agreed (row (4 * floats) vertices quad) (quadAt scene floats grid cubes (getD links quad 0)) (floats * vertex)
+    (vertex ≤ 4) × Agreed (row (4 * floats) vertices quad) (quadWordsAt scene floats grid cubes (getD links quad 0)) (floats * vertex)
 
 abbrev μ-loop : tie.MeasureT-loop
 μ-loop scene grid cubes vertices links count dims inverse floats words span quad link face at place start end from to vertex₀ vertex = 4 - vertex
@@ -94,7 +94,7 @@ abbrev given : tie.After-wide Inv-loop2 μ-loop2 Inv-loop μ-loop Inv-quads μ-q
 given c = row (4 * n c) (now (start c .args .vertices)) (quad c)
 
 abbrev wanted : tie.After-wide Inv-loop2 μ-loop2 Inv-loop μ-loop Inv-quads μ-quads → List ℕ
-wanted c = let args = start c .args in quadAt (args .scene) (n c) (now (args .grid)) (now (args .cubes)) (link c)
+wanted c = let args = start c .args in quadWordsAt (args .scene) (n c) (now (args .grid)) (now (args .cubes)) (link c)
 
 named : (c : tie.After-wide Inv-loop2 μ-loop2 Inv-loop μ-loop Inv-quads μ-quads) → let args = start c .args in
     Named (args .scene) (n c) (now (args .grid)) (now (args .cubes)) (link c) (c .wide .result) (number (c .before .before .before .before .linked-face .result))
@@ -154,15 +154,9 @@ mul-span c = omega (arith, few-words c)
 quads-holds : tie.Need-quads-holds Inv-loop2 μ-loop2 Inv-loop μ-loop Inv-quads μ-quads
 quads-holds c = searched _ _
 
-mul-link : tie.Need-mul-link Inv-loop2 μ-loop2 Inv-loop μ-loop Inv-quads μ-quads
-mul-link c = search needs
-
 shared-slice-read-link :
     tie.Need-shared-slice-read-link Inv-loop2 μ-loop2 Inv-loop μ-loop Inv-quads μ-quads
 shared-slice-read-link c = search needs
-
-cell-of-requires : tie.Need-cell-of-requires Inv-loop2 μ-loop2 Inv-loop μ-loop Inv-quads μ-quads
-cell-of-requires c κs = search needs
 
 linked-face-requires :
     tie.Need-linked-face-requires Inv-loop2 μ-loop2 Inv-loop μ-loop Inv-quads μ-quads
@@ -174,17 +168,11 @@ cords-of-requires c κs =
     let ok = c .before .before .before .before .before .before .before .before .before .before .before .before .pre .0 in
     (ok .within, rw (c .before .cell-of .ensures) (ok .inside (c .before .before .before .before .quads .quad) (c .before .before .before .quads-test .taken)), c .before .before .before .before .before .before .inverted .ensures)
 
-cast-place : tie.Need-cast-place Inv-loop2 μ-loop2 Inv-loop μ-loop Inv-quads μ-quads
-cast-place c = search needs
-
 shared-slice-read-wide :
     tie.Need-shared-slice-read-wide Inv-loop2 μ-loop2 Inv-loop μ-loop Inv-quads μ-quads
 shared-slice-read-wide c =
     let ok = c .before .before .before .before .before .before .before .before .before .before .before .before .before .before .before .pre .0 in
     omega (arith, c .before .before .before .before .cell-of .ensures, ok .whole, ok .inside (c .before .before .before .before .before .before .before .quads .quad) (c .before .before .before .before .before .before .quads-test .taken))
-
-wide-requires : tie.Need-wide-requires Inv-loop2 μ-loop2 Inv-loop μ-loop Inv-quads μ-quads
-wide-requires c κs = search needs
 
 mul-start : tie.Need-mul-start Inv-loop2 μ-loop2 Inv-loop μ-loop Inv-quads μ-quads
 mul-start c = omega (arith, stretch c)
@@ -200,9 +188,6 @@ add-to c = omega (arith, words c)
 
 mul-sure-vertices : tie.Need-mul-sure-vertices Inv-loop2 μ-loop2 Inv-loop μ-loop Inv-quads μ-quads
 mul-sure-vertices c = omega (arith, words c)
-
-sub-sure-vertices : tie.Need-sub-sure-vertices Inv-loop2 μ-loop2 Inv-loop μ-loop Inv-quads μ-quads
-sub-sure-vertices c = search needs
 
 part-sure-vertices-start :
     tie.Need-part-sure-vertices-start Inv-loop2 μ-loop2 Inv-loop μ-loop Inv-quads μ-quads
@@ -257,9 +242,6 @@ mul-is-other-word c =
     let w = c .before .before .before .before .before .before .before in
     let s = start w in
     omega (arith, words w)
-
-sub-is-other-word : tie.Need-sub-is-other-word Inv-loop2 μ-loop2 Inv-loop μ-loop Inv-quads μ-quads
-sub-is-other-word c = search needs
 
 part-is-other-word-start :
     tie.Need-part-is-other-word-start Inv-loop2 μ-loop2 Inv-loop μ-loop Inv-quads μ-quads
@@ -316,22 +298,10 @@ loop2-again c =
       λ k h. below-more (λ (k : ℕ). getD (given w) k 0 ≡ getD (wanted w) k 0) at (c .before .before .before .before .before .loop2 .inv .1) same k (omega arith),
     )
 
-add-vertex : tie.Need-add-vertex Inv-loop2 μ-loop2 Inv-loop μ-loop Inv-quads μ-quads
-add-vertex c = search needs
-
-loop-less : tie.Need-loop-less Inv-loop2 μ-loop2 Inv-loop μ-loop Inv-quads μ-quads
-loop-less c = search needs
-
 loop-again : tie.Need-loop-again Inv-loop2 μ-loop2 Inv-loop μ-loop Inv-quads μ-quads
 loop-again c =
     let next = row-next (n (c .before .before .before .before .before .before .before)) (c .before .before .before .loop .vertex) in
     (omega arith, λ k h. c .before .loop2 .inv .1 k (omega arith))
-
-add-quad : tie.Need-add-quad Inv-loop2 μ-loop2 Inv-loop μ-loop Inv-quads μ-quads
-add-quad c = search needs
-
-quads-less : tie.Need-quads-less Inv-loop2 μ-loop2 Inv-loop μ-loop Inv-quads μ-quads
-quads-less c = search needs
 
 quads-again : tie.Need-quads-again Inv-loop2 μ-loop2 Inv-loop μ-loop Inv-quads μ-quads
 quads-again c =
@@ -361,58 +331,10 @@ returns-2 c =
 pub first-wrong-quad-spec : {M : Type 1} → statement M
 first-wrong-quad-spec =
     tie.close
-    (tie.spec
-    Inv-loop2
-    μ-loop2
-    Inv-loop
-    μ-loop
-    Inv-quads
-    μ-quads
-    inverted-requires
-    floats-of-requires
-    mul-words
-    mul-span
-    quads-holds
-    mul-link
-    shared-slice-read-link
-    cell-of-requires
-    linked-face-requires
-    cords-of-requires
-    cast-place
-    shared-slice-read-wide
-    wide-requires
-    mul-start
-    add-end
-    mul-from
-    add-to
-    mul-sure-vertices
-    sub-sure-vertices
-    part-sure-vertices-start
-    part-sure-vertices-end
-    mul-sure-vertices-2
-    sub-sure-vertices-2
-    part-sure-vertices-start-2
-    part-sure-vertices-end-2
-    sure-vertices-requires
-    loop-holds
-    loop2-holds
-    mul-is-other-word
-    sub-is-other-word
-    part-is-other-word-start
-    part-is-other-word-end
-    mul-is-other-word-2
-    sub-is-other-word-2
-    part-is-other-word-start-2
-    part-is-other-word-end-2
-    is-other-word-requires
-    add-float
-    loop2-less
-    loop2-again
-    add-vertex
-    loop-less
-    loop-again
-    add-quad
-    quads-less
-    quads-again
-    returns
-    returns-2)
+    (tie.spec Inv-loop2 μ-loop2 Inv-loop μ-loop Inv-quads μ-quads inverted-requires floats-of-requires mul-words mul-span quads-holds
+    (λ c. search needs) shared-slice-read-link (λ c κs. search needs) linked-face-requires cords-of-requires (λ c. search needs)
+    shared-slice-read-wide (λ c κs. search needs) mul-start add-end mul-from add-to mul-sure-vertices (λ c. search needs) part-sure-vertices-start
+    part-sure-vertices-end mul-sure-vertices-2 sub-sure-vertices-2 part-sure-vertices-start-2 part-sure-vertices-end-2 sure-vertices-requires
+    loop-holds loop2-holds mul-is-other-word (λ c. search needs) part-is-other-word-start part-is-other-word-end mul-is-other-word-2
+    sub-is-other-word-2 part-is-other-word-start-2 part-is-other-word-end-2 is-other-word-requires add-float loop2-less loop2-again
+    (λ c. search needs) (λ c. search needs) loop-again (λ c. search needs) (λ c. search needs) quads-again returns returns-2)

@@ -5,15 +5,6 @@ use borrow.Author.Needs.{needs}
 use Rattle.checking.proofs.words.linked_face.Statement.{statement}
 use Rattle.checking.proofs.words.linked_face.Tie as tie
 
-face-of-requires : tie.Need-face-of-requires
-face-of-requires c κs = search needs
-
-enum-known-face : tie.Need-enum-known-face
-enum-known-face c = search needs
-
-enum-told : tie.Need-enum-told
-enum-told c = search needs
-
 returns : tie.Need-returns
 returns c = code-face _ (c .before .before .before .before .pre) _ (sym (c .before .before .before .face-of .ensures) ∙ c .before .face .given .1)
 
@@ -22,4 +13,5 @@ returns-2 c = absurd (code-none _ (c .before .before .before .pre) (sym (c .befo
 
 pub linked-face-spec : {M : Type 1} → statement M
 linked-face-spec =
-    tie.close (tie.spec face-of-requires enum-known-face enum-told returns returns-2)
+    tie.close
+    (tie.spec (λ c κs. search needs) (λ c. search needs) (λ c. search needs) returns returns-2)

@@ -23,29 +23,14 @@ abbrev μ-loop : tie.MeasureT-loop
 abbrev isEmpty : tie.After-shared-slice-known Inv-loop μ-loop → Bool
 isEmpty c = eqb (getD (now (c .before .before .before .args .slots)) (c .before .before .loop .k) 0) NONE
 
-cast-full : tie.Need-cast-full Inv-loop μ-loop
-cast-full c = search needs
-
 loop-holds : tie.Need-loop-holds Inv-loop μ-loop
 loop-holds c = (omega arith, omega (arith, filled-none (bookOf [] (now (c .args .slots)))))
-
-mul-full : tie.Need-mul-full Inv-loop μ-loop
-mul-full c = search needs
-
-shared-slice-read-full : tie.Need-shared-slice-read-full Inv-loop μ-loop
-shared-slice-read-full c = search needs
 
 cast-full-2 : tie.Need-cast-full-2 Inv-loop μ-loop
 cast-full-2 c = tt
 
 sub-full : tie.Need-sub-full Inv-loop μ-loop
 sub-full c = omega (arith, byte-le (isEmpty c))
-
-add-k : tie.Need-add-k Inv-loop μ-loop
-add-k c = search needs
-
-loop-less : tie.Need-loop-less Inv-loop μ-loop
-loop-less c = search needs
 
 loop-again : tie.Need-loop-again Inv-loop μ-loop
 loop-again c =
@@ -61,16 +46,5 @@ returns c =
 pub filled-slots-spec : {M : Type 1} → statement M
 filled-slots-spec =
     tie.close
-    (tie.spec
-    Inv-loop
-    μ-loop
-    cast-full
-    loop-holds
-    mul-full
-    shared-slice-read-full
-    cast-full-2
-    sub-full
-    add-k
-    loop-less
-    loop-again
-    returns)
+    (tie.spec Inv-loop μ-loop (λ c. search needs) loop-holds (λ c. search needs) (λ c. search needs) cast-full-2 sub-full (λ c. search needs)
+    (λ c. search needs) loop-again returns)

@@ -31,18 +31,6 @@ slot-within c =
     let both = passed (c .before) in
     omega (arith, c .key-of .ensures, ltb-false 5 (codeIn w) (both .0), leb-false (start (c .before) .args .cells) (cellIn w) (both .1))
 
-mul-word : tie.Need-mul-word
-mul-word c = search needs
-
-shared-slice-read-word : tie.Need-shared-slice-read-word
-shared-slice-read-word c = search needs
-
-code-of-requires : tie.Need-code-of-requires
-code-of-requires c κs = search needs
-
-cell-of-requires : tie.Need-cell-of-requires
-cell-of-requires c κs = search needs
-
 returns : tie.Need-returns
 unfolding badLink
 returns c =
@@ -55,20 +43,8 @@ returns c =
 key-of-requires : tie.Need-key-of-requires
 key-of-requires c κs = ltb-false _ _ (passed c .0)
 
-cast-at : tie.Need-cast-at
-cast-at c = search needs
-
-mul-wide : tie.Need-mul-wide
-mul-wide c = search needs
-
 shared-slice-read-wide : tie.Need-shared-slice-read-wide
 shared-slice-read-wide c = slot-within (c .before)
-
-wide-requires : tie.Need-wide-requires
-wide-requires c κs = search needs
-
-mul-result : tie.Need-mul-result
-mul-result c = search needs
 
 returns-2 : tie.Need-returns-2
 unfolding badLink
@@ -83,16 +59,5 @@ returns-2 c =
 pub is-bad-link-spec : {M : Type 1} → statement M
 is-bad-link-spec =
     tie.close
-    (tie.spec
-    mul-word
-    shared-slice-read-word
-    code-of-requires
-    cell-of-requires
-    returns
-    key-of-requires
-    cast-at
-    mul-wide
-    shared-slice-read-wide
-    wide-requires
-    mul-result
-    returns-2)
+    (tie.spec (λ c. search needs) (λ c. search needs) (λ c κs. search needs) (λ c κs. search needs) returns key-of-requires (λ c. search needs)
+    (λ c. search needs) shared-slice-read-wide (λ c κs. search needs) (λ c. search needs) returns-2)

@@ -7,24 +7,9 @@ use borrow.Author.Needs.{needs}
 use Rattle.lent.proofs.links.links_verdict.Statement.{statement}
 use Rattle.lent.proofs.links.links_verdict.Tie as tie
 
-lowest-bad-link-requires : tie.Need-lowest-bad-link-requires
-lowest-bad-link-requires c κs = search needs
-
 returns : tie.Need-returns
 unfolding badLink
 returns c = λ vertices triangles. links-refused _ (listsOf vertices triangles _ _) _ _ (c .before .lowest-bad-link .ensures) (c .if1 .taken)
-
-mul-filled-slots : tie.Need-mul-filled-slots
-mul-filled-slots c = search needs
-
-filled-slots-requires : tie.Need-filled-slots-requires
-filled-slots-requires c κs = search needs
-
-cast-filled : tie.Need-cast-filled
-cast-filled c = search needs
-
-refuse-if-requires : tie.Need-refuse-if-requires
-refuse-if-requires c κs = search needs
 
 returns-2 : tie.Need-returns-2
 unfolding badLink
@@ -33,11 +18,4 @@ returns-2 c = λ vertices triangles. c .refuse-if .ensures ∙ links-counted _ (
 pub links-verdict-spec : {M : Type 1} → statement M
 links-verdict-spec =
     tie.close
-    (tie.spec
-    lowest-bad-link-requires
-    returns
-    mul-filled-slots
-    filled-slots-requires
-    cast-filled
-    refuse-if-requires
-    returns-2)
+    (tie.spec (λ c κs. search needs) returns (λ c. search needs) (λ c κs. search needs) (λ c. search needs) (λ c κs. search needs) returns-2)

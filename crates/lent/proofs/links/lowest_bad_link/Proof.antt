@@ -17,17 +17,8 @@ abbrev μ-loop : tie.MeasureT-loop
 loop-holds : tie.Need-loop-holds Inv-loop μ-loop
 loop-holds c = searched _ _
 
-is-bad-link-requires : tie.Need-is-bad-link-requires Inv-loop μ-loop
-is-bad-link-requires c κs = search needs
-
 returns : tie.Need-returns Inv-loop μ-loop
 returns c = found _ _ _ (c .before .before .loop-test .taken) (c .before .before .before .loop .inv) (sym (c .before .is-bad-link .ensures) ∙ c .if1 .taken)
-
-add-q : tie.Need-add-q Inv-loop μ-loop
-add-q c = search needs
-
-loop-less : tie.Need-loop-less Inv-loop μ-loop
-loop-less c = search needs
 
 loop-again : tie.Need-loop-again Inv-loop μ-loop
 loop-again c = passed _ _ _ (c .before .before .loop-test .taken) (c .before .before .before .loop .inv) (sym (c .before .is-bad-link .ensures) ∙ c .if1 .left)
@@ -38,13 +29,4 @@ returns-2 c = ended _ _ _ (c .loop-test .left) (c .before .loop .inv)
 pub lowest-bad-link-spec : {M : Type 1} → statement M
 lowest-bad-link-spec =
     tie.close
-    (tie.spec
-    Inv-loop
-    μ-loop
-    loop-holds
-    is-bad-link-requires
-    returns
-    add-q
-    loop-less
-    loop-again
-    returns-2)
+    (tie.spec Inv-loop μ-loop loop-holds (λ c κs. search needs) returns (λ c. search needs) (λ c. search needs) loop-again returns-2)

@@ -22,15 +22,6 @@ slice-aggregate-is-pattern c = sym (first-row (c .before))
 is-pattern-requires : tie.Need-is-pattern-requires
 is-pattern-requires c κs = (first-row (c .before), omega arith)
 
-mul-rows-go-on : tie.Need-mul-rows-go-on
-mul-rows-go-on c = search needs
-
-sub-rows-go-on : tie.Need-sub-rows-go-on
-sub-rows-go-on c = search needs
-
-rows-go-on-requires : tie.Need-rows-go-on-requires
-rows-go-on-requires c κs = search needs
-
 returns-2 : tie.Need-returns-2
 returns-2 c = λ e.
     let start = c .before .before .before .before .before in
@@ -40,11 +31,4 @@ returns-2 c = λ e.
 pub all-patterned-spec : {M : Type 1} → statement M
 all-patterned-spec =
     tie.close
-    (tie.spec
-    returns
-    slice-aggregate-is-pattern
-    is-pattern-requires
-    mul-rows-go-on
-    sub-rows-go-on
-    rows-go-on-requires
-    returns-2)
+    (tie.spec returns slice-aggregate-is-pattern is-pattern-requires (λ c. search needs) (λ c. search needs) (λ c κs. search needs) returns-2)

@@ -25,38 +25,11 @@ told c = let q = c .before .before .before .loop .q in let e : 6 * q + 6 - 6 * q
 loop-holds : tie.Need-loop-holds Inv-loop μ-loop
 loop-holds c = searched _ _
 
-mul-at : tie.Need-mul-at Inv-loop μ-loop
-mul-at c = search needs
-
-add-end : tie.Need-add-end Inv-loop μ-loop
-add-end c = search needs
-
-mul-is-pattern : tie.Need-mul-is-pattern Inv-loop μ-loop
-mul-is-pattern c = search needs
-
-sub-is-pattern : tie.Need-sub-is-pattern Inv-loop μ-loop
-sub-is-pattern c = search needs
-
-part-is-pattern-start : tie.Need-part-is-pattern-start Inv-loop μ-loop
-part-is-pattern-start c = search needs
-
-part-is-pattern-end : tie.Need-part-is-pattern-end Inv-loop μ-loop
-part-is-pattern-end c = search needs
-
-cast-is-pattern : tie.Need-cast-is-pattern Inv-loop μ-loop
-cast-is-pattern c = search needs
-
 is-pattern-requires : tie.Need-is-pattern-requires Inv-loop μ-loop
 is-pattern-requires c κs = (length-lent (6 * c .before .before .loop .q) 6 (now (c .before .before .before .before .args .triangles)) (omega arith), omega arith)
 
 returns : tie.Need-returns Inv-loop μ-loop
 returns c = found _ _ _ (c .before .before .before .loop-test .taken) (c .before .before .before .before .loop .inv) (told (c .before) ∙ c .if1 .taken)
-
-add-q : tie.Need-add-q Inv-loop μ-loop
-add-q c = search needs
-
-loop-less : tie.Need-loop-less Inv-loop μ-loop
-loop-less c = search needs
 
 loop-again : tie.Need-loop-again Inv-loop μ-loop
 loop-again c = passed _ _ _ (c .before .before .before .loop-test .taken) (c .before .before .before .before .loop .inv) (told (c .before) ∙ c .if1 .left)
@@ -67,20 +40,5 @@ returns-2 c = ended _ _ _ (c .loop-test .left) (c .before .loop .inv)
 pub find-bad-triangles-spec : {M : Type 1} → statement M
 find-bad-triangles-spec =
     tie.close
-    (tie.spec
-    Inv-loop
-    μ-loop
-    loop-holds
-    mul-at
-    add-end
-    mul-is-pattern
-    sub-is-pattern
-    part-is-pattern-start
-    part-is-pattern-end
-    cast-is-pattern
-    is-pattern-requires
-    returns
-    add-q
-    loop-less
-    loop-again
-    returns-2)
+    (tie.spec Inv-loop μ-loop loop-holds (λ c. search needs) (λ c. search needs) (λ c. search needs) (λ c. search needs) (λ c. search needs)
+    (λ c. search needs) (λ c. search needs) is-pattern-requires returns (λ c. search needs) (λ c. search needs) loop-again returns-2)

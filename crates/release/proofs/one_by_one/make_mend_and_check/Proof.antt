@@ -20,40 +20,10 @@ lists t = let a = t .args in listsOf (a .vertices .now) (a .triangles .now) (a .
 abbrev exit : tie.After-mend-by-entries → Lists
 exit m = let l = m .mend-by-entries .last in listsOf (l .0) (l .1 .0) (l .1 .1 .0) (l .1 .1 .1 .0)
 
-slice-aggregate-mesh-grid : tie.Need-slice-aggregate-mesh-grid
-slice-aggregate-mesh-grid c = search needs
-
-mesh-grid-requires : tie.Need-mesh-grid-requires
-mesh-grid-requires c κs = search needs
-
-enum-known-made : tie.Need-enum-known-made
-enum-known-made c = search needs
-
-mend-by-entries-requires : tie.Need-mend-by-entries-requires
-mend-by-entries-requires c κs = search needs
-
-slice-aggregate-check-made : tie.Need-slice-aggregate-check-made
-slice-aggregate-check-made c = search needs
-
-check-made-requires : tie.Need-check-made-requires
-check-made-requires c κs = search needs
-
-enum-known-made-2 : tie.Need-enum-known-made-2
-enum-known-made-2 c = search needs
-
 same-length : tie.Need-same-length
 same-length c =
     let call = c .before .before .before .before .before .before .before .before .before .before .before .before .before .before in
     let m = call .before .before .before .before .before .before .before .before .before .before .before .before .before .before .before .before in call .mend-by-entries .kept .0 ∙ m .mesh-grid .kept .1 .1 .1 .1 .1 .1 .1 .0
-
-same-length-2 : tie.Need-same-length-2
-same-length-2 c = search needs
-
-same-length-3 : tie.Need-same-length-3
-same-length-3 c = search needs
-
-same-length-4 : tie.Need-same-length-4
-same-length-4 c = search needs
 
 returns : tie.Need-returns
 returns c =
@@ -66,18 +36,6 @@ returns c =
     (told .before .made .given .0 .0) (meshes (told .before .made .given .1) (m .mesh-grid .ensures))
     (passed (scene t) (a .left .now) (call .mend-by-entries .result) (exit call) (c .check-made .ensures) (call .mend-by-entries .ensures))
 
-same-length-5 : tie.Need-same-length-5
-same-length-5 c = search needs
-
-same-length-6 : tie.Need-same-length-6
-same-length-6 c = search needs
-
-same-length-7 : tie.Need-same-length-7
-same-length-7 c = search needs
-
-same-length-8 : tie.Need-same-length-8
-same-length-8 c = search needs
-
 returns-2 : tie.Need-returns-2
 returns-2 c =
     let m = c .before .before .before .before .before .before .before .before .before .before .before in
@@ -89,21 +47,6 @@ returns-2 c =
 pub make-mend-and-check-spec : {M : Type 1} → statement M
 make-mend-and-check-spec =
     tie.close
-    (tie.spec
-    slice-aggregate-mesh-grid
-    mesh-grid-requires
-    enum-known-made
-    mend-by-entries-requires
-    slice-aggregate-check-made
-    check-made-requires
-    enum-known-made-2
-    same-length
-    same-length-2
-    same-length-3
-    same-length-4
-    returns
-    same-length-5
-    same-length-6
-    same-length-7
-    same-length-8
-    returns-2)
+    (tie.spec (λ c. search needs) (λ c κs. search needs) (λ c. search needs) (λ c κs. search needs) (λ c. search needs) (λ c κs. search needs)
+    (λ c. search needs) same-length (λ c. search needs) (λ c. search needs) (λ c. search needs) returns (λ c. search needs) (λ c. search needs)
+    (λ c. search needs) (λ c. search needs) returns-2)

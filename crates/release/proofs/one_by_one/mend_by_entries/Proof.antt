@@ -62,42 +62,6 @@ loop-holds c =
     let t = c .before .before .before .before .before .before .before .before in
     starts (side t) (scene t) (t .args .log .now) (length (t .args .log .now) / 12) (lists t) (t .args .quads)
 
-mul-at : tie.Need-mul-at Inv-loop μ-loop
-mul-at c = search needs
-
-add-end : tie.Need-add-end Inv-loop μ-loop
-add-end c = search needs
-
-sub-update-mesh : tie.Need-sub-update-mesh Inv-loop μ-loop
-sub-update-mesh c = search needs
-
-part-update-mesh-start : tie.Need-part-update-mesh-start Inv-loop μ-loop
-part-update-mesh-start c = search needs
-
-part-update-mesh-end : tie.Need-part-update-mesh-end Inv-loop μ-loop
-part-update-mesh-end c = search needs
-
-update-mesh-requires : tie.Need-update-mesh-requires Inv-loop μ-loop
-update-mesh-requires c κs = search needs
-
-enum-known-mended : tie.Need-enum-known-mended Inv-loop μ-loop
-enum-known-mended c = search needs
-
-enum-known-mended-2 : tie.Need-enum-known-mended-2 Inv-loop μ-loop
-enum-known-mended-2 c = search needs
-
-same-length : tie.Need-same-length Inv-loop μ-loop
-same-length c = search needs
-
-same-length-2 : tie.Need-same-length-2 Inv-loop μ-loop
-same-length-2 c = search needs
-
-same-length-3 : tie.Need-same-length-3 Inv-loop μ-loop
-same-length-3 c = search needs
-
-same-length-4 : tie.Need-same-length-4 Inv-loop μ-loop
-same-length-4 c = search needs
-
 returns : tie.Need-returns Inv-loop μ-loop
 returns c =
     let u = c .before .before .before .before .before .before .before .before .before .before .before in
@@ -127,18 +91,6 @@ loop-again c =
     (let k = u .update-mesh .kept .1 .1 .1 .1 .1 .1 in record { vertices = k .0; triangles = k .1 .0; links = k .1 .1 .0; slots = k .1 .1 .1 .0 })
     (updates (exit u) (c .before .mended .given .1) (called u))
 
-same-length-5 : tie.Need-same-length-5 Inv-loop μ-loop
-same-length-5 c = search needs
-
-same-length-6 : tie.Need-same-length-6 Inv-loop μ-loop
-same-length-6 c = search needs
-
-same-length-7 : tie.Need-same-length-7 Inv-loop μ-loop
-same-length-7 c = search needs
-
-same-length-8 : tie.Need-same-length-8 Inv-loop μ-loop
-same-length-8 c = search needs
-
 returns-2 : tie.Need-returns-2 Inv-loop μ-loop
 returns-2 c =
     let t = c .before .before .before .before .before .before .before .before .before .before in
@@ -150,28 +102,6 @@ returns-2 c =
 pub mend-by-entries-spec : {M : Type 1} → statement M
 mend-by-entries-spec =
     tie.close
-    (tie.spec
-    Inv-loop
-    μ-loop
-    loop-holds
-    mul-at
-    add-end
-    sub-update-mesh
-    part-update-mesh-start
-    part-update-mesh-end
-    update-mesh-requires
-    enum-known-mended
-    enum-known-mended-2
-    same-length
-    same-length-2
-    same-length-3
-    same-length-4
-    returns
-    add-k
-    loop-less
-    loop-again
-    same-length-5
-    same-length-6
-    same-length-7
-    same-length-8
-    returns-2)
+    (tie.spec Inv-loop μ-loop loop-holds (λ c. search needs) (λ c. search needs) (λ c. search needs) (λ c. search needs) (λ c. search needs)
+    (λ c κs. search needs) (λ c. search needs) (λ c. search needs) (λ c. search needs) (λ c. search needs) (λ c. search needs) (λ c. search needs)
+    returns add-k loop-less loop-again (λ c. search needs) (λ c. search needs) (λ c. search needs) (λ c. search needs) returns-2)
