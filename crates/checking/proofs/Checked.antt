@@ -15,7 +15,7 @@ use Rattle.rules.specs.Mesh.{Lists, typeAt, isNormalCube, drawn, decode}
 use Rattle.rules.specs.Answers.{fine, _then_, refuseIf, BAD-COUNT, wrongFace, WRONG-SET, wrongVertex, WRONG-VERTEX}
 use Rattle.rules.specs.Check.{linked}
 use Rattle.rules.specs.Calls as rules
-use Rattle.rules.specs.Calls.{world, span, room, openVerdict, bookVerdict}
+use Rattle.rules.specs.Calls.{world, span, room, openVerdict, bookVerdict, inputVerdict}
 use Rattle.rules.proofs.ListLaws.{and-true, within}
 use Rattle.rules.proofs.Checking.{then-fine, fine-if, lowest-fine, Book, book-of-fine, there-of}
 use Rattle.rules.proofs.Demands.{Room}
@@ -24,9 +24,8 @@ use Rattle.voxel_mesh.proofs.Shapes.{row-within}
 use Rattle.types.proofs.Known.{placed}
 use Rattle.terms.specs.declared.Scene.{Scene}
 use Rattle.terms.specs.Scenes.{sceneOf}
-use Rattle.lent.specs.Scenes.{Admitted, Lent, inputVerdict}
+use Rattle.lent.specs.Scenes.{Admitted, Lent}
 use Rattle.culling.specs.Culling.{worldOf}
-use Rattle.answers.proofs.Chains.{then-assoc}
 use Rattle.lent.proofs.Admitted.{admitted, lent}
 use Rattle.checking.specs.Faces.{wrongSlot, Gridded}
 use Rattle.checking.specs.Quads.{otherQuad, Comparable}
@@ -42,8 +41,7 @@ pub record Opened (S : rules.Scene) (outer g : List ℕ) (B : Lists) (Q : ℕ) :
 pub opened : (S : rules.Scene) (outer g : List ℕ) (B : Lists) (Q : ℕ) → length (B .vertices) < 2 ^ 64 → openVerdict S outer g B Q ≡ fine
     → Opened S outer g B Q
 opened S outer g B Q fits e =
-    let joined : (inputVerdict S outer g B then BAD-COUNT (floats (S .types)) B Q) ≡ openVerdict S outer g B Q = simp then-assoc in
-    let t = then-fine (inputVerdict S outer g B) (BAD-COUNT (floats (S .types)) B Q) (joined ∙ e) in
+    let t = then-fine (inputVerdict S outer g B) (BAD-COUNT (floats (S .types)) B Q) e in
     let a = admitted S outer g B (t .0) in
     let short = fine-if (ltb (length (B .slots)) (6 * cells (S .size))) 9 0 (le-ltb (length (B .slots)) (6 * cells (S .size)) (a .slotted)) in
     let l = lent S B Q (a .within) fits short (t .1) in

@@ -14,8 +14,8 @@ use Rattle.rules.specs.Cells.{cells, linkOf}
 use Rattle.rules.specs.Types.{floats}
 use Rattle.rules.specs.Mesh.{Quad, Lists, decode, layout}
 use Rattle.rules.specs.Update.{source, Course, entryAt, work, blank}
-use Rattle.rules.specs.Answers.{Verdict, fine, refuse, BAD-SIZE, BAD-GRID, BAD-OUTER, BAD-CELL, SHORT-SLOTS, BAD-COUNT, BAD-ENTRY, NO-ROOM}
-use Rattle.rules.specs.Calls.{Answer, answered, refused, Scene, Outcome, world, span, faces, room, typesVerdict, freshMesh, meshVerdict, meshedBy, meshGrid, lentVerdict, bookVerdict, updateVerdict, course, courseAnswer, updateBy, updateMesh}
+use Rattle.rules.specs.Answers.{Verdict, fine, refuse, BAD-SIZE, SHORT-SLOTS, BAD-COUNT, BAD-ENTRY, NO-ROOM}
+use Rattle.rules.specs.Calls.{Answer, answered, refused, Scene, Outcome, world, span, faces, room, typesVerdict, freshMesh, inputVerdict, meshVerdict, meshedBy, meshGrid, lentVerdict, bookVerdict, updateVerdict, course, courseAnswer, updateBy, updateMesh}
 use Rattle.rules.specs.Program as rules
 use Rattle.rules.specs.Program.{word, gridIn, logIn, updateAfter, meshLines, refusedLine, linesOf, badFile, typeCount, buildFrom, builtLines, printed}
 use Rattle.rules.proofs.ListLaws.{all-at, all-of}
@@ -133,12 +133,7 @@ module _ (S : Scene) (outer g : List ℕ) (culling : Bool) (B : Lists) where
 
   has-room : meshVerdict S outer g culling B ≡ fine → length fresh ≤ length (B .links)
   has-room v =
-      let a = then-fine (BAD-SIZE (S .size)) _ v .1 in
-      let b = then-fine (BAD-GRID (S .size) g) _ a .1 in
-      let c = then-fine (typesVerdict S) _ b .1 in
-      let d = then-fine (BAD-OUTER outer) _ c .1 in
-      let e = then-fine (BAD-CELL (S .types) g) _ d .1 in
-      let f = then-fine (SHORT-SLOTS (S .size) B) (NO-ROOM (floats (S .types)) B (length fresh)) e .1 in
+      let f = then-fine (inputVerdict S outer g B) (NO-ROOM (floats (S .types)) B (length fresh)) v .1 in
       room-for S B (length fresh) (ltb-false (room S B) (length fresh) (if-fine (ltb (room S B) (length fresh)) 14 0 f)) .links
 
   meshed-links : length ((meshGrid S outer g culling B) .lists .links) ≡ length (B .links)

@@ -14,7 +14,7 @@ use Rattle.rules.specs.Floats.{finite3}
 use Rattle.rules.specs.Types.{floats}
 use Rattle.rules.specs.Mesh.{Lists}
 use Rattle.rules.specs.Answers.{fine, refuseIf, refuseLowest, badCounts, badType, notACube, BAD-SIZE, BAD-GRID, BAD-TYPES, BAD-NUMBER, NOT-A-CUBE, BAD-OUTER, BAD-CELL, SHORT-SLOTS, BAD-COUNT}
-use Rattle.rules.specs.Calls.{Scene, span, room, typesVerdict}
+use Rattle.rules.specs.Calls.{Scene, span, room, typesVerdict, inputVerdict}
 use Rattle.rules.proofs.ListLaws.{or-false, not-true}
 use Rattle.rules.proofs.Checking.{then-fine, if-fine, lowest-fine}
 use Rattle.rules.proofs.Demands.{Room, room-for}
@@ -22,7 +22,7 @@ use Rattle.util.specs.Grid.{Within}
 use Rattle.util.proofs.Limits.{within}
 use Rattle.voxel_mesh.proofs.Shapes.{few}
 use Rattle.types.proofs.Known.{counted}
-use Rattle.lent.specs.Scenes.{Typed, Admitted, Lent, inputVerdict}
+use Rattle.lent.specs.Scenes.{Typed, Admitted, Lent}
 
 pub sized : (S : Scene) → BAD-SIZE (S .size) ≡ fine → Within (S .size)
 sized S e = within (S .size) (if-fine _ 2 0 e)

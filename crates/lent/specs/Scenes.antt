@@ -9,9 +9,7 @@ use Rattle.rules.specs.Cells.{cells}
 use Rattle.rules.specs.Floats.{finite3}
 use Rattle.rules.specs.Types.{floats, cubeOf, isCube}
 use Rattle.rules.specs.Mesh.{Lists}
-use Rattle.rules.specs.Answers.{Verdict, _then_, BAD-SIZE, BAD-GRID, BAD-OUTER, BAD-CELL, SHORT-SLOTS}
 use Rattle.rules.specs.Calls as rules
-use Rattle.rules.specs.Calls.{typesVerdict}
 use Rattle.util.specs.Grid.{Within}
 use Rattle.types.specs.Tests.{Counted}
 use Rattle.terms.specs.declared.Lengths.{Lengths}
@@ -22,12 +20,6 @@ pub record Long (B : Lists) (n : Lengths) : Type 0 where
   pub triangles : length (B .triangles) ≡ n .triangles
   pub links : length (B .links) ≡ n .links
   pub slots : length (B .slots) ≡ n .slots
-
--- 2, 3, 4, 6 to 9: what mesh and check ask before the mesh is looked at
-abbrev pub inputVerdict : rules.Scene → List ℕ → List ℕ → Lists → Verdict
-inputVerdict S outer g B =
-    BAD-SIZE (S .size) then BAD-GRID (S .size) g then typesVerdict S then BAD-OUTER outer then BAD-CELL (S .types) g
-    then SHORT-SLOTS (S .size) B
 
 -- what accepted types, d and centre are known to be
 pub record Typed (S : rules.Scene) : Type 0 where

@@ -18,11 +18,11 @@ ghost use Rattle.rules.specs.Cube.{floatsOf};
 ghost use Rattle.rules.specs.Types.{Types};
 ghost use Rattle.rules.specs.Mesh.{Lists};
 ghost use Rattle.rules.specs.Answers.{_then_, BAD-SIZE, BAD-GRID, BAD-OUTER, BAD-CELL, SHORT-SLOTS, roomOf, BAD-COUNT};
-ghost use Rattle.rules.specs.Calls.{openVerdict};
+ghost use Rattle.rules.specs.Calls.{openVerdict, inputVerdict};
 ghost use Rattle.answers.specs.Verdicts.{verdictOf};
 ghost use Rattle.util.specs.Grid.{sizeOf, Within};
 ghost use Rattle.terms.specs.Scenes.{sceneOf};
-ghost use Rattle.lent.specs.Scenes.{Long, inputVerdict};
+ghost use Rattle.lent.specs.Scenes.{Long};
 
 pub mod links; // links.rt: the links, with their slots
 pub mod triangles; // triangles.rt: the triangles

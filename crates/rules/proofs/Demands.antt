@@ -19,7 +19,7 @@ use Rattle.rules.specs.Mesh.{Quad, Lists, typeAt, drawn, allSides, culle
 use Rattle.rules.specs.Update.{Change, Broken, Added, CullFaces, AddFaces, Entry, entryAt, Tested, work, Course, blank, u32At, emptyType, gridBy, gridAfter, gridLog, TrueBy, Honest, Mends, AddsAlike}
 use Rattle.rules.specs.Answers.{Verdict, fine, refuse, _then_, refuseIf, refuseLowest, outOf, badLimits, BAD-SIZE, BAD-GRID, badCounts, badType, BAD-TYPES, BAD-NUMBER, NOT-A-CUBE, BAD-OUTER, BAD-CELL, SHORT-SLOTS, roomOf, BAD-COUNT, badEntry, BAD-ENTRY, NO-ROOM}
 use Rattle.rules.specs.Check.{linked, Holds, Right}
-use Rattle.rules.specs.Calls.{Answer, answered, Scene, wordsIn, world, span, faces, room, typesVerdict, freshMesh, meshVerdict, meshedBy, meshGrid, lentVerdict, updateVerdict, entriesOf, course, courseAnswer, updateBy, updateMesh, openVerdict, bookVerdict, faceVerdict, checkVerdict, checkBy, checkMesh}
+use Rattle.rules.specs.Calls.{Answer, answered, Scene, wordsIn, world, span, faces, room, typesVerdict, freshMesh, inputVerdict, meshVerdict, meshedBy, meshGrid, lentVerdict, updateVerdict, entriesOf, course, courseAnswer, updateBy, updateMesh, openVerdict, bookVerdict, faceVerdict, checkVerdict, checkBy, checkMesh}
 use Rattle.rules.proofs.ListLaws.{All, all-of, all-each, split, both-ways, or-false, not-true, length-table, length-each}
 use Rattle.rules.proofs.Laying.{Fits, length-vertices, length-triangles, length-links, length-slots, once-of-distinct, decode-layout}
 use Rattle.rules.proofs.Checking.{then-fine, fine-then, if-fine, fine-if, lowest-fine, fine-lowest, Book, book-of-fine, fine-of-book, book-of-laid, length-decode, key-decode, words-decode, distinct-decode, right-of-fine, fine-of-right, shows-of-right, right-of-shows}
@@ -128,7 +128,7 @@ module _ (S : Scene) (B : Lists) (highest : ℕ) (m : List Quad) (size-fine : BA
       let l = then-fine (SHORT-SLOTS (S .size) after) _ laid-lent in
       let c = then-fine (BAD-COUNT (floats (S .types)) after (length m)) (bookVerdict S after (length m)) (l .1) in
       fine-then
-      (fine-then size-fine (fine-then grid-fine (fine-then types-fine (fine-then outer-fine (fine-then cells-fine (fine-then (l .0) (c .0)))))))
+      (fine-then (fine-then size-fine (fine-then grid-fine (fine-then types-fine (fine-then outer-fine (fine-then cells-fine (l .0)))))) (c .0))
       (fine-then (c .1)
       (fine-of-right (world S) outer g (span S) after (length m) (omega (arith, slots-kept, slots-room))
       (right-of-shows (world S) outer g (span S) highest m B small (sane .fits) slots-room sh (sane .once)) .1))
@@ -145,12 +145,11 @@ accepts-exactly S outer g B Q eo = (λ e. right e, λ r. ap checkBy (fine-then e
   where
     slots-room : faces S ≤ length (B .slots)
     slots-room =
-        let a = then-fine (BAD-SIZE (S .size)) _ eo .1 in
+        let a = then-fine (BAD-SIZE (S .size)) _ (then-fine (inputVerdict S outer g B) _ eo .0) .1 in
         let b = then-fine (BAD-GRID (S .size) g) _ a .1 in
         let c = then-fine (typesVerdict S) _ b .1 in
         let d = then-fine (BAD-OUTER outer) _ c .1 in
-        let f = then-fine (BAD-CELL (S .types) g) _ d .1 in
-        let h = then-fine (SHORT-SLOTS (S .size) B) _ f .0 in
+        let h = then-fine (BAD-CELL (S .types) g) (SHORT-SLOTS (S .size) B) d .1 in
         ltb-false (length (B .slots)) (faces S) (if-fine (ltb (length (B .slots)) (faces S)) 9 0 h)
 
     book : Right (world S) outer g (span S) B Q → (bookVerdict S B Q ≡ fine) × (faceVerdict S outer g B Q ≡ fine)
@@ -184,20 +183,20 @@ module _ (S : Scene) (outer g : List ℕ) (culling : Bool) (B : Lists) (accepted
 
   opened : Opened
   opened =
-      let a = then-fine (BAD-SIZE (S .size)) _ accepted in
+      let v = then-fine (inputVerdict S outer g B) (NO-ROOM (floats (S .types)) B (length fresh)) accepted in
+      let a = then-fine (BAD-SIZE (S .size)) _ (v .0) in
       let b = then-fine (BAD-GRID (S .size) g) _ (a .1) in
       let c = then-fine (typesVerdict S) _ (b .1) in
       let d = then-fine (BAD-OUTER outer) _ (c .1) in
-      let f = then-fine (BAD-CELL (S .types) g) _ (d .1) in
-      let h = then-fine (SHORT-SLOTS (S .size) B) (NO-ROOM (floats (S .types)) B (length fresh)) (f .1) in
+      let f = then-fine (BAD-CELL (S .types) g) (SHORT-SLOTS (S .size) B) (d .1) in
       record {
         size = a .0;
         grid = b .0;
         types = c .0;
         faces-named = d .0;
         cells = f .0;
-        slots = h .0;
-        room = ltb-false (room S B) (length fresh) (if-fine (ltb (room S B) (length fresh)) 14 0 (h .1));
+        slots = f .1;
+        room = ltb-false (room S B) (length fresh) (if-fine (ltb (room S B) (length fresh)) 14 0 (v .1));
       }
 
   snd : Sound (world S)
@@ -431,7 +430,7 @@ module _ (tested : Tested) (S : Scene) (g log : List ℕ) (B : Lists) (Q : ℕ) 
       let u = asked-of tested S log B Q eu in
       let o = then-fine (openVerdict S [] g B Q) _ ec in
       let bf = then-fine (bookVerdict S B Q) (faceVerdict S [] g B Q) (o .1) in
-      let a = then-fine (BAD-SIZE (S .size)) _ (o .0) in
+      let a = then-fine (BAD-SIZE (S .size)) _ (then-fine (inputVerdict S [] g B) _ (o .0) .0) in
       let b = then-fine (BAD-GRID (S .size) g) _ (a .1) in
       let t = then-fine (typesVerdict S) _ (b .1) in
       let d = then-fine (BAD-OUTER []) _ (t .1) in

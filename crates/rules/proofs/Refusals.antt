@@ -60,8 +60,9 @@ types-numbers a b c S = (if-given _ _ _ a and-then if-given _ _ _ a) and-then if
 
 pub mesh-numbers : (S : Scene) (outer g : List ℕ) (culling : Bool) (B : Lists) → Within MESH (meshVerdict S outer g culling B)
 mesh-numbers S outer g culling B =
-    if-given _ _ _ refl and-then if-given _ _ _ refl and-then types-numbers refl refl refl S and-then if-given _ _ _ refl and-then if-given _ _ _ refl
-    and-then if-given _ _ _ refl and-then if-given _ _ _ refl
+    (if-given _ _ _ refl and-then if-given _ _ _ refl and-then types-numbers refl refl refl S and-then if-given _ _ _ refl and-then if-given _ _ _ refl
+    and-then if-given _ _ _ refl)
+    and-then if-given _ _ _ refl
 
 book-numbers : {ns : List ℕ} → member 11 ns ≡ true → member 12 ns ≡ true → (S : Scene) (B : Lists) (Q : ℕ) → Within ns (bookVerdict S B Q)
 unfolding BAD-LINKS
@@ -75,8 +76,9 @@ update-numbers S log B Q =
 
 pub check-numbers : (S : Scene) (outer g : List ℕ) (B : Lists) (Q : ℕ) → Within CHECK (checkVerdict S outer g B Q)
 check-numbers S outer g B Q =
-    (if-given _ _ _ refl and-then if-given _ _ _ refl and-then types-numbers refl refl refl S and-then if-given _ _ _ refl and-then if-given _ _ _ refl
-    and-then if-given _ _ _ refl and-then if-given _ _ _ refl)
+    ((if-given _ _ _ refl and-then if-given _ _ _ refl and-then types-numbers refl refl refl S and-then if-given _ _ _ refl and-then if-given _ _ _ refl
+    and-then if-given _ _ _ refl)
+    and-then if-given _ _ _ refl)
     and-then book-numbers refl refl S B Q and-then if-given _ _ _ refl and-then if-given _ _ _ refl
 
 -- of a log, 13 alone

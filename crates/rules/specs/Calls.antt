@@ -82,10 +82,14 @@ pub record Outcome : Type 0 where
 abbrev pub freshMesh : Scene → List ℕ → List ℕ → Bool → List Quad
 freshMesh S outer g culling = cond culling (culled (world S) outer g) (naive (world S) g)
 
-abbrev pub meshVerdict : Scene → List ℕ → List ℕ → Bool → Lists → Verdict
-meshVerdict S outer g culling B =
+-- 2, 3, 4, 6 to 9: what mesh and check ask first
+abbrev pub inputVerdict : Scene → List ℕ → List ℕ → Lists → Verdict
+inputVerdict S outer g B =
     BAD-SIZE (S .size) then BAD-GRID (S .size) g then typesVerdict S then BAD-OUTER outer then BAD-CELL (S .types) g
-    then SHORT-SLOTS (S .size) B then NO-ROOM (floats (S .types)) B (length (freshMesh S outer g culling))
+    then SHORT-SLOTS (S .size) B
+
+abbrev pub meshVerdict : Scene → List ℕ → List ℕ → Bool → Lists → Verdict
+meshVerdict S outer g culling B = inputVerdict S outer g B then NO-ROOM (floats (S .types)) B (length (freshMesh S outer g culling))
 
 abbrev pub meshedBy : Verdict → Scene → List Quad → Lists → Outcome
 meshedBy fine S m B = record { answer = answered (length m) 0; lists = layout (faces S) (span S) (length m) m B }
@@ -128,9 +132,7 @@ updateMesh tested S log B Q = updateBy (updateVerdict S log B Q) S (course teste
 
 -- 2, 3, 4, 6 to 10: what is asked before the mesh is looked at
 abbrev pub openVerdict : Scene → List ℕ → List ℕ → Lists → ℕ → Verdict
-openVerdict S outer g B Q =
-    BAD-SIZE (S .size) then BAD-GRID (S .size) g then typesVerdict S then BAD-OUTER outer then BAD-CELL (S .types) g
-    then SHORT-SLOTS (S .size) B then BAD-COUNT (floats (S .types)) B Q
+openVerdict S outer g B Q = inputVerdict S outer g B then BAD-COUNT (floats (S .types)) B Q
 
 abbrev pub bookVerdict : Scene → Lists → ℕ → Verdict
 bookVerdict S B Q = BAD-LINKS (cells (S .size)) B Q then BAD-TRIANGLES B Q

@@ -11,7 +11,7 @@ use Rattle.rules.specs.Lists.{member}
 use Rattle.rules.specs.Cells.{cells, coordinates}
 use Rattle.rules.specs.Mesh.{Quad, Lists, NONE, listsOf}
 use Rattle.rules.specs.Answers.{fine}
-use Rattle.rules.specs.Calls.{Scene, answered, span, faces, room, freshMesh}
+use Rattle.rules.specs.Calls.{Scene, answered, span, faces, room, freshMesh, inputVerdict}
 use Rattle.rules.proofs.ListLaws.{All, all-at}
 use Rattle.rules.proofs.Sets.{setOf-lt}
 use Rattle.rules.proofs.Demands.{room-for}
@@ -23,7 +23,7 @@ use Rattle.terms.specs.Modes.{isCulling}
 use Rattle.culling.specs.Culling.{worldOf, outerSet}
 use Rattle.drawing.specs.Written.{sideOf, Side}
 use Rattle.drawing.proofs.Sides.{InRow}
-use Rattle.lent.specs.Scenes.{inputVerdict, Admitted}
+use Rattle.lent.specs.Scenes.{Admitted}
 use Rattle.lent.proofs.Admitted.{admitted}
 use Rattle.row_sets.specs.Rows.{Seen}
 use Rattle.listing.specs.Fresh.{setAt, facesOf, setsFrom, asked, keysOf}
