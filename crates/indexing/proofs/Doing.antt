@@ -6,12 +6,12 @@ use mathlib.Core.List.{List, [], _∷_, _++_, map}
 use mathlib.Core.Option.{none, some}
 use Prim.Native.Nat.{ℕ, zero, suc, _+_, _*_, _/_, _≤_, _<_, max}
 use native.Mathlib.Omega.{arith}
-use lib.Dec.{eqb, ltb}
+use lib.Dec.{eqb}
 use lib.ListN.{length, getD, set, length-append, length-set}
 use lib.Seq.{getD-set-same, getD-set-other}
-use borrow.Author.Tests.{eqb-true, eqb-false, eq-eqb, ne-eqb, lt-ltb, le-ltb}
+use borrow.Author.Tests.{eqb-true, eqb-false, eq-eqb, ne-eqb, lt-ltb}
 use Rattle.rules.specs.Lists.{each}
-use Rattle.rules.specs.Cells.{UNIT, keyOf, has, onlyIf}
+use Rattle.rules.specs.Cells.{Size, cells, UNIT, has, onlyIf}
 use Rattle.rules.specs.Mesh.{Quad, NONE, slotOf, listsOf}
 use Rattle.rules.specs.Update.{Entry, step, movedIn, highest}
 use Rattle.rules.proofs.ListLaws.{All, within, split, length-table, each-same, each-split}
@@ -19,15 +19,15 @@ use Rattle.rules.proofs.Quads.{moved-le}
 use Rattle.rules.proofs.Laying.{length-links}
 use Rattle.mesh_metadata.specs.Index.{Linked, vertexOf}
 use Rattle.mesh_metadata.proofs.Layouts as layouts
+use Rattle.util.specs.Grid.{Within}
 use Rattle.steps.specs.Steps.{Step, came, CUT, stepIn, stepAt, stepsIn, Deed, show, hide, quadBy, opOf, opsOf}
 use Rattle.steps.proofs.Replaying.{highest-ge}
 use Rattle.steps.proofs.Turning.{Piecewise}
 use Rattle.works.specs.declared.Work.{Work}
-use Rattle.works.specs.Sets.{setIn, spotIn, spotsAt, act, asked, deedBy, deedAt, deeds}
-use Rattle.works.specs.declared.Spot.{Spot}
-use Rattle.works.proofs.Meant.{idle}
+use Rattle.works.specs.Sets.{setIn, keysAround, spot, spotIn, spotsAt, cutting, typeAt, act, asked, deedBy, deedAt, deeds}
+use Rattle.works.proofs.Works.{does, spot-is}
 use Rattle.indexing.specs.declared.Tally.{Tally}
-use Rattle.indexing.specs.Index.{Index, indexOf, slotIn, goneAt, cameAt, indexOne, indexRun, bookOf, Good, Ready, Removable, Drawable}
+use Rattle.indexing.specs.Index.{Index, indexOf, slotIn, goneAt, cameAt, indexOne, indexRun, deedFor, deedsFor, bookOf, Good, Ready, Removable, Drawable}
 use Rattle.indexing.proofs.Sets.{asked-one}
 use Rattle.indexing.proofs.Booking.{sane-one, one-booked}
 
@@ -82,8 +82,8 @@ module _ {space : ℕ} {ds : List Deed} {B : Index} (r : Ready space ds B) where
       subst (λ (I : Index). Linked (I .quads) (I .links) (I .slots)) (sym (r .is))
       (layouts.linked (r .faces) (r .span) (r .top) (r .mesh) (listsOf [] [] (r .old) []) (r .sane .fits) (r .small) (r .sane .once) (r .sane .reached) (omega arith))
 
-  pub inside : (c f : ℕ) → f < 6 → keyOf c f < r .faces → (c < UNIT) × (keyOf c f < length (B .slots))
-  inside c f l k = let s = r .small in let z = long-slots in (omega arith, omega arith)
+  pub inside : (k : ℕ) → k < r .faces → k < length (B .slots)
+  inside k l = let z = long-slots in omega arith
 
 pub space-left : {space : ℕ} {d : Deed} {ds : List Deed} {links slots : List ℕ} (xs : List ℕ) (t : Tally) → Ready space (d ∷ ds) (indexOf links slots xs t) → 2 * t .steps + 2 ≤ space
 space-left xs t r = let n = length-table (stepAt xs) (t .steps) in let s = r .steps in omega arith
@@ -97,32 +97,26 @@ pub some-told : (w v : ℕ) → vertexOf w ≡ some v → (w ≡ NONE → ⊥) �
 some-told w v = split (λ b. eqb w NONE ≡ b → onlyIf (not b) w ≡ some v → (w ≡ NONE → ⊥) × (w ≡ v)) (eqb w NONE)
     (λ t e r. absurd (let z : _≡_ {A = ℕ} 0 1 = cc in omega arith)) (λ t e r. (eqb-false w NONE e, cc)) refl
 
--- what the mark tells
-pub shows : (k mark : ℕ) → mark < CUT → deedBy k mark ≡ show k mark
-shows k mark l = rw (lt-ltb mark CUT l)
+pub key-good : (cuts : Bool) (t k : ℕ) (words : ℕ → ℕ → List ℕ) (n s : ℕ) → Good words n s (deedBy cuts t k) → k < n
+key-good true t k words n s g = g
+key-good false t k words n s g = g .0
 
-pub hides : (k mark : ℕ) → CUT ≤ mark → deedBy k mark ≡ hide k
-hides k mark l = rw (le-ltb mark CUT l)
-
-pub key-good : (k mark : ℕ) (words : ℕ → ℕ → List ℕ) (n s : ℕ) → Good words n s (deedBy k mark) → k < n
-key-good k mark words n s = split (λ b. Good words n s (cond b (show k mark) (hide k)) → k < n) (ltb mark CUT) (λ e g. g .0) (λ e g. g)
-
-module _ (k mark : ℕ) (B : Index) where
-  pub draws : mark < CUT → slotIn B k ≡ NONE → cameAt k mark B ≡ indexOne (deedBy k mark) B
+module _ (k t : ℕ) (B : Index) where
+  pub draws : slotIn B k ≡ NONE → cameAt k t B ≡ indexOne (show k t) B
   unfolding indexOne
-  draws l e = rw (lt-ltb mark CUT l, eq-eqb (slotIn B k) NONE e)
+  draws e = rw (eq-eqb (slotIn B k) NONE e)
 
-  pub stands : mark < CUT → (slotIn B k ≡ NONE → ⊥) → B ≡ indexOne (deedBy k mark) B
+  pub stands : (slotIn B k ≡ NONE → ⊥) → B ≡ indexOne (show k t) B
   unfolding indexOne
-  stands l d = rw (lt-ltb mark CUT l, ne-eqb (slotIn B k) NONE d)
+  stands d = rw (ne-eqb (slotIn B k) NONE d)
 
-  pub lacks : CUT ≤ mark → slotIn B k ≡ NONE → B ≡ indexOne (deedBy k mark) B
+  pub lacks : slotIn B k ≡ NONE → B ≡ indexOne (hide k) B
   unfolding indexOne
-  lacks l e = rw (le-ltb mark CUT l, eq-eqb (slotIn B k) NONE e)
+  lacks e = rw (eq-eqb (slotIn B k) NONE e)
 
-  pub goes : CUT ≤ mark → (slotIn B k ≡ NONE → ⊥) → goneAt (slotIn B k / 4) B ≡ indexOne (deedBy k mark) B
+  pub goes : (slotIn B k ≡ NONE → ⊥) → goneAt (slotIn B k / 4) B ≡ indexOne (hide k) B
   unfolding indexOne
-  goes l d = rw (le-ltb mark CUT l, ne-eqb (slotIn B k) NONE d)
+  goes d = rw (ne-eqb (slotIn B k) NONE d)
 
 pub removable : {space k : ℕ} {ds : List Deed} {B : Index} → Ready space (hide k ∷ ds) B → (slotIn B k ≡ NONE → ⊥) → Removable (slotIn B k / 4) B
 removable {k = k} {B = B} r d =
@@ -190,14 +184,14 @@ ready-step {d = d} {ds} {B} r =
       steps = omega arith;
     }
 
-pub drawable : (c f : ℕ) {space t : ℕ} {ds : List Deed} {B : Index} → Ready space (show (keyOf c f) t ∷ ds) B → slotIn B (keyOf c f) ≡ NONE → Drawable c (keyOf c f) B
+pub drawable : {space k t : ℕ} {ds : List Deed} {B : Index} → Ready space (show k t ∷ ds) B → slotIn B k ≡ NONE → Drawable k B
 unfolding cameAt indexOne ready-step
-drawable c f {t = t} {B = B} r e =
-    let q : (indexOne (show (keyOf c f) t) B) .quads ≡ B .quads + 1 = rw (eq-eqb (slotIn B (keyOf c f)) NONE e) in
+drawable {k = k} {t} {B = B} r e =
+    let q : (indexOne (show k t) B) .quads ≡ B .quads + 1 = rw (eq-eqb (slotIn B k) NONE e) in
     let y = quads-are (ready-step r) in
-    let k = ready-step r .sane in
-    let low = k .reached in
-    let high = k .within in
+    let n = ready-step r .sane in
+    let low = n .reached in
+    let high = n .within in
     let g = r .good .0 .0 in
     let u = r .small in
     let z = long-slots r in
@@ -257,8 +251,8 @@ pub piecewise : (space : ℕ) → Piecewise indexRun (Ready space)
 piecewise space = record { joined = run-append; front = ready-front; rest = ready-rest }
 
 -- a part asks for one deed at a face, or none
-few-deeds : (b : List ℕ) (e : Entry) (set j f : ℕ) → length (deedAt b e set j f) ≤ 1
-few-deeds b e set j f = asked-one b (e .cell) set j f (λ ks. length (map (act e j f) ks) ≤ 1) (omega arith) (λ k _. omega arith)
+few-deeds : (s : Size) (e : Entry) (set j f : ℕ) → length (deedAt s e set j f) ≤ 1
+few-deeds s e set j f = asked-one s (e .cell) set j f (λ ks. length (map (act e j f) ks) ≤ 1) (omega arith) (λ k _. omega arith)
 
 each-few : (m n i : ℕ) (p : ℕ → List Deed) → ((k : ℕ) → length (p k) ≤ m) → length (each n i p) ≤ m * n
 unfolding each
@@ -266,14 +260,26 @@ each-few m zero i p h = omega arith
 each-few m (suc n) i p h = omega (arith, length-append (p i) (each n (suc i) p), each-few m n (suc i) p h, h i)
 
 -- LAW: an entry's work is 24 deeds at most
-pub all-few : (b : List ℕ) (e : Entry) (w : Work) → length (deeds b e w) ≤ 24
-all-few b e w = each-few 6 4 0 (λ j. each 6 0 (deedAt b e (setIn w j) j)) (λ j. each-few 1 6 0 (deedAt b e (setIn w j) j) (few-deeds b e (setIn w j) j))
+pub all-few : (s : Size) (e : Entry) (w : Work) → length (deeds s e w) ≤ 24
+all-few s e w = each-few 6 4 0 (λ j. each 6 0 (deedAt s e (setIn w j) j)) (λ j. each-few 1 6 0 (deedAt s e (setIn w j) j) (few-deeds s e (setIn w j) j))
 
--- what the code does at a face of the set is the part's deed there
-pub deed-told : (b : List ℕ) (e : Entry) (set j f mark : ℕ) (x : Spot) → has set f ≡ true → spotIn x ≡ spotsAt b (e .cell) j f → ((k : ℕ) → deedBy k mark ≡ act e j f k)
-    → map (λ k. deedBy k mark) (spotIn x) ≡ deedAt b e set j f
+-- ---- the faces that the code finds
+pub no-spot : (k : ℕ) → k ≡ NONE → spot k ≡ []
+no-spot k e = rw (eq-eqb k NONE e)
+
+pub one-spot : (k : ℕ) → (k ≡ NONE → ⊥) → spot k ≡ k ∷ []
+one-spot k d = rw (ne-eqb k NONE d)
+
+-- LAW: what is done by the keys around is the work
+pub deeds-told : (s : Size) (e : Entry) (w : Work) → Within s → e .cell < cells s → deedsFor (keysAround s (e .cell)) e w ≡ deeds s e w
 unfolding asked
-deed-told b e set j f mark x h s a = (λ i. map (λ k. a k i) (s i)) ∙ ap (λ (on : Bool). map (act e j f) (cond on (spotsAt b (e .cell) j f) [])) (sym h)
-
-pub no-deed : (b : List ℕ) (e : Entry) (set j f : ℕ) → has set f ≡ false → deedAt b e set j f ≡ []
-no-deed b e set j f h = ap (map (act e j f)) (idle b (e .cell) set j f h)
+deeds-told s e w grid here =
+    each-same 4 0 (λ j. each 6 0 (deedFor (keysAround s (e .cell)) e (setIn w j) j)) (λ j. each 6 0 (deedAt s e (setIn w j) j))
+    (λ j _ _. each-same 6 0 (deedFor (keysAround s (e .cell)) e (setIn w j) j) (deedAt s e (setIn w j) j) (λ f _ l. one j f (omega arith)))
+  where
+    one : (j f : ℕ) → f < 6 → deedFor (keysAround s (e .cell)) e (setIn w j) j f ≡ deedAt s e (setIn w j) j f
+    one j f l =
+        let x = spot-is s (e .cell) grid here j f l in
+        let a : map (deedBy (cutting j) (typeAt e j f)) (spotIn (keysAround s (e .cell)) j f) ≡ map (act e j f) (spotsAt s (e .cell) j f) = (λ i. map (λ k. does e j f k i) (x i)) in
+        split (λ on. cond on (map (deedBy (cutting j) (typeAt e j f)) (spotIn (keysAround s (e .cell)) j f)) [] ≡ map (act e j f) (cond on (spotsAt s (e .cell) j f) [])) (has (setIn w j) f)
+        (λ s. a) (λ s. refl)

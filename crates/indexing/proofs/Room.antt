@@ -17,8 +17,8 @@ use Rattle.rules.proofs.Neighbours.{beside, opposite-lt}
 use Rattle.rules.proofs.Quads.{Once}
 use Rattle.util.specs.Grid.{Within}
 use Rattle.works.specs.declared.Work.{Work}
-use Rattle.works.specs.Sets.{besideOf, asked, keysIn, workIn}
-use Rattle.works.proofs.Meant.{next, facing-is}
+use Rattle.works.specs.Sets.{facing, keysAround, spotIn, asked, keysIn, workIn}
+use Rattle.works.proofs.Works.{spot-is}
 use Rattle.indexing.specs.Room.{isEmpty, isEmptyAt, goneSide, bareSide, newSide, growthAt, total, quadsNeeded}
 use Rattle.indexing.proofs.Needed.{countIn, needed-is}
 use Rattle.indexing.proofs.Sets.{side-in, not-side, new-keys, own-apart, new-apart}
@@ -29,9 +29,9 @@ unfolding total
 at-most zero i g h = omega arith
 at-most (suc n) i g h = omega (arith, h i, at-most n (suc i) g h)
 
-pub grown-few : (slots : List ℕ) (c : ℕ) (beside : List ℕ) (w : Work) → total 6 0 (growthAt slots c beside w) ≤ 18
+pub grown-few : (slots cells : List ℕ) (w : Work) → total 6 0 (growthAt slots cells w) ≤ 18
 unfolding growthAt
-grown-few slots c b w = at-most 6 0 (growthAt slots c b w) (λ f. omega (arith, one (not (goneSide slots c w f)), one (bareSide slots c b w f), one (newSide slots c w f)))
+grown-few slots cs w = at-most 6 0 (growthAt slots cs w) (λ f. omega (arith, one (not (goneSide slots cs w f)), one (bareSide slots cs w f), one (newSide slots cs w f)))
   where
     one : (b : Bool) → cond b 1 0 ≤ 1
     one true = omega arith
@@ -71,54 +71,57 @@ goes false b = refl
 
 module _ (m : List Quad) (W : World) (e : Entry) (w : Work) (slots : List ℕ) (told : (k : ℕ) → k < 6 * cells (W .size) → isEmpty slots k ≡ not (there k m))
     (inGrid : Within (W .size)) (inside : e .cell < cells (W .size)) where
-  abbrev around : List ℕ
-  around = besideOf (W .size) (e .cell)
+  abbrev keys : List ℕ
+  keys = keysAround (W .size) (e .cell)
+
+  abbrev faces-of : ℕ → ℕ → ℕ → List ℕ
+  faces-of = asked (W .size) (e .cell)
 
   abbrev own : List ℕ
-  own = keysIn around (e .cell) w 0
+  own = keysIn (W .size) (e .cell) w 0
 
   -- not there once its own have gone
   abbrev bare : ℕ → Bool
   bare k = not (cond (member k own) false (there k m))
 
-  beside-bare : (f : ℕ) → f < 6 → countIn bare (asked around (e .cell) (w .shown) 1 f) ≡ cond (bareSide slots (e .cell) around w f) 1 0
+  beside-bare : (f : ℕ) → f < 6 → countIn bare (faces-of (w .shown) 1 f) ≡ cond (bareSide slots keys w f) 1 0
   unfolding asked
   beside-bare f l =
-      subst (λ (ks : List ℕ). countIn bare (cond (has (w .shown) f) ks []) ≡ cond (has (w .shown) f && isEmptyAt slots ks) 1 0)
-      (sym (facing-is (W .size) (e .cell) inGrid inside f l)) (one (has (w .shown) f) (neighbour (W .size) (e .cell) f) refl)
+      one (has (w .shown) f) (neighbour (W .size) (e .cell) f) refl
+      ∙ ap (λ (ks : List ℕ). cond (has (w .shown) f && isEmptyAt slots ks) 1 0) (sym (spot-is (W .size) (e .cell) inGrid inside 1 f l))
     where
-      one : (s : Bool) (o : Option ℕ) → neighbour (W .size) (e .cell) f ≡ o → countIn bare (cond s (next f o) []) ≡ cond (s && isEmptyAt slots (next f o)) 1 0
+      one : (s : Bool) (o : Option ℕ) → neighbour (W .size) (e .cell) f ≡ o → countIn bare (cond s (facing f o) []) ≡ cond (s && isEmptyAt slots (facing f o)) 1 0
       one true none q = refl
       one false none q = refl
       one false (some n) q = refl
       one true (some n) q =
           let x = beside (W .size) (inGrid .sides .wide) (inGrid .sides .long) (e .cell) inside f n q in
-          let here = x .inside in
+          let near = x .inside in
           let other = x .other in
           let b = opposite-lt f l in
           let t = told (keyOf n (opposite f)) (omega arith) in
           rw (t, not-side (e .cell) (keyOf n (opposite f)) (has (w .own)) (λ z. other (omega arith))) (omega arith)
 
-  at-side : (f : ℕ) → f < 6 → countIn (λ k. there k m) (asked around (e .cell) (w .own) 0 f) + growthAt slots (e .cell) around w f
-      ≡ 1 + countIn bare (asked around (e .cell) (w .shown) 1 f) + countIn bare (asked around (e .cell) (w .drawn) 2 f)
+  at-side : (f : ℕ) → f < 6 → countIn (λ k. there k m) (faces-of (w .own) 0 f) + growthAt slots keys w f
+      ≡ 1 + countIn bare (faces-of (w .shown) 1 f) + countIn bare (faces-of (w .drawn) 2 f)
   unfolding asked growthAt
   at-side f l =
       let k = keyOf (e .cell) f in
       let gone = count-one (λ k. there k m) (has (w .own) f) k in
-      let t = told k (omega arith) in
+      let t : isEmptyAt slots (spotIn keys 0 f) ≡ not (there k m) = ap (isEmptyAt slots) (spot-is (W .size) (e .cell) inGrid inside 0 f l) ∙ told k (omega arith) in
       let new : countIn bare (cond (has (w .drawn) f) (k ∷ []) []) ≡ cond (has (w .drawn) f && (has (w .own) f || not (there k m))) 1 0 =
       rw (count-one bare (has (w .drawn) f) k, side-in (e .cell) (has (w .own)) f l, goes (has (w .own) f) (there k m)) in
       rw t (omega (arith, gone, either (has (w .own) f) (there k m), beside-bare f l, new))
 
   -- LAW: what the code counts is what the rule asks
-  pub needed-counted : Once m → quadsNeeded slots (e .cell) around w (length m) ≡ needed (workIn W around e w) m
+  pub needed-counted : Once m → quadsNeeded slots keys w (length m) ≡ needed (workIn W e w) m
   unfolding workIn quadsNeeded
   needed-counted o =
-      let a = needed-is (workIn W around e w) m o (own-apart W e inGrid inside w) (new-apart W e inGrid inside w) in
-      let b = ap (countIn bare) (new-keys W e inGrid inside w) ∙ count-append bare (keysIn around (e .cell) w 1) (keysIn around (e .cell) w 2) in
-      let c = count-each (λ k. there k m) (asked around (e .cell) (w .own) 0) 6 0 in
-      let d = count-each bare (asked around (e .cell) (w .shown) 1) 6 0 in
-      let n = count-each bare (asked around (e .cell) (w .drawn) 2) 6 0 in
-      let s = summed (λ f. countIn (λ k. there k m) (asked around (e .cell) (w .own) 0 f)) (growthAt slots (e .cell) around w)
-      (λ f. countIn bare (asked around (e .cell) (w .shown) 1 f)) (λ f. countIn bare (asked around (e .cell) (w .drawn) 2 f)) 6 0 (λ f x y. at-side f (omega arith)) in
+      let a = needed-is (workIn W e w) m o (own-apart W e inGrid inside w) (new-apart W e inGrid inside w) in
+      let b = ap (countIn bare) (new-keys W e inGrid inside w) ∙ count-append bare (keysIn (W .size) (e .cell) w 1) (keysIn (W .size) (e .cell) w 2) in
+      let c = count-each (λ k. there k m) (faces-of (w .own) 0) 6 0 in
+      let d = count-each bare (faces-of (w .shown) 1) 6 0 in
+      let n = count-each bare (faces-of (w .drawn) 2) 6 0 in
+      let s = summed (λ f. countIn (λ k. there k m) (faces-of (w .own) 0 f)) (growthAt slots keys w)
+      (λ f. countIn bare (faces-of (w .shown) 1 f)) (λ f. countIn bare (faces-of (w .drawn) 2 f)) 6 0 (λ f x y. at-side f (omega arith)) in
       omega (arith, a, b, c, d, n, s)

@@ -6,19 +6,18 @@ use mathlib.Core.Option.{Option, none, some}
 use Prim.Native.Nat.{ℕ, zero, suc, _*_, _/_, _%_, _<_}
 use native.Mathlib.Omega.{arith}
 use lib.Dec.{eqb}
-use lib.ListN.{getD}
 use borrow.Author.Tests.{eq-eqb, ne-eqb}
 use Rattle.rules.specs.Lists.{each, only, member}
-use Rattle.rules.specs.Cells.{cells, has, opposite, neighbour, keyOf}
-use Rattle.rules.specs.Mesh.{Quad, World, NONE}
+use Rattle.rules.specs.Cells.{Size, cells, has, opposite, neighbour, keyOf}
+use Rattle.rules.specs.Mesh.{Quad, World}
 use Rattle.rules.specs.Update.{Entry, givenAt, sides}
 use Rattle.rules.proofs.ListLaws.{All, all-each, all-only, each-same, split, members, read-one, read-none}
 use Rattle.rules.proofs.Neighbours.{beside, opposite-lt, opposite-twice}
 use Rattle.util.specs.Grid.{Within}
 use Rattle.steps.specs.Steps.{Deed}
 use Rattle.works.specs.declared.Work.{Work}
-use Rattle.works.specs.Sets.{setIn, besideOf, spotsBy, spotsAt, act, asked, deedAt, deeds, quadIn, keysIn, quadsIn, workIn}
-use Rattle.works.proofs.Meant.{map-each, next, facing-is}
+use Rattle.works.specs.Sets.{setIn, facing, spotsBy, spotsAt, act, asked, deedAt, deeds, quadIn, keysIn, quadsIn, workIn}
+use Rattle.works.proofs.Meant.{map-each}
 use Rattle.indexing.proofs.Needed.{keysOf, Apart, apart-append, apart-each, weaken}
 
 -- ---- the sides of a cell: one is among those of which p holds if p holds of it, a face of another cell is not
@@ -45,22 +44,23 @@ sideOf zero k = k % 6
 sideOf (suc odd) k = opposite (k % 6)
 
 -- at a side there is one, or none
-pub asked-one : (b : List ℕ) (c set j f : ℕ) (Q : List ℕ → Type 0) → Q [] → ((k : ℕ) → (f < 6 → sideOf (j % 2) k ≡ f) → Q (k ∷ [])) → Q (asked b c set j f)
+pub asked-one : (s : Size) (c set j f : ℕ) (Q : List ℕ → Type 0) → Q [] → ((k : ℕ) → (f < 6 → sideOf (j % 2) k ≡ f) → Q (k ∷ [])) → Q (asked s c set j f)
 unfolding asked
-asked-one b c set j f Q idle one = pick (has set f) (j % 2) one
+asked-one s c set j f Q idle one = pick (has set f) (j % 2) one
   where
-    pick : (on : Bool) (n : ℕ) → ((k : ℕ) → (f < 6 → sideOf n k ≡ f) → Q (k ∷ [])) → Q (cond on (spotsBy n (getD b f 0) c f) [])
+    near : (odd : ℕ) → ((k : ℕ) → (f < 6 → sideOf (suc odd) k ≡ f) → Q (k ∷ [])) → (o : Option ℕ) → Q (facing f o)
+    near odd one none = idle
+    near odd one (some n) = one (keyOf n (opposite f)) (λ l. let o = opposite-lt f l in let z : keyOf n (opposite f) % 6 ≡ opposite f = omega arith in ap opposite z ∙ opposite-twice f)
+
+    pick : (on : Bool) (n : ℕ) → ((k : ℕ) → (f < 6 → sideOf n k ≡ f) → Q (k ∷ [])) → Q (cond on (spotsBy s c n f) [])
     pick false n one = idle
     pick true zero one = one (keyOf c f) (λ l. omega arith)
-    pick true (suc n) one =
-        split (λ t. Q (cond t [] (keyOf (getD b f 0) (opposite f) ∷ []))) (eqb (getD b f 0) NONE) (λ e. idle)
-        (λ e. one (keyOf (getD b f 0) (opposite f))
-        (λ l. let o = opposite-lt f l in let z : keyOf (getD b f 0) (opposite f) % 6 ≡ opposite f = omega arith in ap opposite z ∙ opposite-twice f))
+    pick true (suc n) one = near n one (neighbour s c f)
 
-part-apart : (b : List ℕ) (c set j : ℕ) → Apart (each 6 0 (asked b c set j))
-part-apart b c set j =
-    apart-each (sideOf (j % 2)) (asked b c set j) (λ f. asked-one b c set j f Apart tt (λ k e. (tt, tt))) 6 0
-    (λ f _ l. asked-one b c set j f (All (λ k. sideOf (j % 2) k ≡ f)) tt (λ k e. (e (omega arith), tt)))
+part-apart : (s : Size) (c set j : ℕ) → Apart (each 6 0 (asked s c set j))
+part-apart s c set j =
+    apart-each (sideOf (j % 2)) (asked s c set j) (λ f. asked-one s c set j f Apart tt (λ k e. (tt, tt))) 6 0
+    (λ f _ l. asked-one s c set j f (All (λ k. sideOf (j % 2) k ≡ f)) tt (λ k e. (e (omega arith), tt)))
 
 keys-back : (W : World) (t : ℕ) (ks : List ℕ) → keysOf (map (λ k. quadIn W k t) ks) ≡ ks
 keys-back W t [] = refl
@@ -71,45 +71,42 @@ on-set P true ks a = a
 on-set P false ks a = tt
 
 module _ (W : World) (e : Entry) (w : Within (W .size)) (h : e .cell < cells (W .size)) where
-  abbrev around : List ℕ
-  around = besideOf (W .size) (e .cell)
-
   -- what holds of the faces of the cells beside holds of the neighbours' facing sides
-  facing-all : (P : ℕ → Type 0) (f : ℕ) → f < 6 → ((n : ℕ) → n < cells (W .size) → (n ≡ e .cell → ⊥) → P (keyOf n (opposite f))) → All P (spotsAt around (e .cell) 1 f)
-  facing-all P f l holds = subst (All P) (sym (facing-is (W .size) (e .cell) w h f l)) (far (neighbour (W .size) (e .cell) f) refl)
+  facing-all : (P : ℕ → Type 0) (f : ℕ) → f < 6 → ((n : ℕ) → n < cells (W .size) → (n ≡ e .cell → ⊥) → P (keyOf n (opposite f))) → All P (spotsAt (W .size) (e .cell) 1 f)
+  facing-all P f l holds = far (neighbour (W .size) (e .cell) f) refl
     where
-      far : (o : Option ℕ) → neighbour (W .size) (e .cell) f ≡ o → All P (next f o)
+      far : (o : Option ℕ) → neighbour (W .size) (e .cell) f ≡ o → All P (facing f o)
       far none q = tt
       far (some n) q = let x = beside (W .size) (w .sides .wide) (w .sides .long) (e .cell) h f n q in (holds n (x .inside) (x .other), tt)
 
-  pub new-keys : (v : Work) → keysOf ((workIn W around e v) .new) ≡ keysIn around (e .cell) v 1 ++ keysIn around (e .cell) v 2
+  pub new-keys : (v : Work) → keysOf ((workIn W e v) .new) ≡ keysIn (W .size) (e .cell) v 1 ++ keysIn (W .size) (e .cell) v 2
   unfolding workIn
   new-keys v =
-      map-append (λ (q : Quad). q .key) (quadsIn W around (e .cell) v 1 (givenAt e)) (quadsIn W around (e .cell) v 2 (λ f. e .type))
+      map-append (λ (q : Quad). q .key) (quadsIn W (e .cell) v 1 (givenAt e)) (quadsIn W (e .cell) v 2 (λ f. e .type))
       ∙ (λ i. back 1 (givenAt e) i ++ back 2 (λ f. e .type) i)
     where
-      back : (j : ℕ) (t : ℕ → ℕ) → keysOf (quadsIn W around (e .cell) v j t) ≡ keysIn around (e .cell) v j
+      back : (j : ℕ) (t : ℕ → ℕ) → keysOf (quadsIn W (e .cell) v j t) ≡ keysIn (W .size) (e .cell) v j
       back j t =
-          map-each (λ (q : Quad). q .key) 6 0 (λ f. map (λ k. quadIn W k (t f)) (asked around (e .cell) (setIn v j) j f))
-          ∙ each-same 6 0 (λ f. keysOf (map (λ k. quadIn W k (t f)) (asked around (e .cell) (setIn v j) j f))) (asked around (e .cell) (setIn v j) j)
-          (λ f a b. keys-back W (t f) (asked around (e .cell) (setIn v j) j f))
+          map-each (λ (q : Quad). q .key) 6 0 (λ f. map (λ k. quadIn W k (t f)) (asked (W .size) (e .cell) (setIn v j) j f))
+          ∙ each-same 6 0 (λ f. keysOf (map (λ k. quadIn W k (t f)) (asked (W .size) (e .cell) (setIn v j) j f))) (asked (W .size) (e .cell) (setIn v j) j)
+          (λ f a b. keys-back W (t f) (asked (W .size) (e .cell) (setIn v j) j f))
 
   -- LAW: among its own faces none is named twice, nor among those that it draws
-  pub own-apart : (v : Work) → Apart ((workIn W around e v) .own)
+  pub own-apart : (v : Work) → Apart ((workIn W e v) .own)
   unfolding workIn
-  own-apart v = part-apart around (e .cell) (v .own) 0
+  own-apart v = part-apart (W .size) (e .cell) (v .own) 0
 
-  pub new-apart : (v : Work) → Apart (keysOf ((workIn W around e v) .new))
+  pub new-apart : (v : Work) → Apart (keysOf ((workIn W e v) .new))
   unfolding asked
   new-apart v =
       subst Apart (sym (new-keys v))
-      (apart-append (keysIn around (e .cell) v 1) (keysIn around (e .cell) v 2) (part-apart around (e .cell) (v .shown) 1) (part-apart around (e .cell) (v .drawn) 2)
-      (weaken (λ k d. own k d) (keysIn around (e .cell) v 1) beyond))
+      (apart-append (keysIn (W .size) (e .cell) v 1) (keysIn (W .size) (e .cell) v 2) (part-apart (W .size) (e .cell) (v .shown) 1) (part-apart (W .size) (e .cell) (v .drawn) 2)
+      (weaken (λ k d. own k d) (keysIn (W .size) (e .cell) v 1) beyond))
     where
-      beyond : All (λ k. k / 6 ≡ e .cell → ⊥) (keysIn around (e .cell) v 1)
+      beyond : All (λ k. k / 6 ≡ e .cell → ⊥) (keysIn (W .size) (e .cell) v 1)
       beyond =
-          all-each (λ k. k / 6 ≡ e .cell → ⊥) 6 0 (asked around (e .cell) (v .shown) 1)
-          (λ f a b. on-set (λ k. k / 6 ≡ e .cell → ⊥) (has (v .shown) f) (spotsAt around (e .cell) 1 f)
+          all-each (λ k. k / 6 ≡ e .cell → ⊥) 6 0 (asked (W .size) (e .cell) (v .shown) 1)
+          (λ f a b. on-set (λ k. k / 6 ≡ e .cell → ⊥) (has (v .shown) f) (spotsAt (W .size) (e .cell) 1 f)
           (facing-all (λ k. k / 6 ≡ e .cell → ⊥) f (omega arith) (λ n i o q. let l = opposite-lt f (omega arith) in o (omega arith))))
 
       own : (k : ℕ) → (k / 6 ≡ e .cell → ⊥) → All (λ j. eqb j k ≡ false) (sides (e .cell) (has (v .drawn)))
@@ -118,23 +115,23 @@ module _ (W : World) (e : Entry) (w : Within (W .size)) (h : e .cell < cells (W 
           (λ f a b. all-only (λ j. eqb j k ≡ false) (has (v .drawn) f) (keyOf (e .cell) f) (ne-eqb (keyOf (e .cell) f) k (λ z. d (omega arith))))
 
   -- LAW: the faces of every part are in the grid
-  pub spots-inside : (j f : ℕ) → f < 6 → All (λ k. k < 6 * cells (W .size)) (spotsAt around (e .cell) j f)
+  pub spots-inside : (j f : ℕ) → f < 6 → All (λ k. k < 6 * cells (W .size)) (spotsAt (W .size) (e .cell) j f)
   spots-inside j f l = pick (j % 2)
     where
-      pick : (n : ℕ) → All (λ k. k < 6 * cells (W .size)) (spotsBy n (getD around f 0) (e .cell) f)
+      pick : (n : ℕ) → All (λ k. k < 6 * cells (W .size)) (spotsBy (W .size) (e .cell) n f)
       pick zero = (omega arith, tt)
       pick (suc n) = facing-all (λ k. k < 6 * cells (W .size)) f l (λ n i o. omega (arith, opposite-lt f l))
 
   -- LAW: what holds of each part on such faces holds of every deed
-  pub all-deeds : (P : Deed → Type 0) (v : Work) → ((j f k : ℕ) → f < 6 → has (setIn v j) f ≡ true → k < 6 * cells (W .size) → P (act e j f k)) → All P (deeds around e v)
+  pub all-deeds : (P : Deed → Type 0) (v : Work) → ((j f k : ℕ) → f < 6 → has (setIn v j) f ≡ true → k < 6 * cells (W .size) → P (act e j f k)) → All P (deeds (W .size) e v)
   unfolding asked
   all-deeds P v holds =
-      all-each P 4 0 (λ j. each 6 0 (deedAt around e (setIn v j) j)) (λ j a b. all-each P 6 0 (deedAt around e (setIn v j) j) (λ f c d. one j f (omega arith) (has (setIn v j) f) refl))
+      all-each P 4 0 (λ j. each 6 0 (deedAt (W .size) e (setIn v j) j)) (λ j a b. all-each P 6 0 (deedAt (W .size) e (setIn v j) j) (λ f c d. one j f (omega arith) (has (setIn v j) f) refl))
     where
       all : (j f : ℕ) → f < 6 → has (setIn v j) f ≡ true → (ks : List ℕ) → All (λ k. k < 6 * cells (W .size)) ks → All P (map (act e j f) ks)
       all j f l on [] i = tt
       all j f l on (k ∷ ks) i = (holds j f k l on (i .0), all j f l on ks (i .1))
 
-      one : (j f : ℕ) → f < 6 → (b : Bool) → has (setIn v j) f ≡ b → All P (map (act e j f) (cond b (spotsAt around (e .cell) j f) []))
-      one j f l true on = all j f l on (spotsAt around (e .cell) j f) (spots-inside j f l)
+      one : (j f : ℕ) → f < 6 → (b : Bool) → has (setIn v j) f ≡ b → All P (map (act e j f) (cond b (spotsAt (W .size) (e .cell) j f) []))
+      one j f l true on = all j f l on (spotsAt (W .size) (e .cell) j f) (spots-inside j f l)
       one j f l false on = tt

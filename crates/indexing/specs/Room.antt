@@ -4,11 +4,11 @@ use mathlib.Core.Bool.{Bool, false, cond, not, _&&_, _||_}
 use mathlib.Core.List.{List, [], _∷_}
 use lib.ListN.{length, getD}
 use lib.Dec.{eqb}
-use Rattle.rules.specs.Cells.{UNIT, keyOf, has}
+use Rattle.rules.specs.Cells.{UNIT, has}
 use Rattle.rules.specs.Mesh.{NONE}
 use Rattle.rules.proofs.ListLaws.{All}
 use Rattle.works.specs.declared.Work.{Work}
-use Rattle.works.specs.Sets.{spotsAt}
+use Rattle.works.specs.Sets.{spotIn}
 
 -- a face that has no quad, and a spot that is such a face
 abbrev pub isEmpty : List ℕ → ℕ → Bool
@@ -18,30 +18,29 @@ abbrev pub isEmptyAt : List ℕ → List ℕ → Bool
 isEmptyAt slots [] = false
 isEmptyAt slots (k ∷ ks) = isEmpty slots k
 
--- at face f of cell c: an own quad that goes; a neighbour's side that is drawn and not there; an own side that is drawn and does not stay
-abbrev pub goneSide : List ℕ → ℕ → Work → ℕ → Bool
-goneSide slots c w f = has (w .own) f && not (isEmpty slots (keyOf c f))
+-- at face f: an own quad that goes; a neighbour's side that is drawn and not there; an own side that is drawn and does not stay
+abbrev pub goneSide : List ℕ → List ℕ → Work → ℕ → Bool
+goneSide slots keys w f = has (w .own) f && not (isEmptyAt slots (spotIn keys 0 f))
 
-abbrev pub bareSide : List ℕ → ℕ → List ℕ → Work → ℕ → Bool
-bareSide slots c beside w f = has (w .shown) f && isEmptyAt slots (spotsAt beside c 1 f)
+abbrev pub bareSide : List ℕ → List ℕ → Work → ℕ → Bool
+bareSide slots keys w f = has (w .shown) f && isEmptyAt slots (spotIn keys 1 f)
 
-abbrev pub newSide : List ℕ → ℕ → Work → ℕ → Bool
-newSide slots c w f = has (w .drawn) f && (has (w .own) f || isEmpty slots (keyOf c f))
+abbrev pub newSide : List ℕ → List ℕ → Work → ℕ → Bool
+newSide slots keys w f = has (w .drawn) f && (has (w .own) f || isEmptyAt slots (spotIn keys 0 f))
 
 -- one more than the count grows by there
-unfoldable pub growthAt : List ℕ → ℕ → List ℕ → Work → ℕ → ℕ
-growthAt slots c beside w f = cond (not (goneSide slots c w f)) 1 0 + cond (bareSide slots c beside w f) 1 0 + cond (newSide slots c w f) 1 0
+unfoldable pub growthAt : List ℕ → List ℕ → Work → ℕ → ℕ
+growthAt slots keys w f = cond (not (goneSide slots keys w f)) 1 0 + cond (bareSide slots keys w f) 1 0 + cond (newSide slots keys w f) 1 0
 
 -- g i, g (i + 1), .., n of them, summed
 unfoldable pub total : ℕ → ℕ → (ℕ → ℕ) → ℕ
 total zero i g = 0
 total (suc n) i g = g i + total n (suc i) g
 
-unfoldable pub quadsNeeded : List ℕ → ℕ → List ℕ → Work → ℕ → ℕ
-quadsNeeded slots c beside w Q = Q + total 6 0 (growthAt slots c beside w) - 6
+unfoldable pub quadsNeeded : List ℕ → List ℕ → Work → ℕ → ℕ
+quadsNeeded slots keys w Q = Q + total 6 0 (growthAt slots keys w) - 6
 
--- a cell and those beside it, whose slots are there
-pub record Gridded (c : ℕ) (beside : List ℕ) (slots : List ℕ) : Type 0 where
+-- the keys have slots
+pub record Gridded (keys slots : List ℕ) : Type 0 where
   pub small : length slots ≤ 6 * UNIT
-  pub own : 6 * c + 6 ≤ length slots
-  pub next : (f : ℕ) → f < 6 → All (λ k. k < length slots) (spotsAt beside c 1 f)
+  pub all : (part f : ℕ) → f < 6 → All (λ k. k < length slots) (spotIn keys part f)

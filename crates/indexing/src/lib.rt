@@ -2,36 +2,35 @@
 use entries::Entry;
 use face::Cell;
 use face::Face;
+use face::NONE;
 use face::Quad;
 use face::face_at;
 use face::has;
-use face::key;
 use mesh_metadata::QuadIndex;
 use mesh_metadata::get_quad_index;
 use mesh_metadata::insert;
+use mesh_metadata::quad_at;
 use mesh_metadata::renumber;
 use steps::CUT;
 use vav::free_row;
 use vav::moved_by;
-use works::Spot;
 use works::Work;
-use works::mark_of;
-use works::spot_at;
+use works::does_cut;
+use works::type_of;
 ghost use mathlib.Core.Path.{_≡_};
 ghost use mathlib.Core.Bool.{cond};
-ghost use mathlib.Core.List.{[], _∷_, map};
+ghost use mathlib.Core.List.{map};
 ghost use Prim.Native.Nat.{ℕ, _+_, _*_, _^_, _≤_, _<_, max};
 ghost use lib.Dec.{leb};
 ghost use lib.ListN.{length, set};
 ghost use Rattle.rules.specs.Lists.{each};
-ghost use Rattle.rules.specs.Cells.{UNIT, keyOf};
+ghost use Rattle.rules.specs.Cells.{UNIT};
 ghost use Rattle.rules.proofs.ListLaws.{All};
 ghost use Rattle.face.specs.Face.{number};
 ghost use Rattle.entries.specs.Log.{entryIn};
-ghost use Rattle.steps.specs.Steps.{CUT};
-ghost use Rattle.works.specs.Sets.{setIn, spotIn, deedBy, deedAt, deeds};
+ghost use Rattle.works.specs.Sets.{setIn, spot, deedBy};
 ghost use Rattle.indexing.specs.Room.{isEmptyAt, growthAt, quadsNeeded, Gridded};
-ghost use Rattle.indexing.specs.Index.{indexOf, goneAt, cameAt, indexRun, Ready, Removable, Drawable};
+ghost use Rattle.indexing.specs.Index.{indexOf, goneAt, cameAt, indexRun, deedFor, deedsFor, Ready, Removable, Drawable};
 
 // The number of quads, how many have changed their place, the highest number of quads on the way, and the number of steps.
 pub struct Tally {
@@ -84,25 +83,29 @@ fn remove_quad(
     }
 }
 
-// Draws the quad of a face of a cell after the last one.
+// Draws the quad of the face of a key after the last one.
 fn append_quad(
     links: &mut [u32],
     slots: &mut [u32],
     steps: &mut [u32],
-    cell: Cell,
-    face: Face,
-    voxel: u32,
+    key: u32,
+    voxel: u8,
     tally: Tally,
 ) -> Tally
-    requires { ⌜ Drawable (cell .0) (keyOf (cell .0) (number face)) (indexOf (now links) (now slots) (now steps) tally)
-        × (2 * tally .steps + 2 ≤ length (now steps)) × (voxel < CUT) ⌝ }
+    requires { ⌜ Drawable key (indexOf (now links) (now slots) (now steps) tally) × (2 * tally .steps + 2 ≤ length (now steps)) ⌝ }
     ensures { λ r. ⌜ indexOf (now (links .exit)) (now (slots .exit)) (now (steps .exit)) r
-        ≡ cameAt (keyOf (cell .0) (number face)) voxel (indexOf (now (links .entry)) (now (slots .entry)) (now (steps .entry)) tally) ⌝ }
+        ≡ cameAt key voxel (indexOf (now (links .entry)) (now (slots .entry)) (now (steps .entry)) tally) ⌝ }
 {
     let count = tally.quads;
     let at = tally.steps;
-    insert(links, slots, face, cell, Quad(count as u32));
-    write_step(steps, at, key(cell, face), voxel);
+    insert(
+        links,
+        slots,
+        face_at(key % 6),
+        Cell(key / 6),
+        Quad(count as u32),
+    );
+    write_step(steps, at, key, voxel as u32);
     Tally {
         quads: count + 1,
         moved: tally.moved,
@@ -111,54 +114,38 @@ fn append_quad(
     }
 }
 
-// Draws the quad of a face for the type that the mark is, unless the face is there; or removes it, if it is there and the mark is CUT.
+// Draws the quad of the face of a key for a type, unless it is there; or, where `cuts`, removes it, if it is there. NONE is no face.
 fn do_face(
     links: &mut [u32],
     slots: &mut [u32],
     steps: &mut [u32],
-    cell: Cell,
-    face: Face,
-    mark: u32,
+    key: u32,
+    cuts: bool,
+    voxel: u8,
     tally: Tally,
 ) -> Tally
-    requires { ⌜ Ready (length (now steps)) (deedBy (keyOf (cell .0) (number face)) mark ∷ []) (indexOf (now links) (now slots) (now steps) tally) ⌝ }
+    requires { ⌜ Ready (length (now steps)) (map (deedBy cuts voxel) (spot key)) (indexOf (now links) (now slots) (now steps) tally) ⌝ }
     ensures { λ r. ⌜ indexOf (now (links .exit)) (now (slots .exit)) (now (steps .exit)) r
-        ≡ indexRun (deedBy (keyOf (cell .0) (number face)) mark ∷ []) (indexOf (now (links .entry)) (now (slots .entry)) (now (steps .entry)) tally) ⌝ }
+        ≡ indexRun (map (deedBy cuts voxel) (spot key)) (indexOf (now (links .entry)) (now (slots .entry)) (now (steps .entry)) tally) ⌝ }
 {
-    match get_quad_index(slots, face, cell) {
+    if key == NONE {
+        return tally;
+    }
+    match quad_at(slots, key) {
         QuadIndex::Nothing => {
-            if mark < CUT {
-                append_quad(links, slots, steps, cell, face, mark, tally)
-            } else {
+            if cuts {
                 tally
+            } else {
+                append_quad(links, slots, steps, key, voxel, tally)
             }
         }
         QuadIndex::At(vertex) => {
-            if mark < CUT {
-                tally
-            } else {
+            if cuts {
                 remove_quad(links, slots, steps, vertex.quad(), tally)
+            } else {
+                tally
             }
         }
-    }
-}
-
-// Does what is to be done at a spot.
-fn do_deed(
-    links: &mut [u32],
-    slots: &mut [u32],
-    steps: &mut [u32],
-    spot: Spot,
-    mark: u32,
-    tally: Tally,
-) -> Tally
-    requires { ⌜ Ready (length (now steps)) (map (λ k. deedBy k mark) (spotIn spot)) (indexOf (now links) (now slots) (now steps) tally) ⌝ }
-    ensures { λ r. ⌜ indexOf (now (links .exit)) (now (slots .exit)) (now (steps .exit)) r
-        ≡ indexRun (map (λ k. deedBy k mark) (spotIn spot)) (indexOf (now (links .entry)) (now (slots .entry)) (now (steps .entry)) tally) ⌝ }
-{
-    match spot {
-        Spot::Nothing => tally,
-        Spot::At(cell, face) => do_face(links, slots, steps, cell, face, mark, tally),
     }
 }
 
@@ -167,24 +154,25 @@ fn index_part(
     links: &mut [u32],
     slots: &mut [u32],
     steps: &mut [u32],
-    beside: [u32; 6],
+    keys: &[u32; 12],
     entry: Entry,
     set: u8,
     part: u32,
     tally: Tally,
 ) -> Tally
-    requires { ⌜ (set < 64) × Ready (length (now steps)) (each 6 0 (deedAt beside (entryIn entry) set part)) (indexOf (now links) (now slots) (now steps) tally) ⌝ }
+    requires { ⌜ (set < 64) × Ready (length (now steps)) (each 6 0 (deedFor (now keys) (entryIn entry) set part)) (indexOf (now links) (now slots) (now steps) tally) ⌝ }
     ensures { λ r. ⌜ indexOf (now (links .exit)) (now (slots .exit)) (now (steps .exit)) r
-        ≡ indexRun (each 6 0 (deedAt beside (entryIn entry) set part)) (indexOf (now (links .entry)) (now (slots .entry)) (now (steps .entry)) tally) ⌝ }
+        ≡ indexRun (each 6 0 (deedFor (now (keys .entry)) (entryIn entry) set part)) (indexOf (now (links .entry)) (now (slots .entry)) (now (steps .entry)) tally) ⌝ }
 {
+    let cuts = does_cut(part);
+    let first = 6 * (part % 2) as usize;
     let mut left = tally;
     let mut rest = set;
     while rest != 0 {
         let f = u8::trailing_zeros(rest);
-        let face = face_at(f);
-        let side = f as usize;
-        let spot = spot_at(entry.cell, beside[side], part, face);
-        left = do_deed(links, slots, steps, spot, mark_of(entry, part, face), left);
+        let at = first + f as usize;
+        let voxel = type_of(entry, part, face_at(f));
+        left = do_face(links, slots, steps, keys[at], cuts, voxel, left);
         rest = rest & (rest - 1);
     }
     left
@@ -195,38 +183,36 @@ pub fn index_work(
     links: &mut [u32],
     slots: &mut [u32],
     steps: &mut [u32],
-    beside: [u32; 6],
+    keys: &[u32; 12],
     entry: Entry,
     work: Work,
     tally: Tally,
 ) -> Tally
-    requires { ⌜ ((j : ℕ) → setIn work j < 64) × Ready (length (now steps)) (deeds beside (entryIn entry) work) (indexOf (now links) (now slots) (now steps) tally) ⌝ }
+    requires { ⌜ ((j : ℕ) → setIn work j < 64) × Ready (length (now steps)) (deedsFor (now keys) (entryIn entry) work) (indexOf (now links) (now slots) (now steps) tally) ⌝ }
     ensures { λ r. ⌜ indexOf (now (links .exit)) (now (slots .exit)) (now (steps .exit)) r
-        ≡ indexRun (deeds beside (entryIn entry) work) (indexOf (now (links .entry)) (now (slots .entry)) (now (steps .entry)) tally) ⌝ }
+        ≡ indexRun (deedsFor (now (keys .entry)) (entryIn entry) work) (indexOf (now (links .entry)) (now (slots .entry)) (now (steps .entry)) tally) ⌝ }
 {
     let mut left = tally;
     let mut part: u32 = 0;
     while part < 4 {
         let set = work.set_of(part);
-        left = index_part(links, slots, steps, beside, entry, set, part, left);
+        left = index_part(links, slots, steps, keys, entry, set, part, left);
         part += 1;
     }
     left
 }
 
-// Whether a spot is a face that has no quad.
-fn is_empty(slots: &[u32], spot: Spot) -> bool
-    requires { ⌜ All (λ k. k < length (now slots)) (spotIn spot) × (length (now slots) ≤ 6 * UNIT) ⌝ }
-    ensures { λ r. ⌜ r ≡ isEmptyAt (now (slots .entry)) (spotIn spot) ⌝ }
+// Whether the face of a key has no quad. NONE is no face.
+fn is_empty(slots: &[u32], key: u32) -> bool
+    requires { ⌜ All (λ k. k < length (now slots)) (spot key) × (length (now slots) ≤ 6 * UNIT) ⌝ }
+    ensures { λ r. ⌜ r ≡ isEmptyAt (now (slots .entry)) (spot key) ⌝ }
 {
-    match spot {
-        Spot::Nothing => false,
-        Spot::At(cell, face) => {
-            match get_quad_index(slots, face, cell) {
-                QuadIndex::Nothing => true,
-                QuadIndex::At(_) => false,
-            }
-        }
+    if key == NONE {
+        return false;
+    }
+    match get_quad_index(slots, face_at(key % 6), Cell(key / 6)) {
+        QuadIndex::Nothing => true,
+        QuadIndex::At(_) => false,
     }
 }
 
@@ -237,38 +223,31 @@ fn one(on: bool) -> usize
 }
 
 // One more than the count grows by at a side: an own quad that goes, a neighbour's and an own one that come.
-fn growth(slots: &[u32], cell: Cell, beside: [u32; 6], work: Work, face: Face) -> usize
-    requires { ⌜ Gridded (cell .0) beside (now slots) ⌝ }
-    ensures { λ r. ⌜ (r ≡ growthAt (now (slots .entry)) (cell .0) beside work (number face)) × (r ≤ 3) ⌝ }
+fn growth(slots: &[u32], keys: &[u32; 12], work: Work, face: Face) -> usize
+    requires { ⌜ Gridded (now keys) (now slots) ⌝ }
+    ensures { λ r. ⌜ (r ≡ growthAt (now (slots .entry)) (now (keys .entry)) work (number face)) × (r ≤ 3) ⌝ }
 {
-    let empty = is_empty(slots, Spot::At(cell, face));
-    let goes = has(work.own, face);
     let side = face.number() as usize;
-    let bare = has(work.shown, face) & is_empty(slots, spot_at(cell, beside[side], 1, face));
+    let empty = is_empty(slots, keys[side]);
+    let goes = has(work.own, face);
+    let bare = has(work.shown, face) & is_empty(slots, keys[6 + side]);
     let comes = has(work.drawn, face) & (goes | empty);
     one(!(goes & !empty)) + one(bare) + one(comes)
 }
 
 // Whether the room holds what the entry's work needs. Twelve quads more are enough for any.
-pub fn has_room(
-    slots: &[u32],
-    cell: Cell,
-    beside: [u32; 6],
-    work: Work,
-    count: usize,
-    room: usize,
-) -> bool
-    requires { ⌜ Gridded (cell .0) beside (now slots) × (count < 2 ^ 32) ⌝ }
-    ensures { λ r. ⌜ r ≡ leb (quadsNeeded (now (slots .entry)) (cell .0) beside work count) room ⌝ }
+pub fn has_room(slots: &[u32], keys: &[u32; 12], work: Work, count: usize, room: usize) -> bool
+    requires { ⌜ Gridded (now keys) (now slots) × (count < 2 ^ 32) ⌝ }
+    ensures { λ r. ⌜ r ≡ leb (quadsNeeded (now (slots .entry)) (now (keys .entry)) work count) room ⌝ }
 {
     if count + 12 <= room {
         return true;
     }
-    let grown = growth(slots, cell, beside, work, Face::Top)
-        + growth(slots, cell, beside, work, Face::Bottom)
-        + growth(slots, cell, beside, work, Face::Right)
-        + growth(slots, cell, beside, work, Face::Left)
-        + growth(slots, cell, beside, work, Face::Back)
-        + growth(slots, cell, beside, work, Face::Forward);
+    let grown = growth(slots, keys, work, Face::Top)
+        + growth(slots, keys, work, Face::Bottom)
+        + growth(slots, keys, work, Face::Right)
+        + growth(slots, keys, work, Face::Left)
+        + growth(slots, keys, work, Face::Back)
+        + growth(slots, keys, work, Face::Forward);
     count + grown <= room + 6
 }

@@ -66,17 +66,25 @@ pub fn insert(links: &mut [u32], slots: &mut [u32], face: Face, cell: Cell, quad
     fill(slots, slot, quad);
 }
 
-pub fn get_quad_index(slots: &[u32], face: Face, cell: Cell) -> QuadIndex
-    requires { ⌜ (cell .0 < UNIT) × (keyOf (cell .0) (number face) < length (now slots)) ⌝ }
-    ensures { λ r. ⌜ vertexIn r ≡ vertexOf (getD (now (slots .entry)) (keyOf (cell .0) (number face)) NONE) ⌝ }
+// The quad of the face of a key.
+pub fn quad_at(slots: &[u32], key: u32) -> QuadIndex
+    requires { ⌜ key < length (now slots) ⌝ }
+    ensures { λ r. ⌜ vertexIn r ≡ vertexOf (getD (now (slots .entry)) key NONE) ⌝ }
 {
-    let slot = wide(face::key(cell, face));
+    let slot = wide(key);
     let vertex = slots[slot];
     if vertex == NONE {
         QuadIndex::Nothing
     } else {
         QuadIndex::At(Vertex(vertex))
     }
+}
+
+pub fn get_quad_index(slots: &[u32], face: Face, cell: Cell) -> QuadIndex
+    requires { ⌜ (cell .0 < UNIT) × (keyOf (cell .0) (number face) < length (now slots)) ⌝ }
+    ensures { λ r. ⌜ vertexIn r ≡ vertexOf (getD (now (slots .entry)) (keyOf (cell .0) (number face)) NONE) ⌝ }
+{
+    quad_at(slots, face::key(cell, face))
 }
 
 // The slot of a moved quad names its new place.

@@ -25,7 +25,7 @@ use Rattle.lent.specs.Scenes.{Typed}
 use Rattle.steps.specs.Steps.{Able}
 use Rattle.steps.specs.Rows.{wordsBy, Shaped, Drawn}
 use Rattle.works.specs.declared.Work.{Work}
-use Rattle.works.specs.Sets.{setIn, besideOf, act, deeds, Cubes}
+use Rattle.works.specs.Sets.{setIn, act, deeds, Cubes}
 use Rattle.indexing.specs.Index.{Good}
 use Rattle.indexing.proofs.Sets.{all-deeds}
 
@@ -60,11 +60,8 @@ module _ (S : Scene) (k : Typed S) where
       }
 
   module _ (w : Within (S .size)) (e : Entry) (h : e .cell < cells (S .size)) (v : Work) where
-    abbrev around : List ℕ
-    around = besideOf (S .size) (e .cell)
-
     -- LAW: every deed is on a face of the grid, and its words are as long as a quad's
-    pub deeds-good : All (Good (wordsBy (bare S)) (faces S) (span S)) (deeds around e v)
+    pub deeds-good : All (Good (wordsBy (bare S)) (faces S) (span S)) (deeds (S .size) e v)
     deeds-good = all-deeds (world S) e w h (Good (wordsBy (bare S)) (faces S) (span S)) v (λ j f k l on i. good j f k i)
       where
         good : (j f k : ℕ) → k < 6 * cells (S .size) → Good (wordsBy (bare S)) (faces S) (span S) (act e j f k)
@@ -74,7 +71,7 @@ module _ (S : Scene) (k : Typed S) where
         good (suc (suc (suc j))) f k i = i
 
     -- LAW: what is drawn can be
-    pub deeds-able : Cubes (S .types .kinds) e v → All (Able (Drawn (bare S))) (deeds around e v)
+    pub deeds-able : Cubes (S .types .kinds) e v → All (Able (Drawn (bare S))) (deeds (S .size) e v)
     deeds-able c = all-deeds (world S) e w h (Able (Drawn (bare S))) v able
       where
         able : (j f k : ℕ) → f < 6 → has (setIn v j) f ≡ true → k < 6 * cells (S .size) → Able (Drawn (bare S)) (act e j f k)

@@ -24,13 +24,14 @@ use Rattle.steps.specs.Steps.{Step, Deed, stepsIn, Shelf, shelf, replayed, quad
 use Rattle.steps.proofs.Replaying.{replay-run}
 use Rattle.steps.specs.Rows.{wordsBy, Drawn, Replaying}
 use Rattle.works.specs.declared.Work.{Work}
-use Rattle.works.specs.Sets.{meant, setIn, besideOf, spotsAt, workIn, deeds, Cubes}
+use Rattle.works.specs.Sets.{meant, setIn, keysAround, spotIn, workIn, deeds, Cubes}
+use Rattle.works.proofs.Works.{spot-is}
 use Rattle.works.proofs.Meant.{meant-work, meant-cubes, meant-few, deeds-ops}
-use Rattle.indexing.specs.Index.{Index, indexRun, bookOf, Good, Ready}
+use Rattle.indexing.specs.Index.{Index, indexRun, deedsFor, bookOf, Good, Ready}
 use Rattle.indexing.specs.Room.{isEmpty, quadsNeeded, Gridded}
 use Rattle.indexing.proofs.Sets.{spots-inside}
 use Rattle.indexing.proofs.Booking.{slot-none, run-booked}
-use Rattle.indexing.proofs.Doing.{all-few, ready-run}
+use Rattle.indexing.proofs.Doing.{all-few, ready-run, deeds-told}
 use Rattle.indexing.proofs.Room.{needed-counted}
 use Rattle.update.specs.Runs.{Ended, laidOut, meshIn, courseIn, Holds, Logging}
 use Rattle.update.proofs.Drawing.{bare, deeds-good, deeds-able}
@@ -120,39 +121,41 @@ module _ (tested : Tested) {S : Scene} {room : ℕ} {log vs₀ ls₀ ss₀ : Lis
           let a : length log / 12 - k ≡ suc (length log / 12 - (k + 1)) = omega arith in
           rw (a, lt-leb (needed (works k) m) room over)
 
-      -- ---- the entry's sets, and the cells beside its cell
-      module _ {w : Work} {b : List ℕ} (w-is : w ≡ meant tested (world S) e) (b-is : b ≡ besideOf (S .size) (e .cell)) where
-        is : workIn (world S) b e w ≡ works k
-        is = (λ i. workIn (world S) (b-is i) e (w-is i)) ∙ meant-work (world S) e (g .within) run-inside tested ∙ ap (work tested (world S)) at
+      -- ---- the entry's sets, and the keys around its cell
+      module _ {w : Work} {ks : List ℕ} (w-is : w ≡ meant tested (world S) e) (ks-are : ks ≡ keysAround (S .size) (e .cell)) where
+        is : workIn (world S) e w ≡ works k
+        is = ap (workIn (world S) e) w-is ∙ meant-work (world S) e tested ∙ ap (work tested (world S)) at
+
+        same : deedsFor ks e w ≡ deeds (S .size) e w
+        same = ap (λ (x : List ℕ). deedsFor x e w) ks-are ∙ deeds-told (S .size) e w (g .within) run-inside
 
         pub run-sets : (j : ℕ) → setIn w j < 64
         run-sets j = subst (λ (x : Work). setIn x j < 64) (sym w-is) (meant-few (world S) e tested j)
 
         -- ---- the room test
-        pub run-gridded : Gridded (e .cell) b ss
+        pub run-gridded : Gridded ks ss
         run-gridded =
             let z = length-slots in
             let s = grid-small in
-            let i = run-inside in
+            let n = sym length-slots in
             record {
               small = omega arith;
-              own = omega arith;
-              next = λ f l. let n = sym length-slots in
-                  subst (λ (x : ℕ × List ℕ). All (λ k. k < x .0) (spotsAt (x .1) (e .cell) 1 f)) (λ j. (n j, sym b-is j)) (spots-inside (world S) e (g .within) run-inside 1 f l);
+              all = λ j f l. subst (λ (x : ℕ × List ℕ). All (λ k. k < x .0) (x .1)) (λ i. (n i, sym (ap (λ (x : List ℕ). spotIn x j f) ks-are ∙ spot-is (S .size) (e .cell) (g .within) run-inside j f l) i))
+                  (spots-inside (world S) e (g .within) run-inside j f l);
             }
 
-        pub run-needed : quadsNeeded ss (e .cell) b w q ≡ needed (works k) m
+        pub run-needed : quadsNeeded ss ks w q ≡ needed (works k) m
         run-needed =
-            ap (quadsNeeded ss (e .cell) b w) (r .holds .count) ∙ ap (λ (x : List ℕ). quadsNeeded ss (e .cell) x w (length m)) b-is
-            ∙ needed-counted m (world S) e w ss told (g .within) run-inside (sane .once) ∙ ap (λ (x : List ℕ). needed (workIn (world S) x e w) m) (sym b-is) ∙ ap (λ (x : rule.Work). needed x m) is
+            ap (quadsNeeded ss ks w) (r .holds .count) ∙ ap (λ (x : List ℕ). quadsNeeded ss x w (length m)) ks-are
+            ∙ needed-counted m (world S) e w ss told (g .within) run-inside (sane .once) ∙ ap (λ (x : rule.Work). needed x m) is
 
         -- ---- an entry that finds its room
         module _ (fit : needed (works k) m ≤ room) (xs : List ℕ) (long : length xs ≡ 48) where
           abbrev ds : List Deed
-          ds = deeds b e w
+          ds = deedsFor ks e w
 
-          on-faces : (P : Deed → Type 0) → All P (deeds (besideOf (S .size) (e .cell)) e w) → All P ds
-          on-faces P = subst (λ (x : List ℕ). All P (deeds x e w)) (sym b-is)
+          on-faces : (P : Deed → Type 0) → All P (deeds (S .size) e w) → All P ds
+          on-faces P = subst (All P) (sym same)
 
           good : All (Good (wordsBy (bare S)) (faces S) (span S)) ds
           good = on-faces (Good (wordsBy (bare S)) (faces S) (span S)) (deeds-good S (g .typed) (g .within) e run-inside w)
@@ -163,7 +166,7 @@ module _ (tested : Tested) {S : Scene} {room : ℕ} {log vs₀ ls₀ ss₀ : Lis
               (deeds-able S (g .typed) (g .within) e run-inside w (subst (Cubes (S .types .kinds) e) (sym w-is) (meant-cubes (world S) e tested)))
 
           as-ops : opsOf (quadBy (wordsBy (bare S))) ds ≡ ops (works k)
-          as-ops = deeds-ops (world S) e b w ∙ ap ops is
+          as-ops = ap (opsOf (quadBy (wordsBy (bare S)))) same ∙ deeds-ops (world S) e w ∙ ap ops is
 
           fits-deeds : highest h (opsOf (quadBy (wordsBy (bare S))) ds) m ≤ room
           fits-deeds =
@@ -177,7 +180,8 @@ module _ (tested : Tested) {S : Scene} {room : ℕ} {log vs₀ ls₀ ss₀ : Lis
           run-ready =
               let few = g .few in
               let mv = r .moves in
-              let a = all-few b e w in
+              let a = all-few (S .size) e w in
+              let c = ap length same in
               record {
                 words = wordsBy (bare S);
                 span = span S;

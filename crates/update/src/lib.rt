@@ -23,7 +23,7 @@ use terms::Tested;
 use types::types_verdict;
 use util::inverted;
 use vav::clear;
-use works::cells_beside;
+use works::keys_around;
 use works::work_of;
 ghost use mathlib.Core.Path.{_≡_};
 ghost use Prim.Native.Nat.{_*_, _≤_};
@@ -87,8 +87,8 @@ fn run_log(
     while k < entries {
         let entry = read_entry(log, k);
         let work = work_of(kinds, covers, tested, entry);
-        let beside = cells_beside(scene.dims, inverse, entry.cell);
-        if !has_room(slots, entry.cell, beside, work, quads, task.room) {
+        let keys = keys_around(scene.dims, inverse, entry.cell);
+        if !has_room(slots, &keys, work, quads, task.room) {
             return Ran {
                 end: End::Full(k),
                 count: Count {
@@ -102,7 +102,7 @@ fn run_log(
             links,
             slots,
             &mut steps,
-            beside,
+            &keys,
             entry,
             work,
             Tally {

@@ -19,7 +19,7 @@ use Rattle.rules.proofs.ListLaws.{and-true, each-same, getD-table}
 use Rattle.util.specs.Grid.{Within}
 use Rattle.steps.specs.Steps.{Deed, opOf, opsOf}
 use Rattle.works.specs.declared.Work.{Work}
-use Rattle.works.specs.Sets.{typesBy, sets, noWork, isShown, meantBy, meant, setIn, cellOr, besideOf, facing, spotsBy, asked, act, deedAt, deeds, quadIn, keysIn, quadsIn, workIn, Cubes}
+use Rattle.works.specs.Sets.{typesBy, sets, noWork, isShown, meantBy, meant, setIn, facing, spotsAt, asked, act, deedAt, deeds, quadIn, keysIn, quadsIn, workIn, Cubes}
 
 -- ---- lists made face by face
 pub map-each : {A B : Type 0} (g : A → B) (n i : ℕ) (p : ℕ → List A) → map g (each n i p) ≡ each n i (λ k. map g (p k))
@@ -35,60 +35,32 @@ through g h k e (x ∷ xs) = let a = e x in let b = through g h k e xs in λ i. 
 pub zero-has : (f : ℕ) → has 0 f ≡ false
 zero-has f = rw (zero-div (2 ^ f))
 
-pub idle : (beside : List ℕ) (c set j f : ℕ) → has set f ≡ false → asked beside c set j f ≡ []
-unfolding asked
-idle beside c set j f h = rw h
-
--- a neighbour's facing side, if the grid has the neighbour
-abbrev pub next : ℕ → Option ℕ → List ℕ
-next f none = []
-next f (some n) = keyOf n (opposite f) ∷ []
-
-pub facing-is : (s : Size) (c : ℕ) → Within s → c < cells s → (f : ℕ) → f < 6 → facing f (getD (besideOf s c) f 0) ≡ next f (neighbour s c f)
-facing-is s c w h f l = ap (facing f) (getD-table (λ f. cellOr (neighbour s c f)) 6 f 0 l) ∙ go (neighbour s c f) refl
-  where
-    go : (o : Option ℕ) → neighbour s c f ≡ o → facing f (cellOr o) ≡ next f o
-    go none q = refl
-    go (some n) q =
-        let i = beside s (w .sides .wide) (w .sides .long) c h f n q .inside in
-        let m = w .most in
-        rw (ne-eqb n NONE (λ z. omega arith))
-
-module _ (W : World) (e : Entry) (grid : Within (W .size)) (inside : e .cell < cells (W .size)) where
-  abbrev around : List ℕ
-  around = besideOf (W .size) (e .cell)
-
+module _ (W : World) (e : Entry) where
   abbrev beyond : ℕ → Option ℕ
   beyond f = neighbour (W .size) (e .cell) f
 
-  -- the own side, or the neighbour's facing one
-  abbrev spot : ℕ → ℕ → List ℕ
-  spot zero f = keyOf (e .cell) f ∷ []
-  spot (suc odd) f = next f (beyond f)
-
-  spots-are : (n f : ℕ) → f < 6 → spotsBy n (getD around f 0) (e .cell) f ≡ spot n f
-  spots-are zero f l = refl
-  spots-are (suc n) f l = facing-is (W .size) (e .cell) grid inside f l
+  abbrev spots : ℕ → ℕ → List ℕ
+  spots = spotsAt (W .size) (e .cell)
 
   -- a part, whose set's sides are those of which p holds
   module _ (w : Work) (j : ℕ) (p : ℕ → Bool) (h : setIn w j ≡ setOf p) where
-    asked-is : (f : ℕ) → f < 6 → asked around (e .cell) (setIn w j) j f ≡ cond (p f) (spot (j % 2) f) []
+    asked-is : (f : ℕ) → f < 6 → asked (W .size) (e .cell) (setIn w j) j f ≡ cond (p f) (spots j f) []
     unfolding asked
-    asked-is f l = let b : has (setIn w j) f ≡ p f = ap (λ (n : ℕ). has n f) h ∙ has-setOf p f l in λ i. cond (b i) (spots-are (j % 2) f l i) []
+    asked-is f l = let b : has (setIn w j) f ≡ p f = ap (λ (n : ℕ). has n f) h ∙ has-setOf p f l in λ i. cond (b i) (spots j f) []
 
-    keys-are : keysIn around (e .cell) w j ≡ each 6 0 (λ f. cond (p f) (spot (j % 2) f) [])
-    keys-are = each-same 6 0 (asked around (e .cell) (setIn w j) j) (λ f. cond (p f) (spot (j % 2) f) []) (λ f _ l. asked-is f (omega arith))
+    keys-are : keysIn (W .size) (e .cell) w j ≡ each 6 0 (λ f. cond (p f) (spots j f) [])
+    keys-are = each-same 6 0 (asked (W .size) (e .cell) (setIn w j) j) (λ f. cond (p f) (spots j f) []) (λ f _ l. asked-is f (omega arith))
 
-    quads-are : (t : ℕ → ℕ) → quadsIn W around (e .cell) w j t ≡ each 6 0 (λ f. map (λ k. quadIn W k (t f)) (cond (p f) (spot (j % 2) f) []))
+    quads-are : (t : ℕ → ℕ) → quadsIn W (e .cell) w j t ≡ each 6 0 (λ f. map (λ k. quadIn W k (t f)) (cond (p f) (spots j f) []))
     quads-are t =
-        each-same 6 0 (λ f. map (λ k. quadIn W k (t f)) (asked around (e .cell) (setIn w j) j f)) (λ f. map (λ k. quadIn W k (t f)) (cond (p f) (spot (j % 2) f) []))
+        each-same 6 0 (λ f. map (λ k. quadIn W k (t f)) (asked (W .size) (e .cell) (setIn w j) j f)) (λ f. map (λ k. quadIn W k (t f)) (cond (p f) (spots j f) []))
         (λ f _ l. ap (map (λ k. quadIn W k (t f))) (asked-is f (omega arith)))
 
   one-quad : (b : Bool) (c f t : ℕ) → f < 6 → map (λ k. quadIn W k t) (only b (keyOf c f)) ≡ only b (quadOf W t c f)
   one-quad true c f t h = let a : keyOf c f % 6 ≡ f = omega arith in let b : keyOf c f / 6 ≡ c = omega arith in rw (a, b)
   one-quad false c f t h = refl
 
-  own-quads : (p : ℕ → Bool) (w : Work) → w .drawn ≡ setOf p → quadsIn W around (e .cell) w 2 (λ f. e .type) ≡ quads W (e .type) (e .cell) p
+  own-quads : (p : ℕ → Bool) (w : Work) → w .drawn ≡ setOf p → quadsIn W (e .cell) w 2 (λ f. e .type) ≡ quads W (e .type) (e .cell) p
   own-quads p w h =
       quads-are w 2 p h (λ f. e .type)
       ∙ each-same 6 0 (λ f. map (λ k. quadIn W k (e .type)) (only (p f) (keyOf (e .cell) f))) (λ f. only (p f) (quadOf W (e .type) (e .cell) f))
@@ -97,20 +69,20 @@ module _ (W : World) (e : Entry) (grid : Within (W .size)) (inside : e .cell < c
   abbrev shows : ℕ → Bool
   shows i = covering W (e .type) i && isNormalCube W (givenAt e i)
 
-  shown-quads : each 6 0 (λ i. map (λ k. quadIn W k (givenAt e i)) (cond (shows i) (spot 1 i) [])) ≡ each 6 0 (λ i. reveal W (e .type) (givenAt e i) i (beyond i))
+  shown-quads : each 6 0 (λ i. map (λ k. quadIn W k (givenAt e i)) (cond (shows i) (spots 1 i) [])) ≡ each 6 0 (λ i. reveal W (e .type) (givenAt e i) i (beyond i))
   shown-quads =
-      each-same 6 0 (λ i. map (λ k. quadIn W k (givenAt e i)) (cond (shows i) (spot 1 i) [])) (λ i. reveal W (e .type) (givenAt e i) i (beyond i))
+      each-same 6 0 (λ i. map (λ k. quadIn W k (givenAt e i)) (cond (shows i) (spots 1 i) [])) (λ i. reveal W (e .type) (givenAt e i) i (beyond i))
       (λ i _ l. one i (omega arith) (shows i) refl (beyond i))
     where
-      one : (i : ℕ) → i < 6 → (b : Bool) → shows i ≡ b → (o : Option ℕ) → map (λ k. quadIn W k (givenAt e i)) (cond b (next i o) []) ≡ reveal W (e .type) (givenAt e i) i o
+      one : (i : ℕ) → i < 6 → (b : Bool) → shows i ≡ b → (o : Option ℕ) → map (λ k. quadIn W k (givenAt e i)) (cond b (facing i o) []) ≡ reveal W (e .type) (givenAt e i) i o
       one i l true h none = refl
       one i l false h none = refl
       one i l b h (some n) = one-quad b n (opposite i) (givenAt e i) (opposite-lt i l) ∙ ap (λ (b : Bool). only b (quadOf W (givenAt e i) n (opposite i))) (sym h)
 
-  hidden-keys : (tested : Tested) → each 6 0 (λ f. cond (covering W (e .type) (tested f)) (spot 1 f) []) ≡ each 6 0 (λ i. rule.hide tested W (e .type) i (beyond i))
-  hidden-keys tested = each-same 6 0 (λ f. cond (covering W (e .type) (tested f)) (spot 1 f) []) (λ i. rule.hide tested W (e .type) i (beyond i)) (λ f _ l. one f (covering W (e .type) (tested f)) refl (beyond f))
+  hidden-keys : (tested : Tested) → each 6 0 (λ f. cond (covering W (e .type) (tested f)) (spots 1 f) []) ≡ each 6 0 (λ i. rule.hide tested W (e .type) i (beyond i))
+  hidden-keys tested = each-same 6 0 (λ f. cond (covering W (e .type) (tested f)) (spots 1 f) []) (λ i. rule.hide tested W (e .type) i (beyond i)) (λ f _ l. one f (covering W (e .type) (tested f)) refl (beyond f))
     where
-      one : (i : ℕ) (b : Bool) → covering W (e .type) (tested i) ≡ b → (o : Option ℕ) → cond b (next i o) [] ≡ rule.hide tested W (e .type) i o
+      one : (i : ℕ) (b : Bool) → covering W (e .type) (tested i) ≡ b → (o : Option ℕ) → cond b (facing i o) [] ≡ rule.hide tested W (e .type) i o
       one i true h none = refl
       one i false h none = refl
       one i b h (some n) = ap (λ (b : Bool). only b (keyOf n (opposite i))) (sym h)
@@ -126,26 +98,26 @@ module _ (W : World) (e : Entry) (grid : Within (W .size)) (inside : e .cell < c
   abbrev none-of : ℕ → Bool
   none-of f = false
 
-  no-keys : (w : Work) (j : ℕ) → setIn w j ≡ 0 → keysIn around (e .cell) w j ≡ []
+  no-keys : (w : Work) (j : ℕ) → setIn w j ≡ 0 → keysIn (W .size) (e .cell) w j ≡ []
   unfolding each
   no-keys w j h = keys-are w j none-of h
 
-  no-quads : (w : Work) (j : ℕ) (t : ℕ → ℕ) → setIn w j ≡ 0 → quadsIn W around (e .cell) w j t ≡ []
+  no-quads : (w : Work) (j : ℕ) (t : ℕ → ℕ) → setIn w j ≡ 0 → quadsIn W (e .cell) w j t ≡ []
   unfolding each
   no-quads w j t h = quads-are w j none-of h t
 
-  idle-work : workIn W around e noWork ≡ nothing
+  idle-work : workIn W e noWork ≡ nothing
   unfolding workIn
   idle-work = same-work (no-keys noWork 0 refl) (no-quads noWork 1 (givenAt e) refl) (no-quads noWork 2 (λ f. e .type) refl) (no-keys noWork 3 refl)
 
-  by-change : (tested : Tested) (k : Change) → workIn W around e (meantBy tested W e k) ≡ workBy tested W e k
+  by-change : (tested : Tested) (k : Change) → workIn W e (meantBy tested W e k) ≡ workBy tested W e k
   unfolding workIn
   by-change tested Broken =
       let w = meantBy tested W e Broken in
       same-work (keys-are w 0 all refl) (quads-are w 1 shows refl (givenAt e) ∙ shown-quads) (no-quads w 2 (λ f. e .type) refl) (no-keys w 3 refl)
   by-change tested Added = pick (isNormalCube W (e .type))
     where
-      pick : (b : Bool) → workIn W around e (cond b (sets 63 0 (setOf (isOpen W e)) (setOf (λ i. covering W (e .type) (tested i)))) noWork) ≡ cond b (added tested W e) nothing
+      pick : (b : Bool) → workIn W e (cond b (sets 63 0 (setOf (isOpen W e)) (setOf (λ i. covering W (e .type) (tested i)))) noWork) ≡ cond b (added tested W e) nothing
       pick true =
           let w = sets 63 0 (setOf (isOpen W e)) (setOf (λ i. covering W (e .type) (tested i))) in
           same-own (keys-are w 0 all refl) (own-quads (isOpen W e) w refl) (no-quads w 1 (givenAt e) refl) (keys-are w 3 (λ i. covering W (e .type) (tested i)) refl ∙ hidden-keys tested)
@@ -155,12 +127,12 @@ module _ (W : World) (e : Entry) (grid : Within (W .size)) (inside : e .cell < c
       same-work (keys-are w 0 (withGiven e) refl) (no-quads w 1 (givenAt e) refl) (no-quads w 2 (λ f. e .type) refl) (no-keys w 3 refl)
   by-change tested AddFaces = pick (isNormalCube W (e .type))
     where
-      pick : (b : Bool) → workIn W around e (cond b (sets 0 0 (setOf (withGiven e)) 0) noWork) ≡ cond b (record { own = []; new = quads W (e .type) (e .cell) (withGiven e); facing = [] }) nothing
+      pick : (b : Bool) → workIn W e (cond b (sets 0 0 (setOf (withGiven e)) 0) noWork) ≡ cond b (record { own = []; new = quads W (e .type) (e .cell) (withGiven e); facing = [] }) nothing
       pick true = let w = sets 0 0 (setOf (withGiven e)) 0 in same-own (no-keys w 0 refl) (own-quads (withGiven e) w refl) (no-quads w 1 (givenAt e) refl) (no-keys w 3 refl)
       pick false = idle-work
 
   -- LAW: the sets of an entry are the rule's work
-  pub meant-work : (tested : Tested) → workIn W around e (meant tested W e) ≡ work tested W e
+  pub meant-work : (tested : Tested) → workIn W e (meant tested W e) ≡ work tested W e
   meant-work tested = by-change tested (e .change)
 
 module _ (W : World) (e : Entry) where
@@ -216,31 +188,31 @@ module _ (W : World) (e : Entry) where
       go AddFaces = one _ (isNormalCube W (e .type)) (four (omega arith) (omega arith) (setOf-lt (withGiven e)) (omega arith) j)
 
 -- ---- the deeds
-module _ (W : World) (e : Entry) (around : List ℕ) (w : Work) where
+module _ (W : World) (e : Entry) (w : Work) where
   abbrev keys : ℕ → ℕ → List ℕ
-  keys j f = asked around (e .cell) (setIn w j) j f
+  keys j f = asked (W .size) (e .cell) (setIn w j) j f
 
   abbrev op : Deed → Op
   op = opOf (quadIn W)
 
-  part-cuts : (j : ℕ) → ((f k : ℕ) → op (act e j f k) ≡ cut k) → map op (each 6 0 (deedAt around e (setIn w j) j)) ≡ cuts (keysIn around (e .cell) w j)
+  part-cuts : (j : ℕ) → ((f k : ℕ) → op (act e j f k) ≡ cut k) → map op (each 6 0 (deedAt (W .size) e (setIn w j) j)) ≡ cuts (keysIn (W .size) (e .cell) w j)
   part-cuts j h =
-      map-each op 6 0 (deedAt around e (setIn w j) j)
-      ∙ each-same 6 0 (λ f. map op (deedAt around e (setIn w j) j f)) (λ f. map cut (keys j f)) (λ f a b. through op (act e j f) cut (h f) (keys j f))
+      map-each op 6 0 (deedAt (W .size) e (setIn w j) j)
+      ∙ each-same 6 0 (λ f. map op (deedAt (W .size) e (setIn w j) j f)) (λ f. map cut (keys j f)) (λ f a b. through op (act e j f) cut (h f) (keys j f))
       ∙ sym (map-each cut 6 0 (keys j))
 
-  part-puts : (j : ℕ) (t : ℕ → ℕ) → ((f k : ℕ) → op (act e j f k) ≡ put (quadIn W k (t f))) → map op (each 6 0 (deedAt around e (setIn w j) j)) ≡ puts (quadsIn W around (e .cell) w j t)
+  part-puts : (j : ℕ) (t : ℕ → ℕ) → ((f k : ℕ) → op (act e j f k) ≡ put (quadIn W k (t f))) → map op (each 6 0 (deedAt (W .size) e (setIn w j) j)) ≡ puts (quadsIn W (e .cell) w j t)
   part-puts j t h =
-      map-each op 6 0 (deedAt around e (setIn w j) j)
-      ∙ each-same 6 0 (λ f. map op (deedAt around e (setIn w j) j f)) (λ f. map put (map (λ k. quadIn W k (t f)) (keys j f)))
+      map-each op 6 0 (deedAt (W .size) e (setIn w j) j)
+      ∙ each-same 6 0 (λ f. map op (deedAt (W .size) e (setIn w j) j f)) (λ f. map put (map (λ k. quadIn W k (t f)) (keys j f)))
       (λ f a b. through op (act e j f) (λ k. put (quadIn W k (t f))) (h f) (keys j f) ∙ sym (through put (λ k. quadIn W k (t f)) (λ k. put (quadIn W k (t f))) (λ k. refl) (keys j f)))
       ∙ sym (map-each put 6 0 (λ f. map (λ k. quadIn W k (t f)) (keys j f)))
 
   -- LAW: the deeds are the operations of the work
-  pub deeds-ops : opsOf (quadIn W) (deeds around e w) ≡ ops (workIn W around e w)
+  pub deeds-ops : opsOf (quadIn W) (deeds (W .size) e w) ≡ ops (workIn W e w)
   unfolding ops workIn each
   deeds-ops =
-      let d : ℕ → List Deed = λ j. each 6 0 (deedAt around e (setIn w j) j) in
+      let d : ℕ → List Deed = λ j. each 6 0 (deedAt (W .size) e (setIn w j) j) in
       let own = part-cuts 0 (λ f k. refl) in
       let shown = part-puts 1 (givenAt e) (λ f k. refl) in
       let drawn = part-puts 2 (λ f. e .type) (λ f k. refl) in
@@ -248,6 +220,6 @@ module _ (W : World) (e : Entry) (around : List ℕ) (w : Work) where
       map-append op (d 0) (d 1 ++ (d 2 ++ (d 3 ++ [])))
       ∙ ap (λ (r : List Op). map op (d 0) ++ r) (map-append op (d 1) (d 2 ++ (d 3 ++ [])) ∙ ap (λ (r : List Op). map op (d 1) ++ r) (map-append op (d 2) (d 3 ++ []) ∙ ap (λ (r : List Deed). map op (d 2) ++ map op r) (append-nil (d 3))))
       ∙ (λ i. own i ++ (shown i ++ (drawn i ++ hidden i)))
-      ∙ ap (λ (r : List Op). cuts (keysIn around (e .cell) w 0) ++ r)
-      (sym (append-assoc (puts (quadsIn W around (e .cell) w 1 (givenAt e))) (puts (quadsIn W around (e .cell) w 2 (λ f. e .type))) (cuts (keysIn around (e .cell) w 3)))
-      ∙ ap (λ (r : List Op). r ++ cuts (keysIn around (e .cell) w 3)) (sym (map-append put (quadsIn W around (e .cell) w 1 (givenAt e)) (quadsIn W around (e .cell) w 2 (λ f. e .type)))))
+      ∙ ap (λ (r : List Op). cuts (keysIn (W .size) (e .cell) w 0) ++ r)
+      (sym (append-assoc (puts (quadsIn W (e .cell) w 1 (givenAt e))) (puts (quadsIn W (e .cell) w 2 (λ f. e .type))) (cuts (keysIn (W .size) (e .cell) w 3)))
+      ∙ ap (λ (r : List Op). r ++ cuts (keysIn (W .size) (e .cell) w 3)) (sym (map-append put (quadsIn W (e .cell) w 1 (givenAt e)) (quadsIn W (e .cell) w 2 (λ f. e .type)))))

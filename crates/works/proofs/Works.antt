@@ -2,20 +2,23 @@
 use mathlib.Core.Path.{_≡_, refl, sym, ap, _∙_}
 use mathlib.Core.Bool.{Bool, true, false, cond, not}
 use mathlib.Core.List.{[], _∷_}
+use mathlib.Core.Option.{Option, none, some}
 use Prim.Native.Nat.{ℕ, zero, suc, _+_, _-_, _*_, _%_, _<_}
 use native.Mathlib.Omega.{arith}
 use lib.Dec.{eqb}
 use lib.ListN.{getD}
-use Rattle.rules.specs.Cells.{opposite, keyOf, has}
+use Rattle.rules.specs.Lists.{each}
+use Rattle.rules.specs.Cells.{Size, cells, opposite, neighbour, keyOf, has}
 use Rattle.rules.specs.Mesh.{World, NONE}
 use Rattle.rules.specs.Update.{Entry, givenAt, outside, isOpen}
-use Rattle.rules.proofs.ListLaws.{split}
-use Rattle.steps.specs.Steps.{CUT, show, hide}
-use borrow.Author.Tests.{lt-ltb, eq-eqb, ne-eqb}
+use Rattle.rules.proofs.ListLaws.{split, getD-table}
+use Rattle.rules.proofs.Neighbours.{beside, opposite-lt}
+use Rattle.util.specs.Grid.{Within}
+use borrow.Author.Tests.{ne-eqb}
 use Rattle.entries.specs.Log.{neighbourOf}
 use Rattle.entries.specs.declared.Neighbour.the-variants.{Outside, Voxel}
 use Rattle.works.specs.declared.Work.{Work}
-use Rattle.works.specs.Sets.{setIn, act, deedBy, facing, spotsBy}
+use Rattle.works.specs.Sets.{setIn, facing, act, cutting, typeAt, deedBy, keyOr, keysAround, spot, spotIn, spotsBy, spotsAt}
 
 -- ---- types and neighbours
 given-outside : (g : ℕ) → neighbourOf g ≡ Outside → outside g ≡ true
@@ -40,32 +43,40 @@ last-set w (suc zero) a b c = absurd (b refl)
 last-set w (suc (suc zero)) a b c = absurd (c refl)
 last-set w (suc (suc (suc p))) a b c = refl
 
--- ---- marks
-pub shows : (e : Entry) (p f t : ℕ) {r q : ℕ} → ((k : ℕ) → act e q f k ≡ show k t) → p ≡ q → r ≡ t → r < CUT → (k : ℕ) → deedBy k r ≡ act e p f k
-shows e p f t {r} h a b l k = rw (lt-ltb r CUT l) (ap (show k) b ∙ sym (h k) ∙ sym (ap (λ (j : ℕ). act e j f k) a))
+-- ---- what a part does
+pub does : (e : Entry) (p f k : ℕ) → deedBy (cutting p) (typeAt e p f) k ≡ act e p f k
+does e zero f k = refl
+does e (suc zero) f k = refl
+does e (suc (suc zero)) f k = refl
+does e (suc (suc (suc p))) f k = rw (ne-eqb (suc (suc (suc p))) 1 (λ z. omega arith), ne-eqb (suc (suc (suc p))) 2 (λ z. omega arith))
 
-pub cuts-else : (e : Entry) (p f : ℕ) → (p ≡ 1 → ⊥) → (p ≡ 2 → ⊥) → (k : ℕ) → hide k ≡ act e p f k
-cuts-else e zero f a b k = refl
-cuts-else e (suc zero) f a b k = absurd (a refl)
-cuts-else e (suc (suc zero)) f a b k = absurd (b refl)
-cuts-else e (suc (suc (suc p))) f a b k = refl
+-- LAW: the faces that the code finds are the part's
+pub spot-is : (s : Size) (c : ℕ) → Within s → c < cells s → (p f : ℕ) → f < 6 → spotIn (keysAround s c) p f ≡ spotsAt s c p f
+unfolding each
+spot-is s c w h p f l = by (p % 2) (omega arith)
+  where
+    some-spot : (k : ℕ) → k < 6 * cells s → spot k ≡ k ∷ []
+    some-spot k b = let m = w .most in rw (ne-eqb k NONE (λ z. omega arith))
 
--- ---- the cells beside a cell
-pub opposite-sum : (n : ℕ) → n < 6 → n + 1 - 2 * (n % 2) ≡ opposite n
-opposite-sum zero h = refl
-opposite-sum (suc zero) h = refl
-opposite-sum (suc (suc zero)) h = refl
-opposite-sum (suc (suc (suc zero))) h = refl
-opposite-sum (suc (suc (suc (suc zero)))) h = refl
-opposite-sum (suc (suc (suc (suc (suc zero))))) h = refl
-opposite-sum (suc (suc (suc (suc (suc (suc n)))))) h = absurd (omega arith)
+    own : (f : ℕ) → f < 6 → spot (getD (keysAround s c) f 0) ≡ keyOf c f ∷ []
+    own zero b = some-spot (keyOf c 0) (omega arith)
+    own (suc zero) b = some-spot (keyOf c 1) (omega arith)
+    own (suc (suc zero)) b = some-spot (keyOf c 2) (omega arith)
+    own (suc (suc (suc zero))) b = some-spot (keyOf c 3) (omega arith)
+    own (suc (suc (suc (suc zero)))) b = some-spot (keyOf c 4) (omega arith)
+    own (suc (suc (suc (suc (suc zero))))) b = some-spot (keyOf c 5) (omega arith)
+    own (suc (suc (suc (suc (suc (suc f)))))) b = absurd (omega arith)
 
-pub facing-none : (f n : ℕ) → n ≡ NONE → [] ≡ facing f n
-facing-none f n e = rw (eq-eqb n NONE e)
+    near : (o : Option ℕ) → neighbour s c f ≡ o → spot (keyOr f o) ≡ facing f o
+    near none q = refl
+    near (some n) q =
+        let i = beside s (w .sides .wide) (w .sides .long) c h f n q .inside in
+        let b = opposite-lt f l in
+        some-spot (keyOf n (opposite f)) (omega arith)
 
-pub facing-some : (f n : ℕ) → (n ≡ NONE → ⊥) → {g : ℕ} → g ≡ opposite f → keyOf n g ∷ [] ≡ facing f n
-facing-some f n d e = rw (ne-eqb n NONE d, e)
-
-pub odd-spots : (p : ℕ) → (p ≡ 0 → ⊥) → (n c f : ℕ) → spotsBy p n c f ≡ facing f n
-odd-spots zero d n c f = absurd (d refl)
-odd-spots (suc p) d n c f = refl
+    by : (odd : ℕ) → odd < 2 → spot (getD (keysAround s c) (6 * odd + f) 0) ≡ spotsBy s c odd f
+    by zero h = let e : 6 * 0 + f ≡ f = omega arith in ap (λ (n : ℕ). spot (getD (keysAround s c) n 0)) e ∙ own f l
+    by (suc zero) h =
+        let e : 6 * 1 + f ≡ suc (suc (suc (suc (suc (suc f))))) = omega arith in
+        ap (λ (n : ℕ). spot (getD (keysAround s c) n 0)) e ∙ ap spot (getD-table (λ f. keyOr f (neighbour s c f)) 6 f 0 l) ∙ near (neighbour s c f) refl
+    by (suc (suc odd)) h = absurd (omega arith)

@@ -1,21 +1,18 @@
 -- What an entry means, as four side sets, and face by face. Definitions only.
-use Prim.Native.Nat.{ℕ, zero, suc, _/_, _%_, _<_}
+use Prim.Native.Nat.{ℕ, zero, suc, _+_, _*_, _/_, _%_, _<_}
 use mathlib.Core.Path.{_≡_}
-use mathlib.Core.Bool.{Bool, true, cond, _&&_}
+use mathlib.Core.Bool.{Bool, true, cond, not, _&&_}
 use mathlib.Core.List.{List, [], _∷_, _++_, map}
 use mathlib.Core.Option.{Option, none, some}
 use lib.ListN.{getD}
-use lib.Dec.{eqb, ltb}
+use lib.Dec.{eqb}
 use Rattle.rules.specs.Lists.{each, table}
 use Rattle.rules.specs.Cells.{Size, opposite, neighbour, keyOf, has, setOf}
 use Rattle.rules.specs.Mesh.{Quad, World, NONE, isNormalCube, covering}
 use Rattle.rules.specs.Update as rule
 use Rattle.rules.specs.Update.{Entry, Change, Broken, Added, CullFaces, AddFaces, Tested, givenAt, withGiven, isOpen}
-use Rattle.face.specs.Face.{number}
-use Rattle.steps.specs.Steps.{Deed, show, hide, CUT, quadBy}
+use Rattle.steps.specs.Steps.{Deed, show, hide, quadBy}
 use Rattle.works.specs.declared.Work.{Work}
-use Rattle.works.specs.declared.Spot.{Spot}
-use Rattle.works.specs.declared.Spot.the-variants.{At, Nothing}
 
 -- the types alone
 abbrev pub typesBy : List ℕ → List ℕ → World
@@ -48,25 +45,18 @@ setIn w (suc zero) = w .shown
 setIn w (suc (suc zero)) = w .drawn
 setIn w (suc (suc (suc p))) = w .hidden
 
--- the cells beside a cell, NONE where the grid has none
-abbrev pub cellOr : Option ℕ → ℕ
-cellOr none = NONE
-cellOr (some n) = n
+-- a neighbour's facing side, if the grid has the neighbour
+abbrev pub facing : ℕ → Option ℕ → List ℕ
+facing f none = []
+facing f (some n) = keyOf n (opposite f) ∷ []
 
-abbrev pub besideOf : Size → ℕ → List ℕ
-besideOf s c = table 6 (λ f. cellOr (neighbour s c f))
+-- the own side, or the neighbour's facing one
+abbrev pub spotsBy : Size → ℕ → ℕ → ℕ → List ℕ
+spotsBy s c zero f = keyOf c f ∷ []
+spotsBy s c (suc odd) f = facing f (neighbour s c f)
 
--- a neighbour's facing side
-abbrev pub facing : ℕ → ℕ → List ℕ
-facing f n = cond (eqb n NONE) [] (keyOf n (opposite f) ∷ [])
-
--- the own side, or the facing one of the neighbour n
-abbrev pub spotsBy : ℕ → ℕ → ℕ → ℕ → List ℕ
-spotsBy zero n c f = keyOf c f ∷ []
-spotsBy (suc odd) n c f = facing f n
-
-abbrev pub spotsAt : List ℕ → ℕ → ℕ → ℕ → List ℕ
-spotsAt beside c part f = spotsBy (part % 2) (getD beside f 0) c f
+abbrev pub spotsAt : Size → ℕ → ℕ → ℕ → List ℕ
+spotsAt s c part f = spotsBy s c (part % 2) f
 
 abbrev pub act : Entry → ℕ → ℕ → ℕ → Deed
 act e zero f k = hide k
@@ -75,31 +65,31 @@ act e (suc (suc zero)) f k = show k (e .type)
 act e (suc (suc (suc p))) f k = hide k
 
 -- the faces of a part with its set at face f: one, or none
-unfoldable pub asked : List ℕ → ℕ → ℕ → ℕ → ℕ → List ℕ
-asked beside c set part f = cond (has set f) (spotsAt beside c part f) []
+unfoldable pub asked : Size → ℕ → ℕ → ℕ → ℕ → List ℕ
+asked s c set part f = cond (has set f) (spotsAt s c part f) []
 
-abbrev pub deedAt : List ℕ → Entry → ℕ → ℕ → ℕ → List Deed
-deedAt beside e set part f = map (act e part f) (asked beside (e .cell) set part f)
+abbrev pub deedAt : Size → Entry → ℕ → ℕ → ℕ → List Deed
+deedAt s e set part f = map (act e part f) (asked s (e .cell) set part f)
 
-abbrev pub deeds : List ℕ → Entry → Work → List Deed
-deeds beside e w = each 4 0 (λ j. each 6 0 (deedAt beside e (setIn w j) j))
+abbrev pub deeds : Size → Entry → Work → List Deed
+deeds s e w = each 4 0 (λ j. each 6 0 (deedAt s e (setIn w j) j))
 
 -- ---- as the rule's work
 abbrev pub quadIn : World → ℕ → ℕ → Quad
 quadIn W = quadBy (λ k t. W .wordsOf t (k % 6) (k / 6))
 
-abbrev pub keysIn : List ℕ → ℕ → Work → ℕ → List ℕ
-keysIn beside c w part = each 6 0 (asked beside c (setIn w part) part)
+abbrev pub keysIn : Size → ℕ → Work → ℕ → List ℕ
+keysIn s c w part = each 6 0 (asked s c (setIn w part) part)
 
-abbrev pub quadsIn : World → List ℕ → ℕ → Work → ℕ → (ℕ → ℕ) → List Quad
-quadsIn W beside c w part type = each 6 0 (λ f. map (λ k. quadIn W k (type f)) (asked beside c (setIn w part) part f))
+abbrev pub quadsIn : World → ℕ → Work → ℕ → (ℕ → ℕ) → List Quad
+quadsIn W c w part type = each 6 0 (λ f. map (λ k. quadIn W k (type f)) (asked (W .size) c (setIn w part) part f))
 
-unfoldable pub workIn : World → List ℕ → Entry → Work → rule.Work
-workIn W beside e w =
+unfoldable pub workIn : World → Entry → Work → rule.Work
+workIn W e w =
     record {
-      own = keysIn beside (e .cell) w 0;
-      new = quadsIn W beside (e .cell) w 1 (givenAt e) ++ quadsIn W beside (e .cell) w 2 (λ f. e .type);
-      facing = keysIn beside (e .cell) w 3;
+      own = keysIn (W .size) (e .cell) w 0;
+      new = quadsIn W (e .cell) w 1 (givenAt e) ++ quadsIn W (e .cell) w 2 (λ f. e .type);
+      facing = keysIn (W .size) (e .cell) w 3;
     }
 
 -- what is drawn is of NormalCubes
@@ -107,11 +97,27 @@ pub record Cubes (kinds : List ℕ) (e : Entry) (w : Work) : Type 0 where
   pub shown : (i : ℕ) → i < 6 → has (w .shown) i ≡ true → eqb (getD kinds (givenAt e i) 0) 1 ≡ true
   pub drawn : (i : ℕ) → i < 6 → has (w .drawn) i ≡ true → eqb (getD kinds (e .type) 0) 1 ≡ true
 
--- ---- what the code tells of the faces
-abbrev pub spotIn : Spot → List ℕ
-spotIn Nothing = []
-spotIn (At cell face) = keyOf (cell .0) (number face) ∷ []
+-- ---- the same, as the code has it: the keys of the own sides, then of the facing ones, NONE where the grid has none
+abbrev pub keyOr : ℕ → Option ℕ → ℕ
+keyOr f none = NONE
+keyOr f (some n) = keyOf n (opposite f)
 
--- a key with a type's code, or with CUT
-abbrev pub deedBy : ℕ → ℕ → Deed
-deedBy k mark = cond (ltb mark CUT) (show k mark) (hide k)
+abbrev pub keysAround : Size → ℕ → List ℕ
+keysAround s c = keyOf c 0 ∷ keyOf c 1 ∷ keyOf c 2 ∷ keyOf c 3 ∷ keyOf c 4 ∷ keyOf c 5 ∷ table 6 (λ f. keyOr f (neighbour s c f))
+
+-- a face of the grid, or none
+abbrev pub spot : ℕ → List ℕ
+spot k = cond (eqb k NONE) [] (k ∷ [])
+
+abbrev pub spotIn : List ℕ → ℕ → ℕ → List ℕ
+spotIn keys part f = spot (getD keys (6 * (part % 2) + f) 0)
+
+-- what is done there
+abbrev pub cutting : ℕ → Bool
+cutting part = not (eqb part 1) && not (eqb part 2)
+
+abbrev pub typeAt : Entry → ℕ → ℕ → ℕ
+typeAt e part f = cond (eqb part 1) (givenAt e f) (e .type)
+
+abbrev pub deedBy : Bool → ℕ → ℕ → Deed
+deedBy cuts t k = cond cuts (hide k) (show k t)

@@ -5,10 +5,9 @@ use entries::VoxelChange;
 use face::Cell;
 use face::Face;
 use face::NONE;
-use face::face_at;
 use face::has;
+use face::key;
 use face::side_set;
-use steps::CUT;
 use terms::Tested;
 use util::Coordinates;
 use util::Dimensions;
@@ -19,7 +18,7 @@ use util::neighbor_at;
 ghost use mathlib.Core.Path.{_≡_};
 ghost use mathlib.Core.Bool.{cond};
 ghost use mathlib.Core.List.{[]};
-ghost use Prim.Native.Nat.{ℕ, _%_, _<_};
+ghost use Prim.Native.Nat.{_<_};
 ghost use lib.ListN.{getD};
 ghost use Rattle.rules.specs.Cells as rule;
 ghost use Rattle.rules.specs.Cells.{cells, coordinates, neighbour, setOf};
@@ -28,7 +27,7 @@ ghost use Rattle.face.specs.Face.{number};
 ghost use Rattle.util.specs.Grid.{sizeOf, tripleOf, Within, Inverts};
 ghost use Rattle.entries.specs.Log.{entryIn};
 ghost use Rattle.terms.specs.Modes.{testedBy};
-ghost use Rattle.works.specs.Sets.{typesBy, isShown, noWork, meant, setIn, cellOr, besideOf, spotIn, spotsBy, deedBy, act};
+ghost use Rattle.works.specs.Sets.{typesBy, isShown, noWork, meant, setIn, keyOr, keysAround, cutting, typeAt};
 
 // All six sides.
 const ALL_SIDES: u8 = 63;
@@ -39,12 +38,6 @@ pub struct Work {
     pub shown: u8,
     pub drawn: u8,
     pub hidden: u8,
-}
-
-// A face of a cell of the grid, or none.
-pub enum Spot {
-    At(Cell, Face),
-    Nothing,
 }
 
 // What a table has for a code; 0 for one that is no type's, which is of no NormalCube and covers nothing.
@@ -212,60 +205,53 @@ impl Work {
     }
 }
 
-fn cell_beside(dims: Dimensions, cell: Cell, at: Coordinates, face: Face) -> u32
+// The key of the neighbour's facing side, NONE where the grid has none.
+fn facing_key(dims: Dimensions, cell: Cell, at: Coordinates, face: Face) -> u32
     requires { ⌜ Within (sizeOf dims) × (cell .0 < cells (sizeOf dims)) × (tripleOf at ≡ coordinates (sizeOf dims) (cell .0)) ⌝ }
-    ensures { λ r. ⌜ r ≡ cellOr (neighbour (sizeOf dims) (cell .0) (number face)) ⌝ }
+    ensures { λ r. ⌜ r ≡ keyOr (number face) (neighbour (sizeOf dims) (cell .0) (number face)) ⌝ }
 {
     match neighbor_at(cell, at.x, at.y, at.z, face, dims) {
-        Neighbor::At(next) => next.0,
+        Neighbor::At(next) => key(next, face.opposite()),
         Neighbor::Nothing => NONE,
     }
 }
 
-// The cells beside a cell, face by face; NONE where the grid has none.
-pub fn cells_beside(dims: Dimensions, inverse: Inverse, cell: Cell) -> [u32; 6]
+// The keys of a cell's sides, then of the sides facing them.
+pub fn keys_around(dims: Dimensions, inverse: Inverse, cell: Cell) -> [u32; 12]
     requires { ⌜ Within (sizeOf dims) × (cell .0 < cells (sizeOf dims)) × Inverts (sizeOf dims) inverse ⌝ }
-    ensures { λ r. ⌜ r ≡ besideOf (sizeOf dims) (cell .0) ⌝ }
+    ensures { λ r. ⌜ r ≡ keysAround (sizeOf dims) (cell .0) ⌝ }
 {
     let at = cords_of(cell, dims, inverse);
+    let first = 6 * cell.0;
     [
-        cell_beside(dims, cell, at, Face::Top),
-        cell_beside(dims, cell, at, Face::Bottom),
-        cell_beside(dims, cell, at, Face::Right),
-        cell_beside(dims, cell, at, Face::Left),
-        cell_beside(dims, cell, at, Face::Back),
-        cell_beside(dims, cell, at, Face::Forward),
+        first,
+        first + 1,
+        first + 2,
+        first + 3,
+        first + 4,
+        first + 5,
+        facing_key(dims, cell, at, Face::Top),
+        facing_key(dims, cell, at, Face::Bottom),
+        facing_key(dims, cell, at, Face::Right),
+        facing_key(dims, cell, at, Face::Left),
+        facing_key(dims, cell, at, Face::Back),
+        facing_key(dims, cell, at, Face::Forward),
     ]
 }
 
-// The opposite face, by a sum: `opposite` tells six faces apart by branches, which are guessed wrong where the face is not known beforehand.
-fn facing(face: Face) -> Face
-    ensures { λ r. ⌜ number r ≡ rule.opposite (number face) ⌝ }
+// Whether part `part` cuts.
+pub fn does_cut(part: u32) -> bool
+    ensures { λ r. ⌜ r ≡ cutting part ⌝ }
 {
-    let n = face.number();
-    face_at(n + 1 - 2 * (n % 2))
+    (part != 1) & (part != 2)
 }
 
-// The face that part `part` is about at a face of a cell: its own, or the facing one of the neighbour, if the grid has it.
-pub fn spot_at(cell: Cell, next: u32, part: u32, face: Face) -> Spot
-    ensures { λ r. ⌜ spotIn r ≡ spotsBy (part % 2) next (cell .0) (number face) ⌝ }
+// The type that part `part` draws at a face.
+pub fn type_of(entry: Entry, part: u32, face: Face) -> u8
+    ensures { λ r. ⌜ r ≡ typeAt (entryIn entry) part (number face) ⌝ }
 {
-    if part % 2 == 0 {
-        return Spot::At(cell, face);
+    if part == 1 {
+        return given(entry, face);
     }
-    if next == NONE {
-        return Spot::Nothing;
-    }
-    Spot::At(Cell(next), facing(face))
-}
-
-// What part `part` does there: the type that it draws, or CUT.
-pub fn mark_of(entry: Entry, part: u32, face: Face) -> u32
-    ensures { λ r. ⌜ ((k : ℕ) → deedBy k r ≡ act (entryIn entry) part (number face) k) ⌝ }
-{
-    match part {
-        1 => given(entry, face) as u32,
-        2 => entry.voxel as u32,
-        _ => CUT,
-    }
+    entry.voxel
 }

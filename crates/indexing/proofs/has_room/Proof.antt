@@ -15,7 +15,7 @@ unfolding quadsNeeded
 returns c =
     let a = c .before .before .args in
     let far = c .if1 .taken in
-    sym (le-leb (quadsNeeded (a .slots .now) (a .cell .0) (a .beside) (a .work) (a .count)) (a .room) (omega (arith, grown-few (a .slots .now) (a .cell .0) (a .beside) (a .work))))
+    sym (le-leb (quadsNeeded (a .slots .now) (a .keys .now) (a .work) (a .count)) (a .room) (omega (arith, grown-few (a .slots .now) (a .keys .now) (a .work))))
 
 returns-2 : tie.Need-returns-2
 unfolding quadsNeeded total
