@@ -70,6 +70,18 @@ fn copy_down(list: &mut [u32], n: usize, from: usize, to: usize, rows: usize)
     }
 }
 
+// The same; where it is one row, as most often, the compiler knows how many words there are for each n that it knows.
+fn copy_rows(list: &mut [u32], n: usize, from: usize, to: usize, rows: usize)
+    requires { ⌜ (n * to ≤ n * from) × (n * from + n * rows ≤ length (now list)) ⌝ }
+    ensures { λ _. ⌜ now (list .exit) ≡ put (n * to) (part (n * from) (n * rows) (now (list .entry))) (now (list .entry)) ⌝ }
+{
+    if rows == 1 {
+        copy_down(list, n, from, to, 1);
+        return;
+    }
+    copy_down(list, n, from, to, rows);
+}
+
 // With `count` rows, of which q is removed: the first of those that move.
 pub fn source(q: usize, count: usize) -> usize
     requires { ⌜ q < count ⌝ }
@@ -91,6 +103,6 @@ pub fn free_row(list: &mut [u32], n: usize, q: usize, count: usize)
     ensures { λ _. ⌜ now (list .exit) ≡ freed n q count (now (list .entry)) ⌝ }
 {
     let from = source(q, count);
-    copy_down(list, n, from, q, count - from);
+    copy_rows(list, n, from, q, count - from);
     clear(list, n, count - 1);
 }

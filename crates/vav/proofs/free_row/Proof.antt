@@ -8,12 +8,12 @@ use borrow.Author.Needs.{needs}
 use Rattle.vav.proofs.free_row.Statement.{statement}
 use Rattle.vav.proofs.free_row.Tie as tie
 
-sub-copy-down : tie.Need-sub-copy-down
-sub-copy-down c =
+sub-copy-rows : tie.Need-sub-copy-rows
+sub-copy-rows c =
     let t = c .before .before .before in omega (arith, source-bounds (t .args .q) (t .args .count) (t .pre .0))
 
-copy-down-requires : tie.Need-copy-down-requires
-copy-down-requires c κs =
+copy-rows-requires : tie.Need-copy-rows-requires
+copy-rows-requires c κs =
     let t = c .before .before .before in
     let s = spans (t .args .n) (t .args .q) (t .args .count) (c .before .source .result) (t .pre .0) (c .before .source .ensures) in
     (omega arith, omega arith)
@@ -22,7 +22,7 @@ clear-requires : tie.Need-clear-requires
 clear-requires c κs =
     let t = c .before .before .before .before .before .before .before in
     let s = spans (t .args .n) (t .args .q) (t .args .count) (sourceOf (t .args .q) (t .args .count)) (t .pre .0) refl in
-    let l = c .before .before .before .copy-down .kept .0 in
+    let l = c .before .before .before .copy-rows .kept .0 in
     omega arith
 
 returns : tie.Need-returns
@@ -33,10 +33,10 @@ returns c =
     let v = a .list .now in
     c .before .before .clear .ensures
     ∙ ap (put (a .n * (a .count - 1)) (zeros (a .n)))
-    (c .before .before .before .before .before .before .copy-down .ensures
+    (c .before .before .before .before .before .before .copy-rows .ensures
     ∙ ap (λ (k : ℕ). put (a .n * a .q) (part (a .n * k) (a .n * (a .count - k)) v) v) (g .before .source .ensures))
 
 pub free-row-spec : {M : Type 1} → statement M
 free-row-spec =
     tie.close
-    (tie.spec (λ c κs. search needs) sub-copy-down copy-down-requires (λ c. search needs) clear-requires (λ c. search needs) returns)
+    (tie.spec (λ c κs. search needs) sub-copy-rows copy-rows-requires (λ c. search needs) clear-requires (λ c. search needs) returns)
