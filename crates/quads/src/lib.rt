@@ -89,7 +89,7 @@ fn copy_four(out: &mut [u32], cube: &[u32], floats: usize, vertex: usize, k: usi
 }
 
 // The fourth word of a vertex is the first that is not moved. The compiler can't tell that y is low, so any of the four may be moved or stay for all that it
-// knows: it works them out alike, and writes them at once.
+// knows: it works them out alike, and writes them at once. They count from 1, since to it a comparison with 0 is not like the others.
 fn first_to_stay(y: u32) -> u32
     requires { ⌜ y ≤ 1024 ⌝ }
     ensures { λ r. ⌜ r ≡ 4 ⌝ }
