@@ -423,7 +423,7 @@ returns-3 c =
     let m = isCulling (s .args .algorithm) in
     let fit : length (freshMesh S u g m) ≤ room S (lists s) = omega (arith, fits (c .before .before .before .before .before .before .before .before .before .before .before .before .before), quads-are q) in
     let x = quads-are q in
-    let y = drawn-all S u g m _ _ (by q .before .is-culling .ensures) (outer-is q) (lists s) (l .inv .0) (c .loop-test .left) x (l .inv .2) (bare-slots w)
+    let y = drawn-all S u g m _ _ (by q .before .is-culling .ensures) (outer-is q) (lists s) (l .inv .0) (omega (arith, c .loop-test .left)) x (l .inv .2) (bare-slots w)
     (c .before .before .before .before .before .write-patterns .ensures) in
     (λ i. record { answer = answered (x i) 0; lists = y i }) ∙ sym (done S u g m (lists s) (passed (typed (counting q))) fit)
 

@@ -1,7 +1,8 @@
 -- `quads::write_head` meets its contract: of its four words the last stays. Assumes nothing.
+use mathlib.Core.Path.{sym, subst}
 use native.Mathlib.Omega.{arith}
+use lib.Dec.{T}
 use borrow.Author.Needs.{needs}
-use borrow.Author.Tests.{ltb-true}
 use Rattle.quads.specs.Quads.{vertexWord}
 use Rattle.quads.proofs.Writing.{finite-x, finite-y, finite-z}
 use Rattle.quads.proofs.write_head.Statement.{statement}
@@ -28,7 +29,7 @@ moved-if-requires-3 c κs =
 moved-if-requires-4 : tie.Need-moved-if-requires-4
 moved-if-requires-4 c κs =
     let stays = c .before .before .before .before .before .before .before .first-to-stay in
-    (λ m. absurd (omega (arith, ltb-true 4 (stays .result) m, stays .ensures)), omega arith, tt)
+    (λ m. absurd (subst T (sym (rw (stays .ensures) at m)) tt), omega arith, tt)
 
 returns : tie.Need-returns
 unfolding vertexWord
