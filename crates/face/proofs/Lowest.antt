@@ -3,10 +3,10 @@ use mathlib.Core.Path.{_≡_, refl, sym, ap, _∙_, subst}
 use mathlib.Core.Bool.{Bool, true, false, cond, not, _&&_, _||_}
 use Prim.Native.Nat.{ℕ, _+_, _-_, _≤_, _<_}
 use native.Mathlib.Omega.{arith}
-use lib.Bits.{bitAnd, and-lt}
+use lib.Bits.{bitAnd, bitOr, and-lt}
 use lib.Count.{trailingZeros}
 use lib.Dec.{eqb, ltb, leb}
-use borrow.Author.Tests.{ne-eqb, ltb-true, le-leb, lt-leb, leb-true}
+use borrow.Author.Tests.{eqb-true, ne-eqb, ltb-true, le-leb, lt-leb, leb-true}
 use Rattle.rules.specs.Lists.{every}
 use Rattle.rules.specs.Cells.{has}
 use Rattle.rules.proofs.ListLaws.{split, and-true, every-true, not-false}
@@ -33,6 +33,16 @@ low s h d =
       here = b .0;
       below = λ i l. not-false (has s i) (ap (λ (b : Bool). b || not (has s i)) (sym (lt-leb z i l)) ∙ every-true 6 (λ i. leb z i || not (has s i)) (b .1) i (omega arith));
     }
+
+with-last-test : ℕ → Bool
+with-last-test s = eqb s 0 || eqb (trailingZeros 32 (bitOr s 32)) (trailingZeros 8 s)
+
+-- the last side, put in, is not lower
+pub with-last : (s : ℕ) → s < 64 → (s ≡ 0 → ⊥) → trailingZeros 32 (bitOr s 32) ≡ trailingZeros 8 s
+unfolding every trailingZeros with-last-test
+with-last s h d =
+    let t : with-last-test s ≡ true = every-true 64 with-last-test refl s h in
+    eqb-true _ _ (ap (λ (b : Bool). b || eqb (trailingZeros 32 (bitOr s 32)) (trailingZeros 8 s)) (sym (ne-eqb s 0 d)) ∙ t)
 
 same-bits : (b c : Bool) → cond b c (not c) ≡ true → b ≡ c
 same-bits true c e = sym e

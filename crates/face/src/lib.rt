@@ -2,6 +2,7 @@
 ghost use mathlib.Core.Path.{_≡_};
 ghost use mathlib.Core.Bool.{cond};
 ghost use Prim.Native.Nat.{_+_, _*_, _/_, _^_, _≤_, _<_};
+ghost use lib.Count.{trailingZeros};
 ghost use Rattle.rules.specs.Cells.{UNIT, opposite, code, linkWord, cellIn, codeIn, keyOf, keyIn, firstVertex, has, quadsOf, rank};
 ghost use Rattle.face.specs.Face.{number, faceAt, faceOfCode, faceOfWord, Ranked};
 
@@ -205,6 +206,14 @@ pub fn side_set(top: bool, bottom: bool, right: bool, left: bool, back: bool, fo
         + bit_if(left, 8)
         + bit_if(back, 16)
         + bit_if(forward, 32)
+}
+
+// The lowest side of a set that is not empty. The last side is put in, so that the compiler knows that there is one of the six.
+pub fn lowest_side(set: u32) -> u32
+    requires { ⌜ (set < 64) × (set ≡ 0 → ⊥) ⌝ }
+    ensures { λ r. ⌜ r ≡ trailingZeros 8 set ⌝ }
+{
+    u32::trailing_zeros(set | 32)
 }
 
 // As many quads as the set has ones.

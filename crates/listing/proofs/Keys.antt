@@ -10,7 +10,7 @@ use Rattle.rules.specs.Lists.{each, only, count}
 use Rattle.rules.specs.Cells.{keyOf, has, rank, quadsOf}
 use Rattle.rules.proofs.ListLaws.{All, all-append, each-same, each-split}
 use Rattle.listing.specs.Fresh.{RowOf, setsFrom, asked, cellKeys, keysOf}
-use Rattle.listing.proofs.Rows.{asked-moved}
+use Rattle.listing.proofs.Rows.{asked-split, asked-moved}
 
 -- ---- how many
 pub count-keys : (set c k f : ℕ) → length (each k f (λ i. only (has set i) (keyOf c i))) + rank set f ≡ rank set (f + k)
@@ -51,6 +51,18 @@ keys-on sets m n c = each-split m n c (λ k. cellKeys (sets k) k)
 pub keys-more : (sets : ℕ → ℕ) (n c : ℕ) → keysOf sets c (n + 1) ≡ keysOf sets c n ++ cellKeys (sets (c + n)) (c + n)
 unfolding keysOf each
 keys-more sets n c = keys-on sets n 1 c ∙ ap (λ (r : List ℕ). keysOf sets c n ++ r) (append-nil (cellKeys (sets (c + n)) (c + n)))
+
+-- the first cells that ask for as many as all draw what all do
+pub keys-all : (sets : ℕ → ℕ) (c n : ℕ) → c ≤ n → asked sets 0 n ≤ asked sets 0 c → keysOf sets 0 c ≡ keysOf sets 0 n
+keys-all sets c n h a =
+    let e : c + (n - c) ≡ n = omega arith in
+    let k = keys-on sets c (n - c) 0 ∙ ap (λ (r : List ℕ). keysOf sets 0 c ++ r)
+    (none-left (keysOf sets (0 + c) (n - c)) (omega (arith, length-keys sets (n - c) (0 + c), asked-split sets c (n - c) 0, ap (asked sets 0) e))) in
+    sym (append-nil (keysOf sets 0 c)) ∙ sym k ∙ ap (keysOf sets 0) e
+  where
+    none-left : (ks : List ℕ) → length ks ≡ 0 → ks ≡ []
+    none-left [] e = refl
+    none-left (k ∷ ks) e = absurd (omega arith)
 
 pub keys-like : (s t : ℕ → ℕ) (n c : ℕ) → ((k : ℕ) → c ≤ k → k < c + n → s k ≡ t k) → keysOf s c n ≡ keysOf t c n
 unfolding keysOf

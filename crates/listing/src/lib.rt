@@ -3,6 +3,7 @@ use face::Cell;
 use face::Quad;
 use face::bit_if;
 use face::face_at;
+use face::lowest_side;
 use face::quads_of;
 use face::rank;
 use mesh_metadata::insert;
@@ -149,9 +150,9 @@ fn index_cell(
         (now (links .entry)) (now (slots .entry)) (now (sides .entry)) (now (links .exit)) (now (slots .exit)) (now (sides .exit)) n r ⌝ }
 {
     let mut next = n;
-    let mut rest = set;
+    let mut rest = set as u32;
     while rest != 0 {
-        let f = u8::trailing_zeros(rest);
+        let f = lowest_side(rest);
         let face = face_at(f);
         let at = n + rank(ranks, set, face) as usize;
         insert(links, slots, face, cell, Quad((base + at) as u32));

@@ -22,7 +22,7 @@ use Rattle.drawing.proofs.Laid.{rows-laid, places-laid, slots-named}
 use Rattle.listing.specs.Fresh.{setAt, facesOf, asked, keysOf, Entered}
 use Rattle.listing.proofs.Sets.{named-set}
 use Rattle.listing.proofs.Rows.{asked-moved, asked-on}
-use Rattle.listing.proofs.Keys.{length-keys, keys-none, keys-on, keys-like}
+use Rattle.listing.proofs.Keys.{length-keys, keys-none, keys-on, keys-all, keys-like}
 use Rattle.meshem.proofs.Faces.{rising-first, quadOn, quads-of-keys, asked-fresh}
 use Rattle.meshem.proofs.Turns.{set-world}
 
@@ -101,36 +101,37 @@ module _ (S : Scene) (outer g : List ℕ) (culling by : Bool) (set : ℕ) (mode 
   found-quads =
       ap (map (quadOn (world S) g)) (keys-like found (setAt culling (world S) outer g) (cells (S .size)) 0 (λ k a b. found-is k)) ∙ quads-of-keys S outer g culling
 
-  -- LAW: when every row is drawn, the lists are the layout of the fresh mesh
-  pub drawn-all : (B : Lists) {c base Q : ℕ} {vs T ls ss ss₀ : List ℕ} → c ≡ cells (S .size) → Q ≡ length (freshMesh S outer g culling)
+  -- LAW: when every quad is drawn, the lists are the layout of the fresh mesh
+  pub drawn-all : (B : Lists) {c base Q : ℕ} {vs T ls ss ss₀ : List ℕ} → c ≤ cells (S .size) → Q ≤ base → Q ≡ length (freshMesh S outer g culling)
       → Drawn S g found (B .vertices) (B .links) ss₀ c base vs ls ss
       → ss₀ ≡ replicate (faces S) NONE ++ drop (faces S) (B .slots) → T ≡ put (6 * 0) (each (Q - 0) 0 pattern) (B .triangles)
       → listsOf vs T ls ss ≡ layout (faces S) (span S) (length (freshMesh S outer g culling)) (freshMesh S outer g culling) B
   unfolding slotted
-  drawn-all B {c} {base} {Q} {vs} {T} {ls} {ss} {ss₀} e q d bare t =
+  drawn-all B {c} {base} {Q} {vs} {T} {ls} {ss} {ss₀} h whole q d bare t =
       let m = freshMesh S outer g culling in
       let keys = keysOf found 0 (cells (S .size)) in
+      let e : keysOf found 0 c ≡ keys = keys-all found c (cells (S .size)) h (omega (arith, d .count, q, found-asked)) in
       let quad = quadOn (world S) g in
       let f = found-quads in
       let n : length keys ≡ length m = sym (length-map keys quad) ∙ ap length f in
-      let v = d .vertices-are ∙ ap (λ (i : ℕ). put (span S * 0) (rowsOf (wordRow S g) (keysOf found 0 i)) (B .vertices)) e
+      let v = d .vertices-are ∙ ap (λ (r : List ℕ). put (span S * 0) (rowsOf (wordRow S g) r) (B .vertices)) e
       ∙ rows-laid (span S) (λ x. x .words) quad keys (B .vertices) (words-wide S g found)
       ∙ (λ i. laid (span S) (λ q x. x .words) (n i) (f i) (B .vertices)) in
       let p = t ∙ ap (λ (i : ℕ). put (6 * 0) (each (i - 0) 0 pattern) (B .triangles)) q
       ∙ places-laid 6 pattern m (B .triangles) length-patterns in
-      let l = d .links-are ∙ ap (λ (i : ℕ). put (1 * 0) (rowsOf linkRow (keysOf found 0 i)) (B .links)) e ∙ links-laid keys (B .links)
+      let l = d .links-are ∙ ap (λ (r : List ℕ). put (1 * 0) (rowsOf linkRow r) (B .links)) e ∙ links-laid keys (B .links)
       ∙ (λ i. laid 1 (λ q x. linkOf (x .key) ∷ []) (n i) (f i) (B .links)) in
-      let s = d .slots-are ∙ (λ i. named 0 (keysOf found 0 (e i)) (bare i))
-      ∙ slots-named (faces S) quad (λ k. whole k) (drop (faces S) (B .slots)) keys (rising-first found (cells (S .size)))
+      let s = d .slots-are ∙ (λ i. named 0 (e i) (bare i))
+      ∙ slots-named (faces S) quad (λ k. again k) (drop (faces S) (B .slots)) keys (rising-first found (cells (S .size)))
       ∙ ap (λ (r : List Quad). slotted (faces S) r (B .slots)) f in
       λ i. listsOf (v i) (p i) (l i) (s i)
     where
-      whole : (k : ℕ) → 6 * (k / 6) + k % 6 ≡ k
-      whole k = omega arith
+      again : (k : ℕ) → 6 * (k / 6) + k % 6 ≡ k
+      again k = omega arith
 
       links-same : (keys : List ℕ) → rowsOf linkRow keys ≡ rowsOf (λ k. linkOf (6 * (k / 6) + k % 6) ∷ []) keys
       links-same [] = refl
-      links-same (k ∷ keys) = λ i. linkOf (sym (whole k) i) ∷ links-same keys i
+      links-same (k ∷ keys) = λ i. linkOf (sym (again k) i) ∷ links-same keys i
 
       links-laid : (keys old : List ℕ)
           → put (1 * 0) (rowsOf linkRow keys) old ≡ laid 1 (λ q x. linkOf (x .key) ∷ []) (length keys) (map (quadOn (world S) g) keys) old

@@ -28,6 +28,7 @@ pub enum Meshed {
 }
 
 // Meshes a grid into the lent lists, or refuses and writes nothing. A row's faces go into the index and a list of their own, and by that list into the vertices.
+// The rows end with the last quad.
 pub fn mesh_grid(
     scene: Scene,
     outer: &[u8],
@@ -78,7 +79,7 @@ pub fn mesh_grid(
         y: 0,
         z: 0,
     };
-    while row.first < end {
+    while base < quads {
         side_row(
             &mut sets,
             dims,

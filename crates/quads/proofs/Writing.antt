@@ -129,11 +129,11 @@ module _ (cube : List ℕ) (n : ℕ) (d a : Triple) (v : ℕ) where
   moved k = movedWord (wordAt cube n v k) (along a k) (along d k)
 
   -- its position, and the word after it
-  abbrev pub head : List ℕ
-  head = moved 0 ∷ moved 1 ∷ moved 2 ∷ wordAt cube n v 3 ∷ []
+  abbrev head : List ℕ
+  head = four (vertexWord cube n d a v) 0
 
   head-is : head ≡ table 4 (vertexWord cube n d a v)
-  unfolding vertexWord each
+  unfolding each
   head-is = refl
 
   kept-word : (k : ℕ) → 3 ≤ k → wordAt cube n v k ≡ vertexWord cube n d a v k

@@ -1,6 +1,7 @@
 // The words of a quad: its four vertices taken from a cube of the registry and moved to their cell.
 use face::Face;
 use floats::Triple;
+use floats::moved_if;
 use floats::moved_word;
 use util::Coordinates;
 use vav::write_four;
@@ -87,6 +88,36 @@ fn copy_four(out: &mut [u32], cube: &[u32], floats: usize, vertex: usize, k: usi
     write_four(out, to + k, a, b, c, d);
 }
 
+// The fourth word of a vertex is the first that is not moved. The compiler can't tell that y is low, so any of the four may be moved or stay for all that it
+// knows: it works them out alike, and writes them at once. They count from 1, since to it a comparison with 0 is not like the others.
+fn first_to_stay(y: u32) -> u32
+    requires { ⌜ y ≤ 1024 ⌝ }
+    ensures { λ r. ⌜ r ≡ 4 ⌝ }
+{
+    y / 2048 ^ 4
+}
+
+// Writes the first four words of a vertex of a cube at `to`: its position, moved, and the word after it.
+fn write_head(
+    out: &mut [u32],
+    cube: &[u32],
+    floats: usize,
+    vertex: usize,
+    to: usize,
+    at: Coordinates,
+    d: Triple,
+)
+    requires { ⌜ Drawable (now cube) floats (grid.tripleOf at) (tripleOf d) × (vertex < 24) × (to + 4 ≤ length (now out)) ⌝ }
+    ensures { λ _. ⌜ now (out .exit) ≡ put to (four (vertexWord (now (cube .entry)) floats (tripleOf d) (grid.tripleOf at) vertex) 0) (now (out .entry)) ⌝ }
+{
+    let stays = first_to_stay(at.y);
+    let x = moved_if(1 < stays, word_of(cube, floats, vertex, 0), at.x, d.x);
+    let y = moved_if(2 < stays, word_of(cube, floats, vertex, 1), at.y, d.y);
+    let z = moved_if(3 < stays, word_of(cube, floats, vertex, 2), at.z, d.z);
+    let after = moved_if(4 < stays, word_of(cube, floats, vertex, 3), 0, 0);
+    write_four(out, to, x, y, z, after);
+}
+
 // Writes a vertex of a cube at `to`, its position moved. The last four words overlap the four before where there are fewer than 12.
 fn write_vertex(
     out: &mut [u32],
@@ -100,11 +131,7 @@ fn write_vertex(
     requires { ⌜ Drawable (now cube) floats (grid.tripleOf at) (tripleOf d) × (vertex < 24) × (to + floats ≤ length (now out)) ⌝ }
     ensures { λ _. ⌜ now (out .exit) ≡ put to (vertexWords (now (cube .entry)) floats (tripleOf d) (grid.tripleOf at) vertex) (now (out .entry)) ⌝ }
 {
-    let x = moved_word(word_of(cube, floats, vertex, 0), at.x, d.x);
-    let y = moved_word(word_of(cube, floats, vertex, 1), at.y, d.y);
-    let z = moved_word(word_of(cube, floats, vertex, 2), at.z, d.z);
-    let after = word_of(cube, floats, vertex, 3);
-    write_four(out, to, x, y, z, after);
+    write_head(out, cube, floats, vertex, to, at, d);
     copy_four(out, cube, floats, vertex, 4, to);
     if floats == 8 {
         return;

@@ -3,6 +3,7 @@ use mathlib.Core.Path.{_≡_, refl, sym, ap, _∙_, subst}
 use mathlib.Core.List.{List, [], _++_}
 use Prim.Native.Nat.{ℕ, _+_, _-_, _*_, _≤_, _<_}
 use borrow.Author.Needs.{needs}
+use native.Mathlib.Decide.{decLt}
 use native.Mathlib.Omega.{arith}
 use denote.Ref.{now}
 use lib.ListN.{length, take, drop, replicate, length-append, length-drop, length-replicate}
@@ -201,48 +202,54 @@ loop-holds c =
 
 -- ---- a row
 
-abbrev roomy : tie.Then2 Inv-loop μ-loop → tie.Else1 Inv-loop μ-loop
-roomy i = i .before .before .before .before .before .before .before .before .before .before .before .before .before .before
+abbrev roomy : tie.In-loop Inv-loop μ-loop → tie.Else1 Inv-loop μ-loop
+roomy i = i .before .before .before .before .before .before .before .before .before .before .before .before .before
 
-abbrev done-with : tie.Then2 Inv-loop μ-loop → tie.After-count-quads Inv-loop μ-loop
+abbrev done-with : tie.In-loop Inv-loop μ-loop → tie.After-count-quads Inv-loop μ-loop
 done-with i = counted (roomy i)
 
-row : (i : tie.Then2 Inv-loop μ-loop) → let l = i .before .before .loop in Starts (scene (begin (done-with i)) .size) (l .row .first) (l .row .y) (l .row .z)
-row i =
-    let l = i .before .before .loop in
-    record { inside = omega (arith, i .before .before .before .before .before .before .before .before .before .before .before .before .cell-count .ensures, i .if2 .taken); cords = l .inv .1 }
+row : (i : tie.In-loop Inv-loop μ-loop) → let l = i .before .loop in Starts (scene (begin (done-with i)) .size) (l .row .first) (l .row .y) (l .row .z)
+row i = record { inside = inside (decLt _ _); cords = i .before .loop .inv .1 }
+  where
+    inside : Dec (i .before .loop .row .first < cells (scene (begin (done-with i)) .size)) → i .before .loop .row .first < cells (scene (begin (done-with i)) .size)
+    inside (yes p) = p
+    inside (no p) =
+        let l = i .before .loop in
+        let q = done-with i in
+        let e : l .row .first ≡ cells (scene (begin q) .size) = omega (arith, l .inv .0) in
+        absurd (omega (arith, i .loop-test .taken, l .inv .2 .count, ap (asked (sets q) 0) e, q .count-quads .ensures))
 
-ends : (i : tie.Then2 Inv-loop μ-loop) →
-    let s = begin (done-with i) in i .before .before .loop .row .first + s .args .scene .dims .width ≤ cells (scene s .size)
+ends : (i : tie.In-loop Inv-loop μ-loop) →
+    let s = begin (done-with i) in i .before .loop .row .first + s .args .scene .dims .width ≤ cells (scene s .size)
 ends i = let q = done-with i in row-end (scene (begin q) .size) (known (typed (counting q)) .within) (row i)
 
 slice-aggregate-side-row : tie.Need-slice-aggregate-side-row Inv-loop μ-loop
-slice-aggregate-side-row c = sym (c .before .before .before .loop .inv .3)
+slice-aggregate-side-row c = sym (c .before .before .loop .inv .3)
 
 side-row-requires : tie.Need-side-row-requires Inv-loop μ-loop
 side-row-requires c κs =
     let i = c .before .before in
     let q = done-with i in
     let f = counting q in
-    (rows-known f, row i, omega (arith, i .before .before .loop .inv .3, known (typed f) .within .sides .widest), q .before .before .before .before .sides-along .ensures)
+    (rows-known f, row i, omega (arith, i .before .loop .inv .3, known (typed f) .within .sides .widest), q .before .before .before .before .sides-along .ensures)
 
 -- the list of sets has room for a row
 long-enough : (r : tie.After-side-row Inv-loop μ-loop) →
     begin (done-with (r .before .before .before)) .args .scene .dims .width ≤ length (r .side-row .last .0)
 long-enough r =
     let i = r .before .before .before in
-    omega (arith, r .side-row .kept .0, i .before .before .loop .inv .3, known (typed (counting (done-with i))) .within .sides .widest)
+    omega (arith, r .side-row .kept .0, i .before .loop .inv .3, known (typed (counting (done-with i))) .within .sides .widest)
 
 -- ---- the faces of a row
 
-abbrev turn : tie.After-side-row Inv-loop μ-loop → tie.Then2 Inv-loop μ-loop
+abbrev turn : tie.After-side-row Inv-loop μ-loop → tie.In-loop Inv-loop μ-loop
 turn r = r .before .before .before
 
 abbrev width : tie.After-side-row Inv-loop μ-loop → ℕ
 width r = begin (done-with (turn r)) .args .scene .dims .width
 
 abbrev from : tie.After-side-row Inv-loop μ-loop → ℕ
-from r = turn r .before .before .loop .row .first
+from r = turn r .before .loop .row .first
 
 abbrev row-sets : tie.After-side-row Inv-loop μ-loop → List ℕ
 row-sets r = take (width r) (r .side-row .last .0)
@@ -258,10 +265,10 @@ keys-are r = row-keys (sets (done-with (turn r))) (from r) (width r) (r .side-ro
 
 -- the place after them
 after-is : (r : tie.After-side-row Inv-loop μ-loop) →
-    let q = done-with (turn r) in turn r .before .before .loop .base + asked (sets q) (from r) (width r) ≡ asked (sets q) 0 (from r + width r)
-after-is r = omega (arith, turn r .before .before .loop .inv .2 .count, asked-on (sets (done-with (turn r))) (from r) (width r))
+    let q = done-with (turn r) in turn r .before .loop .base + asked (sets q) (from r) (width r) ≡ asked (sets q) 0 (from r + width r)
+after-is r = omega (arith, turn r .before .loop .inv .2 .count, asked-on (sets (done-with (turn r))) (from r) (width r))
 
-few-after : (r : tie.After-side-row Inv-loop μ-loop) → turn r .before .before .loop .base + asked (sets (done-with (turn r))) (from r) (width r) ≤ 6291456
+few-after : (r : tie.After-side-row Inv-loop μ-loop) → turn r .before .loop .base + asked (sets (done-with (turn r))) (from r) (width r) ≤ 6291456
 few-after r =
     let i = turn r in
     omega (arith, after-is r, below (roomy i) (from r + width r) (ends i), few-quads (done-with i))
@@ -306,12 +313,12 @@ index-row-requires c κs =
     let r = c .before .before .before .before .before .before in
     let i = turn r in
     let q = done-with i in
-    let l = i .before .before .loop in
+    let l = i .before .loop in
     let wide = known (typed (counting q)) in
     let list = r .side-row .last .0 in
     let n = length-take-le (width r) list (long-enough r) in
     let e = ends i in
-    let slots = kept-slots _ _ _ _ _ _ (l .inv .2) ∙ slots-kept (i .before .before .before .before .before .before .before .before .before .before) in
+    let slots = kept-slots _ _ _ _ _ _ (l .inv .2) ∙ slots-kept (i .before .before .before .before .before .before .before .before .before) in
     let links = kept-links _ _ _ _ _ _ (l .inv .2) (links-room (roomy i) (from r) (omega (arith, e))) in (
       record {
         cells = omega (arith, n, e, wide .within .most);
@@ -323,7 +330,7 @@ index-row-requires c κs =
         sides = omega (arith, n, l .inv .4, wide .within .sides .widest);
       },
       omega (arith, n, e, wide .whole),
-      i .before .before .before .ranks .ensures,
+      i .before .before .ranks .ensures,
     )
 
 -- ---- their words
@@ -338,7 +345,7 @@ result-is : (k : tie.After-index-row Inv-loop μ-loop) → k .index-row .result 
 result-is k = k .index-row .ensures .0 ∙ count-is (told k)
 
 kept-list : (k : tie.After-index-row Inv-loop μ-loop) → length (k .index-row .last .1 .1 .0) ≡ 6144
-kept-list k = k .index-row .ensures .1 .kept ∙ turn (told k) .before .before .loop .inv .4
+kept-list k = k .index-row .ensures .1 .kept ∙ turn (told k) .before .loop .inv .4
 
 within-list : (k : tie.After-index-row Inv-loop μ-loop) → k .index-row .result ≤ length (k .index-row .last .1 .1 .0)
 within-list k =
@@ -357,7 +364,7 @@ vertex-row-requires c κs =
     let q = done-with i in
     let s = begin q in
     let a = s .args in
-    let l = i .before .before .loop in
+    let l = i .before .loop in
     let g = now (a .grid) in
     let e = ends i in
     let all = subst (All (Side (sceneOf (a .scene) [] [] (now (a .cubes))) (from r))) (sym (k .index-row .ensures .1 .sides))
@@ -382,7 +389,7 @@ loop-again c =
     let r = told k in
     let i = turn r in
     let s = begin (done-with i) in
-    let l = i .before .before .loop in
+    let l = i .before .loop in
     let e = c .next .ensures .0 in (
       omega (arith, e, ends i),
       c .next .ensures .1,
@@ -393,32 +400,31 @@ loop-again c =
 
 same-length : tie.Need-same-length Inv-loop μ-loop
 same-length c =
-    let l = c .before .before .loop in
-    kept-vertices _ _ _ _ _ _ (l .inv .2) (vertices-room (c .before .before .before .before .before .before .before .before .before .before .before .before .before .before) (l .row .first) (l .inv .0))
+    let l = c .before .loop in
+    kept-vertices _ _ _ _ _ _ (l .inv .2) (vertices-room (c .before .before .before .before .before .before .before .before .before .before .before .before .before) (l .row .first) (l .inv .0))
 
 same-length-3 : tie.Need-same-length-3 Inv-loop μ-loop
 same-length-3 c =
-    let l = c .before .before .loop in
-    kept-links _ _ _ _ _ _ (l .inv .2) (links-room (c .before .before .before .before .before .before .before .before .before .before .before .before .before .before) (l .row .first) (l .inv .0))
+    let l = c .before .loop in
+    kept-links _ _ _ _ _ _ (l .inv .2) (links-room (c .before .before .before .before .before .before .before .before .before .before .before .before .before) (l .row .first) (l .inv .0))
 
 same-length-4 : tie.Need-same-length-4 Inv-loop μ-loop
-same-length-4 c = let l = c .before .before .loop in kept-slots _ _ _ _ _ _ (l .inv .2) ∙ slots-kept (c .before .before .before .before .before .before .before .before .before .before)
+same-length-4 c = let l = c .before .loop in kept-slots _ _ _ _ _ _ (l .inv .2) ∙ slots-kept (c .before .before .before .before .before .before .before .before .before)
 
 returns-3 : tie.Need-returns-3 Inv-loop μ-loop
 returns-3 c =
-    let l = c .before .before .loop in
-    let w = c .before .before .before .before .before .before .before .before .before .before in
-    let q = counted (c .before .before .before .before .before .before .before .before .before .before .before .before .before .before) in
+    let l = c .before .loop in
+    let w = c .before .before .before .before .before .before .before .before .before in
+    let q = counted (c .before .before .before .before .before .before .before .before .before .before .before .before .before) in
     let s = begin q in
     let S = scene s in
     let g = now (s .args .grid) in
     let u = now (s .args .outer) in
     let m = isCulling (s .args .algorithm) in
-    let fit : length (freshMesh S u g m) ≤ room S (lists s) = omega (arith, fits (c .before .before .before .before .before .before .before .before .before .before .before .before .before .before), quads-are q) in
-    let all : l .row .first ≡ cells (S .size) = omega (arith, l .inv .0, c .if2 .left, w .before .before .cell-count .ensures) in
+    let fit : length (freshMesh S u g m) ≤ room S (lists s) = omega (arith, fits (c .before .before .before .before .before .before .before .before .before .before .before .before .before), quads-are q) in
     let x = quads-are q in
-    let y = drawn-all S u g m _ _ (by q .before .is-culling .ensures) (outer-is q) (lists s) all x (l .inv .2) (bare-slots w)
-    (c .before .before .before .before .before .before .write-patterns .ensures) in
+    let y = drawn-all S u g m _ _ (by q .before .is-culling .ensures) (outer-is q) (lists s) (l .inv .0) (omega (arith, c .loop-test .left)) x (l .inv .2) (bare-slots w)
+    (c .before .before .before .before .before .write-patterns .ensures) in
     (λ i. record { answer = answered (x i) 0; lists = y i }) ∙ sym (done S u g m (lists s) (passed (typed (counting q))) fit)
 
 pub mesh-grid-spec : {M : Type 1} → statement M
@@ -428,7 +434,7 @@ mesh-grid-spec =
     look-of-requires (λ c. search needs) sides-along-requires (λ c. search needs) (λ c. search needs) count-quads-requires (λ c κs. search needs)
     returns-2 (λ c. search needs) cell-count-requires (λ c. search needs) (λ c. search needs) slice-relend-prefix-new slice-aggregate-new
     (λ c κs. search needs) write-patterns-requires (λ c κs. search needs) loop-holds slice-aggregate-side-row (λ c. search needs) side-row-requires
-    (λ c. sym (c .before .before .before .before .before .before .before .before .before .loop .inv .4))
+    (λ c. sym (c .before .before .before .before .before .before .before .before .loop .inv .4))
     (λ c. long-enough (c .before .before .before .before .before))
     (λ c. let r = c .before .before .before .before .before .before in sym (length-take-le _ (r .side-row .last .0) (long-enough r)))
     index-row-requires (λ c. within-list (c .before .before .before .before .before .before))
