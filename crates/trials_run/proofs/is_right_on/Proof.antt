@@ -67,4 +67,9 @@ slice-aggregate-are-left-4 c =
 pub is-right-on-spec : {M : Type 1} → statement M
 is-right-on-spec =
     tie.close
-    (tie.spec (λ c κs. search needs) (λ c. search needs) (λ c κs. search needs) (λ c. search needs) (λ c κs. search needs) (λ c. search needs) (λ c κs. search needs) (λ c. search needs) (λ c κs. search needs) (λ c κs. search needs) (λ c κs. search needs) (λ c κs. search needs) (λ c κs. search needs) (λ c. search needs) (λ c. search needs) slice-aggregate-answer-2 (λ c. search needs) slice-aggregate-answer-3 (λ c. search needs) slice-aggregate-answer-4 (λ c. search needs) slice-aggregate-answer-5 (λ c κs. search needs) (λ c κs. search needs) slice-aggregate-are-left slice-aggregate-are-left-2 slice-aggregate-are-left-3 slice-aggregate-are-left-4 (λ c κs. search needs) (λ c. search needs) (λ c. search needs))
+    (tie.spec (λ c κs. search needs) (λ c. search needs) (λ c κs. search needs) (λ c. search needs) (λ c κs. search needs) (λ c. search needs)
+    (λ c κs. search needs) (λ c. search needs) (λ c κs. search needs) (λ c κs. search needs) (λ c κs. search needs) (λ c κs. search needs)
+    (λ c κs. search needs) (λ c. search needs) (λ c. search needs) slice-aggregate-answer-2 (λ c. search needs) slice-aggregate-answer-3
+    (λ c. search needs) slice-aggregate-answer-4 (λ c. search needs) slice-aggregate-answer-5 (λ c κs. search needs) (λ c κs. search needs)
+    slice-aggregate-are-left slice-aggregate-are-left-2 slice-aggregate-are-left-3 slice-aggregate-are-left-4 (λ c κs. search needs)
+    (λ c. search needs) (λ c. search needs))
