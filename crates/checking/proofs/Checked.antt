@@ -28,7 +28,7 @@ use Rattle.lent.specs.Scenes.{Admitted, Lent}
 use Rattle.culling.specs.Culling.{worldOf}
 use Rattle.lent.proofs.Admitted.{admitted, lent}
 use Rattle.checking.specs.Faces.{wrongSlot, Gridded}
-use Rattle.checking.specs.Quads.{otherQuad, Comparable}
+use Rattle.comparing.specs.Quads.{otherQuad, Comparable}
 use Rattle.checking.proofs.Faces.{lowest-cong, alike, face-slot}
 
 -- ---- 2, 3, 4, 6 to 10 have passed

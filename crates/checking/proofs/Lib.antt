@@ -1,4 +1,3 @@
 pub mod Faces
 pub mod Rows
-pub mod Compared
 pub mod Checked

@@ -1,3 +1,2 @@
 pub mod Faces
-pub mod Quads
 pub mod Outcome

@@ -3,6 +3,7 @@ use answers::Refusal;
 use answers::Verdict;
 use answers::is_refusal;
 use answers::refuse_if;
+use comparing::first_wrong_quad;
 use culling::outer_set;
 use face::NONE;
 use face::side_set;
@@ -16,7 +17,6 @@ use terms::Lengths;
 use terms::Scene;
 use util::Dimensions;
 use util::Row;
-use words::first_wrong_quad;
 ghost use mathlib.Core.Path.{_≡_};
 ghost use mathlib.Core.Bool.{Bool, true, cond};
 ghost use mathlib.Core.List.{List};
@@ -31,8 +31,6 @@ ghost use Rattle.row_sets.specs.Rows.{Along};
 ghost use Rattle.rules.specs.Answers.{isFilled, unlike};
 ghost use Rattle.checking.specs.Faces.{filledSet, bits, fourSets, wrongSlot, wrongInRow, Gridded};
 ghost use Rattle.checking.specs.Outcome.{Checks};
-
-pub mod words; // words.rt: the words of the quads, compared
 
 // The faces of a cell whose slots are filled.
 fn filled_set(slots: &[u32], cell: usize) -> u8

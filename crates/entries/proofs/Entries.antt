@@ -1,15 +1,18 @@
 -- Laws of log entries. Assumes nothing.
 use mathlib.Core.Path.{_≡_, refl, sym, ap}
 use mathlib.Core.Logic.{_≢_}
-use mathlib.Core.Bool.{Bool, true, false, _&&_}
+use mathlib.Core.Bool.{Bool, true, false, not, _&&_}
 use mathlib.Core.List.{List, [], _∷_}
-use Prim.Native.Nat.{ℕ, zero, suc, _+_, _-_, _≤_, _<_}
+use Prim.Native.Nat.{ℕ, zero, suc, _+_, _-_, _%_, _≤_, _<_, min}
 use native.Mathlib.Omega.{arith}
 use native.Mathlib.Numerals.{add-one}
 use native.Mathlib.Nat.{add-zero}
 use lib.ListN.{length, getD}
+use lib.Dec.{eqb, leb, ltb}
+use borrow.Author.Tests.{lt-ltb, le-ltb, leb-true, leb-false, eqb-true, eqb-false}
 use Rattle.rules.specs.Lists.{each, table, part, every, lowestFrom}
 use Rattle.rules.specs.Update as rule
+use Rattle.rules.specs.Answers.{badNeighbour}
 use Rattle.rules.proofs.ListLaws.{getD-table, table-is}
 use Rattle.face.specs.declared.Face.{Face}
 use Rattle.face.specs.Face.{number}
@@ -28,6 +31,16 @@ change-last (suc (suc (suc n))) a b c = refl
 pub every-more : (n : ℕ) (p : ℕ → Bool) → (every n p && p n) ≡ every (n + 1) p
 unfolding every
 every-more n p = rw (add-one, every)
+
+-- one test of bytes: 255 and 1 wrap to 0
+pub one-test : (types given : ℕ) → given < 256 → ltb (min types 255) ((given + 1) % 256) ≡ badNeighbour types given
+one-test types given h = go (leb types given) (eqb given 255) refl refl where
+  go : (a b : Bool) → leb types given ≡ a → eqb given 255 ≡ b → ltb (min types 255) ((given + 1) % 256) ≡ (a && not b)
+  go false b d e = le-ltb (min types 255) ((given + 1) % 256) (omega (arith, leb-false types given d))
+  go true true d e = le-ltb (min types 255) ((given + 1) % 256) (omega (arith, eqb-true given 255 e))
+  go true false d e =
+      let other : given ≢ 255 = eqb-false given 255 e in
+      lt-ltb (min types 255) ((given + 1) % 256) (omega (arith, leb-true types given d, other))
 
 -- ---- six words of a list, one by one
 abbrev pub sixAt : List ℕ → ℕ → List ℕ

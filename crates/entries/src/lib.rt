@@ -1,9 +1,10 @@
 // The entries of a log, 12 bytes each, and which are bad.
 use face::Cell;
 use face::Face;
+use std::num::wrapping_add_u8;
 ghost use mathlib.Core.Path.{_≡_};
 ghost use mathlib.Core.Bool.{not};
-ghost use Prim.Native.Nat.{_+_, _-_, _*_, _/_, _≤_, _<_};
+ghost use Prim.Native.Nat.{_+_, _-_, _*_, _/_, _≤_, _<_, min};
 ghost use lib.ListN.{length, getD};
 ghost use Rattle.rules.specs.Lists.{every, lowest};
 ghost use Rattle.rules.specs.Update.{u32At, changeOf, entryAt, givenAt};
@@ -105,10 +106,18 @@ pub fn read_entry(log: &[u8], k: usize) -> Entry
     }
 }
 
+// As many as a byte can name.
+fn byte_of(types: u32) -> u8
+    ensures { λ r. ⌜ r ≡ min types 255 ⌝ }
+{
+    if types < 255 { types as u8 } else { 255 }
+}
+
+// One test of bytes, so that the six go at once: 255 and 1 wrap to 0, which is over no number of types.
 fn bad_neighbour(given: u8, types: u32) -> bool
     ensures { λ r. ⌜ r ≡ badNeighbour types given ⌝ }
 {
-    (types <= wide_byte(given)) & (given != Entry::OUTSIDE)
+    byte_of(types) < wrapping_add_u8(given, 1)
 }
 
 // Whether one of the six neighbours that start at `at` is no type and not outside.

@@ -26,14 +26,6 @@ pub fn least(a: usize, b: usize) -> usize
     if a <= b { a } else { b }
 }
 
-// The end of a list whose length is given: a record that is too short cuts it.
-pub fn end_after(r: &[u32], start: usize, field: usize) -> usize
-    requires { ⌜ (start ≤ length (now r)) × (field + 1 ≤ length (now r)) ⌝ }
-    ensures { λ e. ⌜ (start ≤ e) × (e ≤ length (now (r .entry))) ⌝ }
-{
-    start + least(size(r[field]), r.len() - start)
-}
-
 // The word that starts at a byte, the lowest byte first.
 fn word_at(bytes: &[u8], at: usize) -> u32
     requires { ⌜ at + 4 ≤ length (now bytes) ⌝ }

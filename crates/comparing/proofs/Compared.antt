@@ -28,7 +28,7 @@ use Rattle.rules.proofs.Rows.{length-lent}
 use Rattle.terms.specs.declared.Scene.{Scene}
 use Rattle.quads.specs.Quads.{Drawable}
 use Rattle.quads.proofs.Writing.{word-at}
-use Rattle.checking.specs.Quads.{Comparable, cubeAt, quadWordsAt}
+use Rattle.comparing.specs.Quads.{Comparable, cubeAt, quadWordsAt}
 
 -- ---- the face of a code
 

@@ -27,7 +27,7 @@ ghost use Rattle.util.specs.Grid as grid;
 ghost use Rattle.util.specs.Grid.{sizeOf};
 ghost use Rattle.floats.specs.Triples.{tripleOf};
 ghost use Rattle.quads.specs.Quads.{Drawable};
-ghost use Rattle.checking.specs.Quads.{otherQuad, Comparable};
+ghost use Rattle.comparing.specs.Quads.{otherQuad, Comparable};
 
 // Whether word k of the i-th vertex of a quad differs from the registry's.
 fn is_other_word(

@@ -1,7 +1,7 @@
--- `checking::words::is_other_word` meets its contract. Assumes nothing.
+-- `comparing::is_other_word` meets its contract. Assumes nothing.
 use borrow.Author.Needs.{needs}
-use Rattle.checking.proofs.words.is_other_word.Statement.{statement}
-use Rattle.checking.proofs.words.is_other_word.Tie as tie
+use Rattle.comparing.proofs.is_other_word.Statement.{statement}
+use Rattle.comparing.proofs.is_other_word.Tie as tie
 
 returns : tie.Need-returns
 returns c = rw (c .quad-word .ensures)

@@ -1,4 +1,4 @@
--- `checking::words::first_wrong_quad` meets its contract. Assumes nothing.
+-- `comparing::first_wrong_quad` meets its contract. Assumes nothing.
 use mathlib.Core.Path.{_≡_, sym, ap, _∙_}
 use mathlib.Core.Bool.{not}
 use mathlib.Core.List.{List}
@@ -17,14 +17,14 @@ use Rattle.floats.specs.Triples as floats
 use Rattle.voxel_mesh.proofs.Shapes.{few, row-within}
 use Rattle.rules.proofs.Rows.{length-lent}
 use Rattle.rules.proofs.ListLaws.{within}
-use Rattle.checking.specs.Quads.{quadWordsAt, otherQuad, cubeAt, Comparable}
+use Rattle.comparing.specs.Quads.{quadWordsAt, otherQuad, cubeAt, Comparable}
 use Rattle.quads.proofs.Writing as quads
 use Rattle.rules.proofs.Searches.{Searched, searched, found, passed, ended}
-use Rattle.checking.proofs.Compared.{Agreed, agreed-same, agreed-not, lent-is, row-next, Named, named-quad, named-word, stretch-within, drawable, quad-within, length-quad}
+use Rattle.comparing.proofs.Compared.{Agreed, agreed-same, agreed-not, lent-is, row-next, Named, named-quad, named-word, stretch-within, drawable, quad-within, length-quad}
 use borrow.Author.Needs.{needs}
 use native.Mathlib.Omega.{arith}
-use Rattle.checking.proofs.words.first_wrong_quad.Statement.{statement}
-use Rattle.checking.proofs.words.first_wrong_quad.Tie as tie
+use Rattle.comparing.proofs.first_wrong_quad.Statement.{statement}
+use Rattle.comparing.proofs.first_wrong_quad.Tie as tie
 
 abbrev Inv-loop2 : tie.InvT-loop2
 Inv-loop2 scene grid cubes vertices links count dims inverse floats words span quad link face at place start end from to vertex float₀ float =

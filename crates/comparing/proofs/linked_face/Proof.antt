@@ -1,9 +1,9 @@
--- `checking::words::linked_face` meets its contract. Assumes nothing.
+-- `comparing::linked_face` meets its contract. Assumes nothing.
 use mathlib.Core.Path.{sym, _∙_}
-use Rattle.checking.proofs.Compared.{code-face, code-none}
+use Rattle.comparing.proofs.Compared.{code-face, code-none}
 use borrow.Author.Needs.{needs}
-use Rattle.checking.proofs.words.linked_face.Statement.{statement}
-use Rattle.checking.proofs.words.linked_face.Tie as tie
+use Rattle.comparing.proofs.linked_face.Statement.{statement}
+use Rattle.comparing.proofs.linked_face.Tie as tie
 
 returns : tie.Need-returns
 returns c = code-face _ (c .before .before .before .before .pre) _ (sym (c .before .before .before .face-of .ensures) ∙ c .before .face .given .1)
