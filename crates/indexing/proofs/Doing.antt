@@ -11,7 +11,7 @@ use lib.ListN.{length, getD, set, length-append, length-set}
 use lib.Seq.{getD-set-same, getD-set-other}
 use borrow.Author.Tests.{eqb-true, eqb-false, eq-eqb, ne-eqb, lt-ltb}
 use Rattle.rules.specs.Lists.{each}
-use Rattle.rules.specs.Cells.{Size, cells, UNIT, has, onlyIf}
+use Rattle.rules.specs.Cells.{Size, cells, has, onlyIf}
 use Rattle.rules.specs.Mesh.{Quad, NONE, slotOf, listsOf}
 use Rattle.rules.specs.Update.{Entry, step, movedIn, highest}
 use Rattle.rules.proofs.ListLaws.{All, within, split, length-table, each-same, each-split}

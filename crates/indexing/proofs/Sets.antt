@@ -11,7 +11,7 @@ use Rattle.rules.specs.Lists.{each, only, member}
 use Rattle.rules.specs.Cells.{Size, cells, has, opposite, neighbour, keyOf}
 use Rattle.rules.specs.Mesh.{Quad, World}
 use Rattle.rules.specs.Update.{Entry, givenAt, sides}
-use Rattle.rules.proofs.ListLaws.{All, all-each, all-only, each-same, split, members, read-one, read-none}
+use Rattle.rules.proofs.ListLaws.{All, all-each, all-only, each-same, members, read-one, read-none}
 use Rattle.rules.proofs.Neighbours.{beside, opposite-lt, opposite-twice}
 use Rattle.util.specs.Grid.{Within}
 use Rattle.steps.specs.Steps.{Deed}

@@ -6,6 +6,7 @@ use face::NONE;
 use face::Quad;
 use face::face_at;
 use face::has;
+use face::lowest_side;
 use mesh_metadata::QuadIndex;
 use mesh_metadata::get_quad_index;
 use mesh_metadata::insert;
@@ -167,9 +168,9 @@ fn index_part(
     let cuts = does_cut(part);
     let first = 6 * (part % 2) as usize;
     let mut left = tally;
-    let mut rest = set;
+    let mut rest = set as u32;
     while rest != 0 {
-        let f = u8::trailing_zeros(rest);
+        let f = lowest_side(rest);
         let at = first + f as usize;
         let voxel = type_of(entry, part, face_at(f));
         left = do_face(links, slots, steps, keys[at], cuts, voxel, left);

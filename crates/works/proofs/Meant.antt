@@ -7,16 +7,14 @@ use Prim.Native.Nat.{ℕ, zero, suc, _/_, _%_, _^_, _<_}
 use native.Mathlib.Nat.{zero-div}
 use native.Mathlib.Omega.{arith}
 use lib.ListN.{getD}
-use borrow.Author.Tests.{ne-eqb}
 use Rattle.rules.specs.Lists.{each, only}
-use Rattle.rules.specs.Cells.{Size, cells, opposite, neighbour, keyOf, has, setOf}
-use Rattle.rules.specs.Mesh.{Quad, World, NONE, isNormalCube, covering, quadOf}
+use Rattle.rules.specs.Cells.{opposite, neighbour, keyOf, has, setOf}
+use Rattle.rules.specs.Mesh.{Quad, World, isNormalCube, covering, quadOf}
 use Rattle.rules.specs.Update as rule
 use Rattle.rules.specs.Update.{Entry, Change, Tested, Broken, Added, CullFaces, AddFaces, Op, put, cut, cuts, puts, ops, givenAt, sides, quads, all, isOpen, withGiven, reveal, nothing, added, workBy, work}
 use Rattle.rules.proofs.Sets.{has-setOf, setOf-lt}
-use Rattle.rules.proofs.Neighbours.{beside, opposite-lt}
-use Rattle.rules.proofs.ListLaws.{and-true, each-same, getD-table}
-use Rattle.util.specs.Grid.{Within}
+use Rattle.rules.proofs.Neighbours.{opposite-lt}
+use Rattle.rules.proofs.ListLaws.{and-true, each-same}
 use Rattle.steps.specs.Steps.{Deed, opOf, opsOf}
 use Rattle.works.specs.declared.Work.{Work}
 use Rattle.works.specs.Sets.{typesBy, sets, noWork, isShown, meantBy, meant, setIn, facing, spotsAt, asked, act, deedAt, deeds, quadIn, keysIn, quadsIn, workIn, Cubes}

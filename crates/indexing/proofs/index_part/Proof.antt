@@ -56,21 +56,22 @@ turned-to i =
 
 -- what is done there
 told : (c : tie.After-type-of Inv-loop μ-loop) →
-    let i = c .before .before in
+    let i = c .before .before .before in
     let a = begun i .args in
-    map (deedBy (i .before .before .does-cut .result) (c .type-of .result)) (spot (getD (a .keys .now) (6 * (a .part % 2) + low i) 0)) ≡ deed i (low i)
+    map (deedBy (i .before .before .does-cut .result) (c .type-of .result)) (spot (getD (a .keys .now) (6 * (a .part % 2) + c .before .before .lowest-side .result) 0)) ≡ deed i (low i)
 told c =
-    let i = c .before .before in
+    let i = c .before .before .before in
     let a = begun i .args in
+    let e = c .before .before .lowest-side .ensures in
     let x = i .before .before .does-cut .ensures in
-    let y = c .type-of .ensures ∙ ap (typeAt (entryIn (a .entry)) (a .part)) (c .before .face-at .ensures) in
-    (λ j. map (deedBy (x j) (y j)) (spot (getD (a .keys .now) (6 * (a .part % 2) + low i) 0))) ∙ ap (at-set (begun i) (low i)) (sym (rest-at (i .before .loop .inv .2) (i .loop-test .taken) refl))
+    let y = c .type-of .ensures ∙ ap (typeAt (entryIn (a .entry)) (a .part)) (c .before .face-at .ensures ∙ e) in
+    (λ j. map (deedBy (x j) (y j)) (spot (getD (a .keys .now) (6 * (a .part % 2) + e j) 0))) ∙ ap (at-set (begun i) (low i)) (sym (rest-at (i .before .loop .inv .2) (i .loop-test .taken) refl))
 
 loop-holds : tie.Need-loop-holds Inv-loop μ-loop
 loop-holds c = let t = c .before .before .before .before in (0, start (t .pre .1), rest-start (t .pre .0), refl, refl, refl)
 
 abbrev turning : tie.After-type-of Inv-loop μ-loop → tie.In-loop Inv-loop μ-loop
-turning c = c .before .before
+turning c = c .before .before .before
 
 do-face-requires : tie.Need-do-face-requires Inv-loop μ-loop
 do-face-requires c κs =
@@ -82,6 +83,9 @@ do-face-requires c κs =
 
 abbrev into : tie.After-slice-known6 Inv-loop μ-loop → tie.In-loop Inv-loop μ-loop
 into c = turning (c .before .before .before .before .before .before .before .before .before .before .before)
+
+found : (c : tie.After-lowest-side Inv-loop μ-loop) → c .lowest-side .result < 6
+found c = omega (arith, c .lowest-side .ensures, below (c .before))
 
 some : (i : tie.In-loop Inv-loop μ-loop) → 1 ≤ i .before .loop .rest
 some i = let d = i .loop-test .taken in omega arith
@@ -117,7 +121,7 @@ returns c =
 pub index-part-spec : {M : Type 1} → statement M
 index-part-spec =
     tie.close
-    (tie.spec Inv-loop μ-loop (λ c κs. search needs) (λ c. omega arith) (λ c. omega arith) loop-holds (λ c. omega (arith, below c)) (λ c. omega (arith, below c)) (λ c κs. below c)
-    (λ c κs. search needs) (λ c. omega (arith, below (c .before .before .before .before .before))) (λ c. omega (arith, below (c .before .before .before .before .before)))
+    (tie.spec Inv-loop μ-loop (λ c κs. search needs) (λ c. omega arith) (λ c. omega arith) loop-holds (λ c κs. (c .before .loop .inv .2 .few, c .loop-test .taken)) (λ c. omega (arith, found c)) (λ c. omega (arith, found c))
+    (λ c κs. found c) (λ c κs. search needs) (λ c. omega (arith, found (c .before .before .before .before .before))) (λ c. omega (arith, found (c .before .before .before .before .before)))
     do-face-requires (λ c. some (into c)) loop-less loop-again (λ c. c .before .loop .inv .3) (λ c. c .before .loop .inv .4)
     (λ c. c .before .loop .inv .5) returns)
