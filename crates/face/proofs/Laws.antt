@@ -6,7 +6,7 @@ use native.Mathlib.Omega.{arith}
 use lib.Dec.{eqb, ltb}
 use lib.Bits.{bitAnd, and-high}
 use borrow.Author.Tests.{ltb-false, eqb-true}
-use Rattle.rules.specs.Cells.{UNIT, code, linkWord, cellIn, codeIn, keyOf, linkOf}
+use Rattle.rules.specs.Cells.{UNIT, code, cellIn, codeIn}
 use Rattle.face.specs.declared.Face.{Face}
 use Rattle.face.specs.declared.Face.the-variants.{Top, Bottom, Right, Left, Back, Forward}
 use Rattle.face.specs.declared.FoundFace.the-variants as Found
@@ -65,9 +65,6 @@ word-of-high u h =
     ap faceOfWord (and-high u 3 29) ∙ word-of-code (u / UNIT % 8) ∙ ap faceOfCode (let e : u / UNIT % 8 ≡ u / UNIT = omega arith in e)
 
 -- ---- what is packed is read again
-
-pub link-key : (c f : ℕ) → f < 6 → linkOf (keyOf c f) ≡ linkWord c f
-link-key c f h = omega arith
 
 -- the face of a number
 pub face-number : (n : ℕ) (face : Face) → n < 6 → faceAt n ≡ Found.Face face → number face ≡ n
