@@ -11,24 +11,20 @@ use lib.ListN.{length, getD, set, length-append, length-set}
 use lib.Seq.{getD-set-same, getD-set-other}
 use borrow.Author.Tests.{eqb-true, eqb-false, eq-eqb, ne-eqb, lt-ltb}
 use Rattle.rules.specs.Lists.{each}
-use Rattle.rules.specs.Cells.{Size, cells, has, onlyIf}
+use Rattle.rules.specs.Cells.{onlyIf}
 use Rattle.rules.specs.Mesh.{Quad, NONE, slotOf, listsOf}
-use Rattle.rules.specs.Update.{Entry, step, movedIn, highest}
+use Rattle.rules.specs.Update.{step, movedIn, highest}
 use Rattle.rules.proofs.ListLaws.{All, within, split, length-table, each-same, each-split}
 use Rattle.rules.proofs.Quads.{moved-le}
 use Rattle.rules.proofs.Laying.{length-links}
 use Rattle.mesh_metadata.specs.Index.{Linked, vertexOf}
 use Rattle.mesh_metadata.proofs.Layouts as layouts
-use Rattle.util.specs.Grid.{Within}
 use Rattle.steps.specs.Steps.{Step, came, CUT, stepIn, stepAt, stepsIn, Deed, show, hide, quadBy, opOf, opsOf}
 use Rattle.steps.proofs.Replaying.{highest-ge}
 use Rattle.steps.proofs.Turning.{Piecewise}
-use Rattle.works.specs.declared.Work.{Work}
-use Rattle.works.specs.Sets.{setIn, keysAround, spot, spotIn, spotsAt, cutting, typeAt, act, asked, deedBy, deedAt, deeds}
-use Rattle.works.proofs.Works.{does, spot-is}
+use Rattle.works.specs.Sets.{spot, deedBy}
 use Rattle.indexing.specs.declared.Tally.{Tally}
-use Rattle.indexing.specs.Index.{Index, indexOf, slotIn, goneAt, cameAt, indexOne, indexRun, deedFor, deedsFor, bookOf, Good, Ready, Removable, Drawable}
-use Rattle.indexing.proofs.Sets.{asked-one}
+use Rattle.indexing.specs.Index.{Index, indexOf, slotIn, goneAt, cameAt, indexOne, indexRun, bookOf, Good, Ready, Removable, Drawable}
 use Rattle.indexing.proofs.Booking.{sane-one, one-booked}
 
 pub same-index : {l l′ s s′ : List ℕ} {q q′ v v′ h h′ : ℕ} {x x′ : List Step} → l ≡ l′ → s ≡ s′ → q ≡ q′ → v ≡ v′ → h ≡ h′ → x ≡ x′
@@ -250,36 +246,9 @@ run-append (d ∷ a) b B = run-append a b (indexOne d B)
 pub piecewise : (space : ℕ) → Piecewise indexRun (Ready space)
 piecewise space = record { joined = run-append; front = ready-front; rest = ready-rest }
 
--- a part asks for one deed at a face, or none
-few-deeds : (s : Size) (e : Entry) (set j f : ℕ) → length (deedAt s e set j f) ≤ 1
-few-deeds s e set j f = asked-one s (e .cell) set j f (λ ks. length (map (act e j f) ks) ≤ 1) (omega arith) (λ k _. omega arith)
-
-each-few : (m n i : ℕ) (p : ℕ → List Deed) → ((k : ℕ) → length (p k) ≤ m) → length (each n i p) ≤ m * n
-unfolding each
-each-few m zero i p h = omega arith
-each-few m (suc n) i p h = omega (arith, length-append (p i) (each n (suc i) p), each-few m n (suc i) p h, h i)
-
--- LAW: an entry's work is 24 deeds at most
-pub all-few : (s : Size) (e : Entry) (w : Work) → length (deeds s e w) ≤ 24
-all-few s e w = each-few 6 4 0 (λ j. each 6 0 (deedAt s e (setIn w j) j)) (λ j. each-few 1 6 0 (deedAt s e (setIn w j) j) (few-deeds s e (setIn w j) j))
-
 -- ---- the faces that the code finds
 pub no-spot : (k : ℕ) → k ≡ NONE → spot k ≡ []
 no-spot k e = rw (eq-eqb k NONE e)
 
 pub one-spot : (k : ℕ) → (k ≡ NONE → ⊥) → spot k ≡ k ∷ []
 one-spot k d = rw (ne-eqb k NONE d)
-
--- LAW: what is done by the keys around is the work
-pub deeds-told : (s : Size) (e : Entry) (w : Work) → Within s → e .cell < cells s → deedsFor (keysAround s (e .cell)) e w ≡ deeds s e w
-unfolding asked
-deeds-told s e w grid here =
-    each-same 4 0 (λ j. each 6 0 (deedFor (keysAround s (e .cell)) e (setIn w j) j)) (λ j. each 6 0 (deedAt s e (setIn w j) j))
-    (λ j _ _. each-same 6 0 (deedFor (keysAround s (e .cell)) e (setIn w j) j) (deedAt s e (setIn w j) j) (λ f _ l. one j f (omega arith)))
-  where
-    one : (j f : ℕ) → f < 6 → deedFor (keysAround s (e .cell)) e (setIn w j) j f ≡ deedAt s e (setIn w j) j f
-    one j f l =
-        let x = spot-is s (e .cell) grid here j f l in
-        let a : map (deedBy (cutting j) (typeAt e j f)) (spotIn (keysAround s (e .cell)) j f) ≡ map (act e j f) (spotsAt s (e .cell) j f) = (λ i. map (λ k. does e j f k i) (x i)) in
-        split (λ on. cond on (map (deedBy (cutting j) (typeAt e j f)) (spotIn (keysAround s (e .cell)) j f)) [] ≡ map (act e j f) (cond on (spotsAt s (e .cell) j f) [])) (has (setIn w j) f)
-        (λ s. a) (λ s. refl)

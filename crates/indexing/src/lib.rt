@@ -29,9 +29,9 @@ ghost use Rattle.rules.specs.Cells.{UNIT};
 ghost use Rattle.rules.proofs.ListLaws.{All};
 ghost use Rattle.face.specs.Face.{number};
 ghost use Rattle.entries.specs.Log.{entryIn};
-ghost use Rattle.works.specs.Sets.{setIn, spot, deedBy};
+ghost use Rattle.works.specs.Sets.{setIn, spot, deedBy, deedAt, deeds};
 ghost use Rattle.indexing.specs.Room.{isEmptyAt, growthAt, quadsNeeded, Gridded};
-ghost use Rattle.indexing.specs.Index.{indexOf, goneAt, cameAt, indexRun, deedFor, deedsFor, Ready, Removable, Drawable};
+ghost use Rattle.indexing.specs.Index.{indexOf, goneAt, cameAt, indexRun, Ready, Removable, Drawable};
 
 // The number of quads, how many have changed their place, the highest number of quads on the way, and the number of steps.
 pub struct Tally {
@@ -161,9 +161,9 @@ fn index_part(
     part: u32,
     tally: Tally,
 ) -> Tally
-    requires { ⌜ (set < 64) × Ready (length (now steps)) (each 6 0 (deedFor (now keys) (entryIn entry) set part)) (indexOf (now links) (now slots) (now steps) tally) ⌝ }
+    requires { ⌜ (set < 64) × Ready (length (now steps)) (each 6 0 (deedAt (now keys) (entryIn entry) set part)) (indexOf (now links) (now slots) (now steps) tally) ⌝ }
     ensures { λ r. ⌜ indexOf (now (links .exit)) (now (slots .exit)) (now (steps .exit)) r
-        ≡ indexRun (each 6 0 (deedFor (now (keys .entry)) (entryIn entry) set part)) (indexOf (now (links .entry)) (now (slots .entry)) (now (steps .entry)) tally) ⌝ }
+        ≡ indexRun (each 6 0 (deedAt (now (keys .entry)) (entryIn entry) set part)) (indexOf (now (links .entry)) (now (slots .entry)) (now (steps .entry)) tally) ⌝ }
 {
     let cuts = does_cut(part);
     let first = 6 * (part % 2) as usize;
@@ -189,9 +189,9 @@ pub fn index_work(
     work: Work,
     tally: Tally,
 ) -> Tally
-    requires { ⌜ ((j : ℕ) → setIn work j < 64) × Ready (length (now steps)) (deedsFor (now keys) (entryIn entry) work) (indexOf (now links) (now slots) (now steps) tally) ⌝ }
+    requires { ⌜ ((j : ℕ) → setIn work j < 64) × Ready (length (now steps)) (deeds (now keys) (entryIn entry) work) (indexOf (now links) (now slots) (now steps) tally) ⌝ }
     ensures { λ r. ⌜ indexOf (now (links .exit)) (now (slots .exit)) (now (steps .exit)) r
-        ≡ indexRun (deedsFor (now (keys .entry)) (entryIn entry) work) (indexOf (now (links .entry)) (now (slots .entry)) (now (steps .entry)) tally) ⌝ }
+        ≡ indexRun (deeds (now (keys .entry)) (entryIn entry) work) (indexOf (now (links .entry)) (now (slots .entry)) (now (steps .entry)) tally) ⌝ }
 {
     let mut left = tally;
     let mut part: u32 = 0;

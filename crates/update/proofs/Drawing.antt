@@ -1,7 +1,7 @@
 -- What an entry draws are cubes of the registry, on faces of the grid. Assumes nothing.
 use mathlib.Core.Path.{_≡_, sym, subst}
 use mathlib.Core.Logic.{⊎-elim}
-use mathlib.Core.Bool.{true}
+use mathlib.Core.Bool.{Bool, true, false}
 use mathlib.Core.List.{List, []}
 use Prim.Native.Nat.{ℕ, zero, suc, _*_, _/_, _%_, _<_}
 use native.Mathlib.Omega.{arith}
@@ -25,7 +25,7 @@ use Rattle.lent.specs.Scenes.{Typed}
 use Rattle.steps.specs.Steps.{Able}
 use Rattle.steps.specs.Rows.{wordsBy, Shaped, Drawn}
 use Rattle.works.specs.declared.Work.{Work}
-use Rattle.works.specs.Sets.{setIn, act, deeds, Cubes}
+use Rattle.works.specs.Sets.{setIn, keysAround, cutting, typeAt, deedBy, deeds, Cubes}
 use Rattle.indexing.specs.Index.{Good}
 use Rattle.indexing.proofs.Sets.{all-deeds}
 
@@ -61,21 +61,20 @@ module _ (S : Scene) (k : Typed S) where
 
   module _ (w : Within (S .size)) (e : Entry) (h : e .cell < cells (S .size)) (v : Work) where
     -- LAW: every deed is on a face of the grid, and its words are as long as a quad's
-    pub deeds-good : All (Good (wordsBy (bare S)) (faces S) (span S)) (deeds (S .size) e v)
-    deeds-good = all-deeds (world S) e w h (Good (wordsBy (bare S)) (faces S) (span S)) v (λ j f k l on i. good j f k i)
+    pub deeds-good : All (Good (wordsBy (bare S)) (faces S) (span S)) (deeds (keysAround (S .size) (e .cell)) e v)
+    deeds-good = all-deeds (S .size) e w h (Good (wordsBy (bare S)) (faces S) (span S)) v (λ j f k _ _ _ i. good (cutting j) (typeAt e j f) k i)
       where
-        good : (j f k : ℕ) → k < 6 * cells (S .size) → Good (wordsBy (bare S)) (faces S) (span S) (act e j f k)
-        good zero f k i = i
-        good (suc zero) f k i = (i, words-sized S (givenAt e f) (k % 6) (k / 6))
-        good (suc (suc zero)) f k i = (i, words-sized S (e .type) (k % 6) (k / 6))
-        good (suc (suc (suc j))) f k i = i
+        good : (cuts : Bool) (t k : ℕ) → k < 6 * cells (S .size) → Good (wordsBy (bare S)) (faces S) (span S) (deedBy cuts t k)
+        good true t k i = i
+        good false t k i = (i, words-sized S t (k % 6) (k / 6))
 
     -- LAW: what is drawn can be
-    pub deeds-able : Cubes (S .types .kinds) e v → All (Able (Drawn (bare S))) (deeds (S .size) e v)
-    deeds-able c = all-deeds (world S) e w h (Able (Drawn (bare S))) v able
+    pub deeds-able : Cubes (S .types .kinds) e v → All (Able (Drawn (bare S))) (deeds (keysAround (S .size) (e .cell)) e v)
+    deeds-able c = all-deeds (S .size) e w h (Able (Drawn (bare S))) v able
       where
-        able : (j f k : ℕ) → f < 6 → has (setIn v j) f ≡ true → k < 6 * cells (S .size) → Able (Drawn (bare S)) (act e j f k)
-        able zero f k l on i = tt
-        able (suc zero) f k l on i = (omega arith, shaped (givenAt e f) (c .shown f l on))
-        able (suc (suc zero)) f k l on i = (omega arith, shaped (e .type) (c .drawn f l on))
-        able (suc (suc (suc j))) f k l on i = tt
+        able : (j f k : ℕ) → j < 4 → f < 6 → has (setIn v j) f ≡ true → k < 6 * cells (S .size) → Able (Drawn (bare S)) (deedBy (cutting j) (typeAt e j f) k)
+        able zero f k _ l on i = tt
+        able (suc zero) f k _ l on i = (omega arith, shaped (givenAt e f) (c .shown f l on))
+        able (suc (suc zero)) f k _ l on i = (omega arith, shaped (e .type) (c .drawn f l on))
+        able (suc (suc (suc zero))) f k _ l on i = tt
+        able (suc (suc (suc (suc j)))) f k b l on i = absurd (omega arith)

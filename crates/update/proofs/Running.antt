@@ -24,14 +24,13 @@ use Rattle.steps.specs.Steps.{Step, Deed, stepsIn, Shelf, shelf, replayed, quad
 use Rattle.steps.proofs.Replaying.{replay-run}
 use Rattle.steps.specs.Rows.{wordsBy, Drawn, Replaying}
 use Rattle.works.specs.declared.Work.{Work}
-use Rattle.works.specs.Sets.{meant, setIn, keysAround, spotIn, workIn, deeds, Cubes}
-use Rattle.works.proofs.Works.{spot-is}
-use Rattle.works.proofs.Meant.{meant-work, meant-cubes, meant-few, deeds-ops}
-use Rattle.indexing.specs.Index.{Index, indexRun, deedsFor, bookOf, Good, Ready}
+use Rattle.works.specs.Sets.{meant, setIn, keysAround, spotIn, deeds, Cubes}
+use Rattle.works.proofs.Meant.{Means, meant-work, meant-cubes, meant-few, deeds-ops}
+use Rattle.indexing.specs.Index.{Index, indexRun, bookOf, Good, Ready}
 use Rattle.indexing.specs.Room.{isEmpty, quadsNeeded, Gridded}
-use Rattle.indexing.proofs.Sets.{spots-inside}
+use Rattle.indexing.proofs.Sets.{all-few, spots-inside}
 use Rattle.indexing.proofs.Booking.{slot-none, run-booked}
-use Rattle.indexing.proofs.Doing.{all-few, ready-run, deeds-told}
+use Rattle.indexing.proofs.Doing.{ready-run}
 use Rattle.indexing.proofs.Room.{needed-counted}
 use Rattle.update.specs.Runs.{Ended, laidOut, meshIn, courseIn, Holds, Logging}
 use Rattle.update.proofs.Drawing.{bare, deeds-good, deeds-able}
@@ -123,11 +122,8 @@ module _ (tested : Tested) {S : Scene} {room : ℕ} {log vs₀ ls₀ ss₀ : Lis
 
       -- ---- the entry's sets, and the keys around its cell
       module _ {w : Work} {ks : List ℕ} (w-is : w ≡ meant tested (world S) e) (ks-are : ks ≡ keysAround (S .size) (e .cell)) where
-        is : workIn (world S) e w ≡ works k
-        is = ap (workIn (world S) e) w-is ∙ meant-work (world S) e tested ∙ ap (work tested (world S)) at
-
-        same : deedsFor ks e w ≡ deeds (S .size) e w
-        same = ap (λ (x : List ℕ). deedsFor x e w) ks-are ∙ deeds-told (S .size) e w (g .within) run-inside
+        means : Means (world S) e w (works k)
+        means = subst (λ (x : Work × Entry). Means (world S) e (x .0) (work tested (world S) (x .1))) (λ i. (sym w-is i, at i)) (meant-work (world S) e (g .within) run-inside tested)
 
         pub run-sets : (j : ℕ) → setIn w j < 64
         run-sets j = subst (λ (x : Work). setIn x j < 64) (sym w-is) (meant-few (world S) e tested j)
@@ -140,33 +136,28 @@ module _ (tested : Tested) {S : Scene} {room : ℕ} {log vs₀ ls₀ ss₀ : Lis
             let n = sym length-slots in
             record {
               small = omega arith;
-              all = λ j f l. subst (λ (x : ℕ × List ℕ). All (λ k. k < x .0) (x .1)) (λ i. (n i, sym (ap (λ (x : List ℕ). spotIn x j f) ks-are ∙ spot-is (S .size) (e .cell) (g .within) run-inside j f l) i))
-                  (spots-inside (world S) e (g .within) run-inside j f l);
+              all = λ j f l. subst (λ (x : ℕ × List ℕ). All (λ k. k < x .0) (spotIn (x .1) j f)) (λ i. (n i, sym ks-are i)) (spots-inside (S .size) e (g .within) run-inside j f l);
             }
 
         pub run-needed : quadsNeeded ss ks w q ≡ needed (works k) m
         run-needed =
-            ap (quadsNeeded ss ks w) (r .holds .count) ∙ ap (λ (x : List ℕ). quadsNeeded ss x w (length m)) ks-are
-            ∙ needed-counted m (world S) e w ss told (g .within) run-inside (sane .once) ∙ ap (λ (x : rule.Work). needed x m) is
+            (λ i. quadsNeeded ss (ks-are i) w (r .holds .count i)) ∙ needed-counted m (sane .once) (world S) e w ss told (g .within) run-inside means
 
         -- ---- an entry that finds its room
         module _ (fit : needed (works k) m ≤ room) (xs : List ℕ) (long : length xs ≡ 48) where
           abbrev ds : List Deed
-          ds = deedsFor ks e w
-
-          on-faces : (P : Deed → Type 0) → All P (deeds (S .size) e w) → All P ds
-          on-faces P = subst (All P) (sym same)
+          ds = deeds ks e w
 
           good : All (Good (wordsBy (bare S)) (faces S) (span S)) ds
-          good = on-faces (Good (wordsBy (bare S)) (faces S) (span S)) (deeds-good S (g .typed) (g .within) e run-inside w)
+          good = subst (λ (x : List ℕ). All (Good (wordsBy (bare S)) (faces S) (span S)) (deeds x e w)) (sym ks-are) (deeds-good S (g .typed) (g .within) e run-inside w)
 
           able : All (Able (Drawn (bare S))) ds
           able =
-              on-faces (Able (Drawn (bare S)))
+              subst (λ (x : List ℕ). All (Able (Drawn (bare S))) (deeds x e w)) (sym ks-are)
               (deeds-able S (g .typed) (g .within) e run-inside w (subst (Cubes (S .types .kinds) e) (sym w-is) (meant-cubes (world S) e tested)))
 
           as-ops : opsOf (quadBy (wordsBy (bare S))) ds ≡ ops (works k)
-          as-ops = ap (opsOf (quadBy (wordsBy (bare S)))) same ∙ deeds-ops (world S) e w ∙ ap ops is
+          as-ops = ap (λ (x : List ℕ). opsOf (quadBy (wordsBy (bare S))) (deeds x e w)) ks-are ∙ deeds-ops means
 
           fits-deeds : highest h (opsOf (quadBy (wordsBy (bare S))) ds) m ≤ room
           fits-deeds =
@@ -180,8 +171,7 @@ module _ (tested : Tested) {S : Scene} {room : ℕ} {log vs₀ ls₀ ss₀ : Lis
           run-ready =
               let few = g .few in
               let mv = r .moves in
-              let a = all-few (S .size) e w in
-              let c = ap length same in
+              let a = all-few ks e w in
               record {
                 words = wordsBy (bare S);
                 span = span S;

@@ -6,18 +6,21 @@ use mathlib.Core.Option.{Option, none, some}
 use Prim.Native.Nat.{ℕ, zero, suc, _/_, _%_, _^_, _<_}
 use native.Mathlib.Nat.{zero-div}
 use native.Mathlib.Omega.{arith}
-use lib.ListN.{getD}
+use lib.ListN.{length, getD}
 use Rattle.rules.specs.Lists.{each, only}
-use Rattle.rules.specs.Cells.{opposite, neighbour, keyOf, has, setOf}
+use Rattle.rules.specs.Cells.{cells, opposite, neighbour, keyOf, has, setOf}
 use Rattle.rules.specs.Mesh.{Quad, World, isNormalCube, covering, quadOf}
 use Rattle.rules.specs.Update as rule
-use Rattle.rules.specs.Update.{Entry, Change, Tested, Broken, Added, CullFaces, AddFaces, Op, put, cut, cuts, puts, ops, givenAt, sides, quads, all, isOpen, withGiven, reveal, nothing, added, workBy, work}
+use Rattle.rules.specs.Update.{Entry, Change, Tested, Broken, Added, CullFaces, AddFaces, Op, put, cut, run, cuts, puts, ops, needed, givenAt, sides, quads, all, isOpen, withGiven, reveal, nothing, added, workBy, work}
 use Rattle.rules.proofs.Sets.{has-setOf, setOf-lt}
 use Rattle.rules.proofs.Neighbours.{opposite-lt}
 use Rattle.rules.proofs.ListLaws.{and-true, each-same}
-use Rattle.steps.specs.Steps.{Deed, opOf, opsOf}
+use Rattle.rules.proofs.Quads.{run-append}
+use Rattle.util.specs.Grid.{Within}
+use Rattle.steps.specs.Steps.{opOf, opsOf}
 use Rattle.works.specs.declared.Work.{Work}
-use Rattle.works.specs.Sets.{typesBy, sets, noWork, isShown, meantBy, meant, setIn, facing, spotsAt, asked, act, deedAt, deeds, quadIn, keysIn, quadsIn, workIn, Cubes}
+use Rattle.works.specs.Sets.{typesBy, sets, noWork, isShown, meantBy, meant, setIn, keysAround, spotIn, cutting, typeAt, deedBy, deedAt, deeds, quadIn, Cubes}
+use Rattle.works.proofs.Works.{facing, own-spot, near-spot}
 
 -- ---- lists made face by face
 pub map-each : {A B : Type 0} (g : A → B) (n i : ℕ) (p : ℕ → List A) → map g (each n i p) ≡ each n i (λ k. map g (p k))
@@ -25,113 +28,121 @@ unfolding each
 map-each g zero i p = refl
 map-each {B = B} g (suc n) i p = map-append g (p i) (each n (suc i) p) ∙ ap (λ (r : List B). map g (p i) ++ r) (map-each g n (suc i) p)
 
-through : {A B C : Type 0} (g : B → C) (h : A → B) (k : A → C) → ((x : A) → g (h x) ≡ k x) → (xs : List A) → map g (map h xs) ≡ map k xs
-through g h k e [] = refl
-through g h k e (x ∷ xs) = let a = e x in let b = through g h k e xs in λ i. a i ∷ b i
-
 -- nothing is in the empty set
-pub zero-has : (f : ℕ) → has 0 f ≡ false
+zero-has : (f : ℕ) → has 0 f ≡ false
 zero-has f = rw (zero-div (2 ^ f))
 
-module _ (W : World) (e : Entry) where
+-- a part with its set, as operations
+abbrev pub partOps : World → Entry → ℕ → ℕ → List Op
+partOps W e set j = opsOf (quadIn W) (each 6 0 (deedAt (keysAround (W .size) (e .cell)) e set j))
+
+-- what the parts of a work do is the rule's work
+pub record Means (W : World) (e : Entry) (w : Work) (R : rule.Work) : Type 0 where
+  pub own : partOps W e (w .own) 0 ≡ cuts (R .own)
+  pub new : partOps W e (w .shown) 1 ++ partOps W e (w .drawn) 2 ≡ puts (R .new)
+  pub facing : partOps W e (w .hidden) 3 ≡ cuts (R .facing)
+
+module _ (W : World) (e : Entry) (grid : Within (W .size)) (inside : e .cell < cells (W .size)) where
+  abbrev spots : ℕ → ℕ → List ℕ
+  spots = spotIn (keysAround (W .size) (e .cell))
+
   abbrev beyond : ℕ → Option ℕ
   beyond f = neighbour (W .size) (e .cell) f
 
-  abbrev spots : ℕ → ℕ → List ℕ
-  spots = spotsAt (W .size) (e .cell)
+  abbrev on : ℕ → ℕ → Bool → List ℕ → List Op
+  on j f b ks = cond b (opsOf (quadIn W) (map (deedBy (cutting j) (typeAt e j f)) ks)) []
 
-  -- a part, whose set's sides are those of which p holds
-  module _ (w : Work) (j : ℕ) (p : ℕ → Bool) (h : setIn w j ≡ setOf p) where
-    asked-is : (f : ℕ) → f < 6 → asked (W .size) (e .cell) (setIn w j) j f ≡ cond (p f) (spots j f) []
-    unfolding asked
-    asked-is f l = let b : has (setIn w j) f ≡ p f = ap (λ (n : ℕ). has n f) h ∙ has-setOf p f l in λ i. cond (b i) (spots j f) []
-
-    keys-are : keysIn (W .size) (e .cell) w j ≡ each 6 0 (λ f. cond (p f) (spots j f) [])
-    keys-are = each-same 6 0 (asked (W .size) (e .cell) (setIn w j) j) (λ f. cond (p f) (spots j f) []) (λ f _ l. asked-is f (omega arith))
-
-    quads-are : (t : ℕ → ℕ) → quadsIn W (e .cell) w j t ≡ each 6 0 (λ f. map (λ k. quadIn W k (t f)) (cond (p f) (spots j f) []))
-    quads-are t =
-        each-same 6 0 (λ f. map (λ k. quadIn W k (t f)) (asked (W .size) (e .cell) (setIn w j) j f)) (λ f. map (λ k. quadIn W k (t f)) (cond (p f) (spots j f) []))
-        (λ f _ l. ap (map (λ k. quadIn W k (t f))) (asked-is f (omega arith)))
-
-  one-quad : (b : Bool) (c f t : ℕ) → f < 6 → map (λ k. quadIn W k t) (only b (keyOf c f)) ≡ only b (quadOf W t c f)
-  one-quad true c f t h = let a : keyOf c f % 6 ≡ f = omega arith in let b : keyOf c f / 6 ≡ c = omega arith in rw (a, b)
-  one-quad false c f t h = refl
-
-  own-quads : (p : ℕ → Bool) (w : Work) → w .drawn ≡ setOf p → quadsIn W (e .cell) w 2 (λ f. e .type) ≡ quads W (e .type) (e .cell) p
-  own-quads p w h =
-      quads-are w 2 p h (λ f. e .type)
-      ∙ each-same 6 0 (λ f. map (λ k. quadIn W k (e .type)) (only (p f) (keyOf (e .cell) f))) (λ f. only (p f) (quadOf W (e .type) (e .cell) f))
-      (λ f _ l. one-quad (p f) (e .cell) f (e .type) (omega arith))
-
-  abbrev shows : ℕ → Bool
-  shows i = covering W (e .type) i && isNormalCube W (givenAt e i)
-
-  shown-quads : each 6 0 (λ i. map (λ k. quadIn W k (givenAt e i)) (cond (shows i) (spots 1 i) [])) ≡ each 6 0 (λ i. reveal W (e .type) (givenAt e i) i (beyond i))
-  shown-quads =
-      each-same 6 0 (λ i. map (λ k. quadIn W k (givenAt e i)) (cond (shows i) (spots 1 i) [])) (λ i. reveal W (e .type) (givenAt e i) i (beyond i))
-      (λ i _ l. one i (omega arith) (shows i) refl (beyond i))
+  -- a part whose sides are those of which p holds, face by face
+  part-is : (j set : ℕ) (p : ℕ → Bool) (os : ℕ → List Op) → ((f : ℕ) → f < 6 → has set f ≡ p f) → ((f : ℕ) → f < 6 → (b : Bool) → p f ≡ b → on j f b (spots j f) ≡ os f) → partOps W e set j ≡ each 6 0 os
+  part-is j set p os h is =
+      map-each (opOf (quadIn W)) 6 0 (deedAt (keysAround (W .size) (e .cell)) e set j)
+      ∙ each-same 6 0 (λ f. opsOf (quadIn W) (deedAt (keysAround (W .size) (e .cell)) e set j f)) os (λ f _ l. within f (has set f) ∙ is f (omega arith) (has set f) (sym (h f (omega arith))))
     where
-      one : (i : ℕ) → i < 6 → (b : Bool) → shows i ≡ b → (o : Option ℕ) → map (λ k. quadIn W k (givenAt e i)) (cond b (facing i o) []) ≡ reveal W (e .type) (givenAt e i) i o
-      one i l true h none = refl
-      one i l false h none = refl
-      one i l b h (some n) = one-quad b n (opposite i) (givenAt e i) (opposite-lt i l) ∙ ap (λ (b : Bool). only b (quadOf W (givenAt e i) n (opposite i))) (sym h)
+      within : (f : ℕ) (b : Bool) → opsOf (quadIn W) (cond b (map (deedBy (cutting j) (typeAt e j f)) (spots j f)) []) ≡ on j f b (spots j f)
+      within f true = refl
+      within f false = refl
 
-  hidden-keys : (tested : Tested) → each 6 0 (λ f. cond (covering W (e .type) (tested f)) (spots 1 f) []) ≡ each 6 0 (λ i. rule.hide tested W (e .type) i (beyond i))
-  hidden-keys tested = each-same 6 0 (λ f. cond (covering W (e .type) (tested f)) (spots 1 f) []) (λ i. rule.hide tested W (e .type) i (beyond i)) (λ f _ l. one f (covering W (e .type) (tested f)) refl (beyond f))
+  quad-at : (t c f : ℕ) → f < 6 → quadIn W (keyOf c f) t ≡ quadOf W t c f
+  quad-at t c f h = let a : keyOf c f % 6 ≡ f = omega arith in let b : keyOf c f / 6 ≡ c = omega arith in rw (a, b)
+
+  pub own-cut : (set : ℕ) (p : ℕ → Bool) → ((f : ℕ) → f < 6 → has set f ≡ p f) → partOps W e set 0 ≡ cuts (sides (e .cell) p)
+  own-cut set p h =
+      part-is 0 set p (λ f. map cut (only (p f) (keyOf (e .cell) f))) h (λ f l b q. ap (on 0 f b) (own-spot (W .size) (e .cell) grid inside 0 f refl l) ∙ one f b ∙ ap (λ (b : Bool). map cut (only b (keyOf (e .cell) f))) (sym q))
+      ∙ sym (map-each cut 6 0 (λ f. only (p f) (keyOf (e .cell) f)))
     where
-      one : (i : ℕ) (b : Bool) → covering W (e .type) (tested i) ≡ b → (o : Option ℕ) → cond b (facing i o) [] ≡ rule.hide tested W (e .type) i o
-      one i true h none = refl
-      one i false h none = refl
-      one i b h (some n) = ap (λ (b : Bool). only b (keyOf n (opposite i))) (sym h)
+      one : (f : ℕ) (b : Bool) → on 0 f b (keyOf (e .cell) f ∷ []) ≡ map cut (only b (keyOf (e .cell) f))
+      one f true = refl
+      one f false = refl
 
-  same-work : {a a′ c c′ : List ℕ} {b b′ d : List Quad} → a ≡ a′ → b ≡ b′ → d ≡ [] → c ≡ c′
-      → _≡_ {A = rule.Work} (record { own = a; new = b ++ d; facing = c }) (record { own = a′; new = b′; facing = c′ })
-  same-work {b = b} a n d c = let m = ap (λ (r : List Quad). b ++ r) d ∙ append-nil b ∙ n in λ i. record { own = a i; new = m i; facing = c i }
+  own-put : (p : ℕ → Bool) → partOps W e (setOf p) 2 ≡ puts (quads W (e .type) (e .cell) p)
+  own-put p =
+      part-is 2 (setOf p) p (λ f. map put (only (p f) (quadOf W (e .type) (e .cell) f))) (has-setOf p) (λ f l b q. ap (on 2 f b) (own-spot (W .size) (e .cell) grid inside 2 f refl l) ∙ one f l b ∙ ap (λ (b : Bool). map put (only b (quadOf W (e .type) (e .cell) f))) (sym q))
+      ∙ sym (map-each put 6 0 (λ f. only (p f) (quadOf W (e .type) (e .cell) f)))
+    where
+      one : (f : ℕ) → f < 6 → (b : Bool) → on 2 f b (keyOf (e .cell) f ∷ []) ≡ map put (only b (quadOf W (e .type) (e .cell) f))
+      one f l true = ap (λ (q : Quad). put q ∷ []) (quad-at (e .type) (e .cell) f l)
+      one f l false = refl
 
-  same-own : {a a′ c c′ : List ℕ} {b b′ d : List Quad} → a ≡ a′ → b ≡ b′ → d ≡ [] → c ≡ c′
-      → _≡_ {A = rule.Work} (record { own = a; new = d ++ b; facing = c }) (record { own = a′; new = b′; facing = c′ })
-  same-own {b = b} a n d c = let m = ap (λ (r : List Quad). r ++ b) d ∙ n in λ i. record { own = a i; new = m i; facing = c i }
+  near-put : partOps W e (setOf (λ i. covering W (e .type) i && isNormalCube W (givenAt e i))) 1 ≡ puts (each 6 0 (λ i. reveal W (e .type) (givenAt e i) i (beyond i)))
+  near-put =
+      part-is 1 _ (λ i. covering W (e .type) i && isNormalCube W (givenAt e i)) (λ i. map put (reveal W (e .type) (givenAt e i) i (beyond i))) (has-setOf (λ i. covering W (e .type) i && isNormalCube W (givenAt e i)))
+      (λ f l b q. ap (on 1 f b) (near-spot (W .size) (e .cell) grid inside 1 f refl l) ∙ one f l b q (beyond f)) ∙ sym (map-each put 6 0 (λ i. reveal W (e .type) (givenAt e i) i (beyond i)))
+    where
+      one : (f : ℕ) → f < 6 → (b : Bool) → (covering W (e .type) f && isNormalCube W (givenAt e f)) ≡ b → (o : Option ℕ) → on 1 f b (facing f o) ≡ map put (reveal W (e .type) (givenAt e f) f o)
+      one f l true q none = refl
+      one f l false q none = refl
+      one f l true q (some n) = rw q (ap (λ (x : Quad). put x ∷ []) (quad-at (givenAt e f) n (opposite f) (opposite-lt f l)))
+      one f l false q (some n) = rw q
 
-  abbrev none-of : ℕ → Bool
-  none-of f = false
+  near-cut : (tested : Tested) → partOps W e (setOf (λ i. covering W (e .type) (tested i))) 3 ≡ cuts (each 6 0 (λ i. rule.hide tested W (e .type) i (beyond i)))
+  near-cut tested =
+      part-is 3 _ (λ i. covering W (e .type) (tested i)) (λ i. map cut (rule.hide tested W (e .type) i (beyond i))) (has-setOf (λ i. covering W (e .type) (tested i)))
+      (λ f l b q. ap (on 3 f b) (near-spot (W .size) (e .cell) grid inside 3 f refl l) ∙ one f b q (beyond f)) ∙ sym (map-each cut 6 0 (λ i. rule.hide tested W (e .type) i (beyond i)))
+    where
+      one : (f : ℕ) (b : Bool) → covering W (e .type) (tested f) ≡ b → (o : Option ℕ) → on 3 f b (facing f o) ≡ map cut (rule.hide tested W (e .type) f o)
+      one f true q none = refl
+      one f false q none = refl
+      one f true q (some n) = rw q
+      one f false q (some n) = rw q
 
-  no-keys : (w : Work) (j : ℕ) → setIn w j ≡ 0 → keysIn (W .size) (e .cell) w j ≡ []
+  idle : (j : ℕ) → partOps W e 0 j ≡ []
   unfolding each
-  no-keys w j h = keys-are w j none-of h
+  idle j = part-is j 0 (λ f. false) (λ f. []) (λ f l. zero-has f) (λ f l b q. ap (λ (b : Bool). on j f b (spots j f)) (sym q))
 
-  no-quads : (w : Work) (j : ℕ) (t : ℕ → ℕ) → setIn w j ≡ 0 → quadsIn W (e .cell) w j t ≡ []
-  unfolding each
-  no-quads w j t h = quads-are w j none-of h t
+  idle-means : Means W e noWork nothing
+  idle-means = record { own = idle 0; new = (λ i. idle 1 i ++ idle 2 i); facing = idle 3 }
 
-  idle-work : workIn W e noWork ≡ nothing
-  unfolding workIn
-  idle-work = same-work (no-keys noWork 0 refl) (no-quads noWork 1 (givenAt e) refl) (no-quads noWork 2 (λ f. e .type) refl) (no-keys noWork 3 refl)
-
-  by-change : (tested : Tested) (k : Change) → workIn W e (meantBy tested W e k) ≡ workBy tested W e k
-  unfolding workIn
-  by-change tested Broken =
-      let w = meantBy tested W e Broken in
-      same-work (keys-are w 0 all refl) (quads-are w 1 shows refl (givenAt e) ∙ shown-quads) (no-quads w 2 (λ f. e .type) refl) (no-keys w 3 refl)
+  by-change : (tested : Tested) (k : Change) → Means W e (meantBy tested W e k) (workBy tested W e k)
+  by-change tested Broken = record { own = own-cut 63 all (has-setOf all); new = (λ i. near-put i ++ idle 2 i) ∙ append-nil _; facing = idle 3 }
   by-change tested Added = pick (isNormalCube W (e .type))
     where
-      pick : (b : Bool) → workIn W e (cond b (sets 63 0 (setOf (isOpen W e)) (setOf (λ i. covering W (e .type) (tested i)))) noWork) ≡ cond b (added tested W e) nothing
-      pick true =
-          let w = sets 63 0 (setOf (isOpen W e)) (setOf (λ i. covering W (e .type) (tested i))) in
-          same-own (keys-are w 0 all refl) (own-quads (isOpen W e) w refl) (no-quads w 1 (givenAt e) refl) (keys-are w 3 (λ i. covering W (e .type) (tested i)) refl ∙ hidden-keys tested)
-      pick false = idle-work
-  by-change tested CullFaces =
-      let w = meantBy tested W e CullFaces in
-      same-work (keys-are w 0 (withGiven e) refl) (no-quads w 1 (givenAt e) refl) (no-quads w 2 (λ f. e .type) refl) (no-keys w 3 refl)
+      pick : (b : Bool) → Means W e (cond b (sets 63 0 (setOf (isOpen W e)) (setOf (λ i. covering W (e .type) (tested i)))) noWork) (cond b (added tested W e) nothing)
+      pick true = record { own = own-cut 63 all (has-setOf all); new = (λ i. idle 1 i ++ own-put (isOpen W e) i); facing = near-cut tested }
+      pick false = idle-means
+  by-change tested CullFaces = record { own = own-cut _ (withGiven e) (has-setOf (withGiven e)); new = (λ i. idle 1 i ++ idle 2 i); facing = idle 3 }
   by-change tested AddFaces = pick (isNormalCube W (e .type))
     where
-      pick : (b : Bool) → workIn W e (cond b (sets 0 0 (setOf (withGiven e)) 0) noWork) ≡ cond b (record { own = []; new = quads W (e .type) (e .cell) (withGiven e); facing = [] }) nothing
-      pick true = let w = sets 0 0 (setOf (withGiven e)) 0 in same-own (no-keys w 0 refl) (own-quads (withGiven e) w refl) (no-quads w 1 (givenAt e) refl) (no-keys w 3 refl)
-      pick false = idle-work
+      pick : (b : Bool) → Means W e (cond b (sets 0 0 (setOf (withGiven e)) 0) noWork) (cond b (record { own = []; new = quads W (e .type) (e .cell) (withGiven e); facing = [] }) nothing)
+      pick true = record { own = idle 0; new = (λ i. idle 1 i ++ own-put (withGiven e) i); facing = idle 3 }
+      pick false = idle-means
 
   -- LAW: the sets of an entry are the rule's work
-  pub meant-work : (tested : Tested) → workIn W e (meant tested W e) ≡ work tested W e
+  pub meant-work : (tested : Tested) → Means W e (meant tested W e) (work tested W e)
   meant-work tested = by-change tested (e .change)
+
+module _ {W : World} {e : Entry} {w : Work} {R : rule.Work} (r : Means W e w R) where
+  -- LAW: the deeds are its operations
+  pub deeds-ops : opsOf (quadIn W) (deeds (keysAround (W .size) (e .cell)) e w) ≡ ops R
+  unfolding ops each
+  deeds-ops =
+      let flat : opsOf (quadIn W) (deeds (keysAround (W .size) (e .cell)) e w) ≡ partOps W e (w .own) 0 ++ ((partOps W e (w .shown) 1 ++ partOps W e (w .drawn) 2) ++ partOps W e (w .hidden) 3) =
+      simp (map-append, append-assoc, append-nil) in
+      flat ∙ (λ i. r .own i ++ (r .new i ++ r .facing i))
+
+  -- LAW: the room that it asks for is that of its first three parts
+  pub needed-parts : (m : List Quad) → needed R m ≡ length (run (partOps W e (w .drawn) 2) (run (partOps W e (w .shown) 1) (run (partOps W e (w .own) 0) m)))
+  unfolding needed
+  needed-parts m = (λ i. length (run (sym (r .new) i) (run (sym (r .own) i) m))) ∙ ap length (run-append (partOps W e (w .shown) 1) (partOps W e (w .drawn) 2) (run (partOps W e (w .own) 0) m))
 
 module _ (W : World) (e : Entry) where
   -- the types alone decide it
@@ -184,40 +195,3 @@ module _ (W : World) (e : Entry) where
       go Added = one _ (isNormalCube W (e .type)) (four (omega arith) (omega arith) (setOf-lt (isOpen W e)) (setOf-lt (λ i. covering W (e .type) (tested i))) j)
       go CullFaces = four (setOf-lt (withGiven e)) (omega arith) (omega arith) (omega arith) j
       go AddFaces = one _ (isNormalCube W (e .type)) (four (omega arith) (omega arith) (setOf-lt (withGiven e)) (omega arith) j)
-
--- ---- the deeds
-module _ (W : World) (e : Entry) (w : Work) where
-  abbrev keys : ℕ → ℕ → List ℕ
-  keys j f = asked (W .size) (e .cell) (setIn w j) j f
-
-  abbrev op : Deed → Op
-  op = opOf (quadIn W)
-
-  part-cuts : (j : ℕ) → ((f k : ℕ) → op (act e j f k) ≡ cut k) → map op (each 6 0 (deedAt (W .size) e (setIn w j) j)) ≡ cuts (keysIn (W .size) (e .cell) w j)
-  part-cuts j h =
-      map-each op 6 0 (deedAt (W .size) e (setIn w j) j)
-      ∙ each-same 6 0 (λ f. map op (deedAt (W .size) e (setIn w j) j f)) (λ f. map cut (keys j f)) (λ f a b. through op (act e j f) cut (h f) (keys j f))
-      ∙ sym (map-each cut 6 0 (keys j))
-
-  part-puts : (j : ℕ) (t : ℕ → ℕ) → ((f k : ℕ) → op (act e j f k) ≡ put (quadIn W k (t f))) → map op (each 6 0 (deedAt (W .size) e (setIn w j) j)) ≡ puts (quadsIn W (e .cell) w j t)
-  part-puts j t h =
-      map-each op 6 0 (deedAt (W .size) e (setIn w j) j)
-      ∙ each-same 6 0 (λ f. map op (deedAt (W .size) e (setIn w j) j f)) (λ f. map put (map (λ k. quadIn W k (t f)) (keys j f)))
-      (λ f a b. through op (act e j f) (λ k. put (quadIn W k (t f))) (h f) (keys j f) ∙ sym (through put (λ k. quadIn W k (t f)) (λ k. put (quadIn W k (t f))) (λ k. refl) (keys j f)))
-      ∙ sym (map-each put 6 0 (λ f. map (λ k. quadIn W k (t f)) (keys j f)))
-
-  -- LAW: the deeds are the operations of the work
-  pub deeds-ops : opsOf (quadIn W) (deeds (W .size) e w) ≡ ops (workIn W e w)
-  unfolding ops workIn each
-  deeds-ops =
-      let d : ℕ → List Deed = λ j. each 6 0 (deedAt (W .size) e (setIn w j) j) in
-      let own = part-cuts 0 (λ f k. refl) in
-      let shown = part-puts 1 (givenAt e) (λ f k. refl) in
-      let drawn = part-puts 2 (λ f. e .type) (λ f k. refl) in
-      let hidden = part-cuts 3 (λ f k. refl) in
-      map-append op (d 0) (d 1 ++ (d 2 ++ (d 3 ++ [])))
-      ∙ ap (λ (r : List Op). map op (d 0) ++ r) (map-append op (d 1) (d 2 ++ (d 3 ++ [])) ∙ ap (λ (r : List Op). map op (d 1) ++ r) (map-append op (d 2) (d 3 ++ []) ∙ ap (λ (r : List Deed). map op (d 2) ++ map op r) (append-nil (d 3))))
-      ∙ (λ i. own i ++ (shown i ++ (drawn i ++ hidden i)))
-      ∙ ap (λ (r : List Op). cuts (keysIn (W .size) (e .cell) w 0) ++ r)
-      (sym (append-assoc (puts (quadsIn W (e .cell) w 1 (givenAt e))) (puts (quadsIn W (e .cell) w 2 (λ f. e .type))) (cuts (keysIn (W .size) (e .cell) w 3)))
-      ∙ ap (λ (r : List Op). r ++ cuts (keysIn (W .size) (e .cell) w 3)) (sym (map-append put (quadsIn W (e .cell) w 1 (givenAt e)) (quadsIn W (e .cell) w 2 (λ f. e .type)))))

@@ -2,7 +2,7 @@
 use Prim.Native.Nat.{ℕ, zero, suc, _+_, _*_, _/_, _%_, _<_}
 use mathlib.Core.Path.{_≡_}
 use mathlib.Core.Bool.{Bool, true, cond, not, _&&_}
-use mathlib.Core.List.{List, [], _∷_, _++_, map}
+use mathlib.Core.List.{List, [], _∷_, map}
 use mathlib.Core.Option.{Option, none, some}
 use lib.ListN.{getD}
 use lib.Dec.{eqb}
@@ -45,63 +45,12 @@ setIn w (suc zero) = w .shown
 setIn w (suc (suc zero)) = w .drawn
 setIn w (suc (suc (suc p))) = w .hidden
 
--- a neighbour's facing side, if the grid has the neighbour
-abbrev pub facing : ℕ → Option ℕ → List ℕ
-facing f none = []
-facing f (some n) = keyOf n (opposite f) ∷ []
-
--- the own side, or the neighbour's facing one
-abbrev pub spotsBy : Size → ℕ → ℕ → ℕ → List ℕ
-spotsBy s c zero f = keyOf c f ∷ []
-spotsBy s c (suc odd) f = facing f (neighbour s c f)
-
-abbrev pub spotsAt : Size → ℕ → ℕ → ℕ → List ℕ
-spotsAt s c part f = spotsBy s c (part % 2) f
-
-abbrev pub act : Entry → ℕ → ℕ → ℕ → Deed
-act e zero f k = hide k
-act e (suc zero) f k = show k (givenAt e f)
-act e (suc (suc zero)) f k = show k (e .type)
-act e (suc (suc (suc p))) f k = hide k
-
--- the faces of a part with its set at face f: one, or none
-unfoldable pub asked : Size → ℕ → ℕ → ℕ → ℕ → List ℕ
-asked s c set part f = cond (has set f) (spotsAt s c part f) []
-
-abbrev pub deedAt : Size → Entry → ℕ → ℕ → ℕ → List Deed
-deedAt s e set part f = map (act e part f) (asked s (e .cell) set part f)
-
-abbrev pub deeds : Size → Entry → Work → List Deed
-deeds s e w = each 4 0 (λ j. each 6 0 (deedAt s e (setIn w j) j))
-
--- ---- as the rule's work
-abbrev pub quadIn : World → ℕ → ℕ → Quad
-quadIn W = quadBy (λ k t. W .wordsOf t (k % 6) (k / 6))
-
-abbrev pub keysIn : Size → ℕ → Work → ℕ → List ℕ
-keysIn s c w part = each 6 0 (asked s c (setIn w part) part)
-
-abbrev pub quadsIn : World → ℕ → Work → ℕ → (ℕ → ℕ) → List Quad
-quadsIn W c w part type = each 6 0 (λ f. map (λ k. quadIn W k (type f)) (asked (W .size) c (setIn w part) part f))
-
-unfoldable pub workIn : World → Entry → Work → rule.Work
-workIn W e w =
-    record {
-      own = keysIn (W .size) (e .cell) w 0;
-      new = quadsIn W (e .cell) w 1 (givenAt e) ++ quadsIn W (e .cell) w 2 (λ f. e .type);
-      facing = keysIn (W .size) (e .cell) w 3;
-    }
-
--- what is drawn is of NormalCubes
-pub record Cubes (kinds : List ℕ) (e : Entry) (w : Work) : Type 0 where
-  pub shown : (i : ℕ) → i < 6 → has (w .shown) i ≡ true → eqb (getD kinds (givenAt e i) 0) 1 ≡ true
-  pub drawn : (i : ℕ) → i < 6 → has (w .drawn) i ≡ true → eqb (getD kinds (e .type) 0) 1 ≡ true
-
--- ---- the same, as the code has it: the keys of the own sides, then of the facing ones, NONE where the grid has none
+-- the neighbour's facing side, NONE where the grid has no neighbour
 abbrev pub keyOr : ℕ → Option ℕ → ℕ
 keyOr f none = NONE
 keyOr f (some n) = keyOf n (opposite f)
 
+-- the keys of a cell's own sides, then of those facing them
 abbrev pub keysAround : Size → ℕ → List ℕ
 keysAround s c = keyOf c 0 ∷ keyOf c 1 ∷ keyOf c 2 ∷ keyOf c 3 ∷ keyOf c 4 ∷ keyOf c 5 ∷ table 6 (λ f. keyOr f (neighbour s c f))
 
@@ -109,10 +58,10 @@ keysAround s c = keyOf c 0 ∷ keyOf c 1 ∷ keyOf c 2 ∷ keyOf c 3 ∷ keyOf c
 abbrev pub spot : ℕ → List ℕ
 spot k = cond (eqb k NONE) [] (k ∷ [])
 
+-- a part is about own sides, or about facing ones
 abbrev pub spotIn : List ℕ → ℕ → ℕ → List ℕ
 spotIn keys part f = spot (getD keys (6 * (part % 2) + f) 0)
 
--- what is done there
 abbrev pub cutting : ℕ → Bool
 cutting part = not (eqb part 1) && not (eqb part 2)
 
@@ -121,3 +70,22 @@ typeAt e part f = cond (eqb part 1) (givenAt e f) (e .type)
 
 abbrev pub deedBy : Bool → ℕ → ℕ → Deed
 deedBy cuts t k = cond cuts (hide k) (show k t)
+
+-- a part with its set at face f: a deed, or none
+abbrev pub deedAt : List ℕ → Entry → ℕ → ℕ → ℕ → List Deed
+deedAt keys e set part f = cond (has set f) (map (deedBy (cutting part) (typeAt e part f)) (spotIn keys part f)) []
+
+-- the first n parts; the four are the work
+abbrev pub parts : ℕ → List ℕ → Entry → Work → List Deed
+parts n keys e w = each n 0 (λ j. each 6 0 (deedAt keys e (setIn w j) j))
+
+abbrev pub deeds : List ℕ → Entry → Work → List Deed
+deeds = parts 4
+
+abbrev pub quadIn : World → ℕ → ℕ → Quad
+quadIn W = quadBy (λ k t. W .wordsOf t (k % 6) (k / 6))
+
+-- what is drawn is of NormalCubes
+pub record Cubes (kinds : List ℕ) (e : Entry) (w : Work) : Type 0 where
+  pub shown : (i : ℕ) → i < 6 → has (w .shown) i ≡ true → eqb (getD kinds (givenAt e i) 0) 1 ≡ true
+  pub drawn : (i : ℕ) → i < 6 → has (w .drawn) i ≡ true → eqb (getD kinds (e .type) 0) 1 ≡ true

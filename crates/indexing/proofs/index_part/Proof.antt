@@ -11,8 +11,8 @@ use Rattle.face.proofs.Lowest.{Rest, rest-start, rest-none, rest-below, rest-fr
 use Rattle.entries.specs.Log.{entryIn}
 use Rattle.steps.specs.Steps.{Deed}
 use Rattle.steps.proofs.Turning.{Turning, start, this, skip, turn, done}
-use Rattle.works.specs.Sets.{spot, spotIn, cutting, typeAt, deedBy}
-use Rattle.indexing.specs.Index.{Index, indexOf, indexRun, deedFor, Ready}
+use Rattle.works.specs.Sets.{spot, spotIn, cutting, typeAt, deedBy, deedAt}
+use Rattle.indexing.specs.Index.{Index, indexOf, indexRun, Ready}
 use Rattle.indexing.proofs.Doing.{piecewise}
 use borrow.Author.Needs.{needs}
 use Rattle.indexing.proofs.index_part.Statement.{statement}
@@ -20,7 +20,7 @@ use Rattle.indexing.proofs.index_part.Tie as tie
 
 abbrev Inv-loop : tie.InvT-loop
 Inv-loop links₀ slots₀ steps₀ keys entry set part cuts first left₀ rest₀ links slots steps left rest =
-    (f : ℕ) × Turning indexRun (Ready (length steps₀)) 6 (deedFor keys (entryIn entry) set part) f (indexOf links₀ slots₀ steps₀ left₀) (indexOf links slots steps left)
+    (f : ℕ) × Turning indexRun (Ready (length steps₀)) 6 (deedAt keys (entryIn entry) set part) f (indexOf links₀ slots₀ steps₀ left₀) (indexOf links slots steps left)
     × Rest set f rest × (length links ≡ length links₀) × (length slots ≡ length slots₀) × (length steps ≡ length steps₀)
 
 abbrev μ-loop : tie.MeasureT-loop
@@ -34,7 +34,7 @@ abbrev low : tie.In-loop Inv-loop μ-loop → ℕ
 low i = trailingZeros 8 (i .before .loop .rest)
 
 abbrev deed : tie.In-loop Inv-loop μ-loop → ℕ → List Deed
-deed i = let a = begun i .args in deedFor (a .keys .now) (entryIn (a .entry)) (a .set) (a .part)
+deed i = let a = begun i .args in deedAt (a .keys .now) (entryIn (a .entry)) (a .set) (a .part)
 
 abbrev here : tie.In-loop Inv-loop μ-loop → Index
 here i = let l = i .before .loop in indexOf (l .links) (l .slots) (l .steps) (l .left)
