@@ -8,7 +8,7 @@ use Rattle.rules.specs.Cells.{UNIT, has}
 use Rattle.rules.specs.Mesh.{NONE}
 use Rattle.rules.proofs.ListLaws.{All}
 use Rattle.works.specs.declared.Work.{Work}
-use Rattle.works.specs.Sets.{spotIn}
+use Rattle.works.specs.Sets.{spot, spotIn}
 
 -- a face that has no quad, and a spot that is such a face
 abbrev pub isEmpty : List ℕ → ℕ → Bool
@@ -43,4 +43,4 @@ quadsNeeded slots keys w Q = Q + total 6 0 (growthAt slots keys w) - 6
 -- the keys have slots
 pub record Gridded (keys slots : List ℕ) : Type 0 where
   pub small : length slots ≤ 6 * UNIT
-  pub all : (part f : ℕ) → f < 6 → All (λ k. k < length slots) (spotIn keys part f)
+  pub all : (at : ℕ) → at < 12 → All (λ k. k < length slots) (spot (getD keys at 0))

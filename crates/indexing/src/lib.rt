@@ -23,15 +23,13 @@ ghost use mathlib.Core.Bool.{cond};
 ghost use mathlib.Core.List.{map};
 ghost use Prim.Native.Nat.{ℕ, _+_, _*_, _^_, _≤_, _<_, max};
 ghost use lib.Dec.{leb};
-ghost use lib.ListN.{length, set};
+ghost use lib.ListN.{length, getD, set};
 ghost use Rattle.rules.specs.Lists.{each};
-ghost use Rattle.rules.specs.Cells.{UNIT};
-ghost use Rattle.rules.proofs.ListLaws.{All};
 ghost use Rattle.face.specs.Face.{number};
 ghost use Rattle.entries.specs.Log.{entryIn};
 ghost use Rattle.works.specs.Sets.{setIn, spot, deedBy, deedAt, deeds};
 ghost use Rattle.indexing.specs.Room.{isEmptyAt, growthAt, quadsNeeded, Gridded};
-ghost use Rattle.indexing.specs.Index.{indexOf, goneAt, cameAt, indexRun, Ready, Removable, Drawable};
+ghost use Rattle.indexing.specs.Index.{indexOf, goneAt, cameAt, indexRun, Begun, Removable, Drawable};
 
 // The number of quads, how many have changed their place, the highest number of quads on the way, and the number of steps.
 pub struct Tally {
@@ -125,7 +123,7 @@ fn do_face(
     voxel: u8,
     tally: Tally,
 ) -> Tally
-    requires { ⌜ Ready (length (now steps)) (map (deedBy cuts voxel) (spot key)) (indexOf (now links) (now slots) (now steps) tally) ⌝ }
+    requires { ⌜ Begun (length (now steps)) (map (deedBy cuts voxel) (spot key)) (indexOf (now links) (now slots) (now steps) tally) ⌝ }
     ensures { λ r. ⌜ indexOf (now (links .exit)) (now (slots .exit)) (now (steps .exit)) r
         ≡ indexRun (map (deedBy cuts voxel) (spot key)) (indexOf (now (links .entry)) (now (slots .entry)) (now (steps .entry)) tally) ⌝ }
 {
@@ -161,7 +159,7 @@ fn index_part(
     part: u32,
     tally: Tally,
 ) -> Tally
-    requires { ⌜ (set < 64) × Ready (length (now steps)) (each 6 0 (deedAt (now keys) (entryIn entry) set part)) (indexOf (now links) (now slots) (now steps) tally) ⌝ }
+    requires { ⌜ (set < 64) × Begun (length (now steps)) (each 6 0 (deedAt (now keys) (entryIn entry) set part)) (indexOf (now links) (now slots) (now steps) tally) ⌝ }
     ensures { λ r. ⌜ indexOf (now (links .exit)) (now (slots .exit)) (now (steps .exit)) r
         ≡ indexRun (each 6 0 (deedAt (now (keys .entry)) (entryIn entry) set part)) (indexOf (now (links .entry)) (now (slots .entry)) (now (steps .entry)) tally) ⌝ }
 {
@@ -189,7 +187,7 @@ pub fn index_work(
     work: Work,
     tally: Tally,
 ) -> Tally
-    requires { ⌜ ((j : ℕ) → setIn work j < 64) × Ready (length (now steps)) (deeds (now keys) (entryIn entry) work) (indexOf (now links) (now slots) (now steps) tally) ⌝ }
+    requires { ⌜ ((j : ℕ) → setIn work j < 64) × Begun (length (now steps)) (deeds (now keys) (entryIn entry) work) (indexOf (now links) (now slots) (now steps) tally) ⌝ }
     ensures { λ r. ⌜ indexOf (now (links .exit)) (now (slots .exit)) (now (steps .exit)) r
         ≡ indexRun (deeds (now (keys .entry)) (entryIn entry) work) (indexOf (now (links .entry)) (now (slots .entry)) (now (steps .entry)) tally) ⌝ }
 {
@@ -204,10 +202,11 @@ pub fn index_work(
 }
 
 // Whether the face of a key has no quad. NONE is no face.
-fn is_empty(slots: &[u32], key: u32) -> bool
-    requires { ⌜ All (λ k. k < length (now slots)) (spot key) × (length (now slots) ≤ 6 * UNIT) ⌝ }
-    ensures { λ r. ⌜ r ≡ isEmptyAt (now (slots .entry)) (spot key) ⌝ }
+fn is_empty(slots: &[u32], keys: &[u32; 12], at: usize) -> bool
+    requires { ⌜ (at < 12) × Gridded (now keys) (now slots) ⌝ }
+    ensures { λ r. ⌜ r ≡ isEmptyAt (now (slots .entry)) (spot (getD (now (keys .entry)) at 0)) ⌝ }
 {
+    let key = keys[at];
     if key == NONE {
         return false;
     }
@@ -229,9 +228,9 @@ fn growth(slots: &[u32], keys: &[u32; 12], work: Work, face: Face) -> usize
     ensures { λ r. ⌜ (r ≡ growthAt (now (slots .entry)) (now (keys .entry)) work (number face)) × (r ≤ 3) ⌝ }
 {
     let side = face.number() as usize;
-    let empty = is_empty(slots, keys[side]);
+    let empty = is_empty(slots, keys, side);
     let goes = has(work.own, face);
-    let bare = has(work.shown, face) & is_empty(slots, keys[6 + side]);
+    let bare = has(work.shown, face) & is_empty(slots, keys, 6 + side);
     let comes = has(work.drawn, face) & (goes | empty);
     one(!(goes & !empty)) + one(bare) + one(comes)
 }

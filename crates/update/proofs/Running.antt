@@ -1,12 +1,12 @@
 -- A log on the index and the vertices, entry by entry: the lists stay the layout of the rule's mesh. Assumes nothing.
 use mathlib.Core.Path.{_≡_, refl, sym, ap, _∙_, subst}
 use mathlib.Core.Bool.{cond, not}
-use mathlib.Core.List.{List, []}
+use mathlib.Core.List.{List, [], append-nil}
 use mathlib.Core.Option.{Option, none, some}
 use Prim.Native.Nat.{ℕ, zero, suc, _+_, _-_, _*_, _/_, _%_, _^_, _≤_, _<_}
 use native.Mathlib.Omega.{arith}
 use lib.Dec.{leb}
-use lib.ListN.{length}
+use lib.ListN.{length, getD}
 use borrow.Author.Tests.{le-leb, lt-leb}
 use Rattle.rules.specs.Lists.{each}
 use Rattle.rules.specs.Cells.{cells}
@@ -24,13 +24,13 @@ use Rattle.steps.specs.Steps.{Step, Deed, stepsIn, Shelf, shelf, replayed, quad
 use Rattle.steps.proofs.Replaying.{replay-run}
 use Rattle.steps.specs.Rows.{wordsBy, Drawn, Replaying}
 use Rattle.works.specs.declared.Work.{Work}
-use Rattle.works.specs.Sets.{meant, setIn, keysAround, spotIn, deeds, Cubes}
+use Rattle.works.specs.Sets.{meant, setIn, keysAround, spot, deeds, Cubes}
 use Rattle.works.proofs.Meant.{Means, meant-work, meant-cubes, meant-few, deeds-ops}
-use Rattle.indexing.specs.Index.{Index, indexRun, bookOf, Good, Ready}
+use Rattle.indexing.specs.Index.{Index, indexRun, bookOf, Good, Ground, Ready, Begun}
 use Rattle.indexing.specs.Room.{isEmpty, quadsNeeded, Gridded}
 use Rattle.indexing.proofs.Sets.{all-few, spots-inside}
 use Rattle.indexing.proofs.Booking.{slot-none, run-booked}
-use Rattle.indexing.proofs.Doing.{ready-run}
+use Rattle.indexing.proofs.Doing.{ready-rest}
 use Rattle.indexing.proofs.Room.{needed-counted}
 use Rattle.update.specs.Runs.{Ended, laidOut, meshIn, courseIn, Holds, Logging}
 use Rattle.update.proofs.Drawing.{bare, deeds-good, deeds-able}
@@ -83,6 +83,9 @@ module _ (tested : Tested) {S : Scene} {room : ℕ} {log vs₀ ls₀ ss₀ : Lis
   grid-small : faces S ≤ 1073741823
   grid-small = let l = g .within .most in omega arith
 
+  abbrev ground : Ground
+  ground = record { words = wordsBy (bare S); span = span S; room = room; faces = faces S; old = ls₀; long = g .words; small = grid-small }
+
   module _ {k h q v : ℕ} {vs ls ss : List ℕ} (r : Running tested S room log vs₀ ls₀ Q k h vs ls ss q v) where
     abbrev m : List Quad
     m = r .mesh
@@ -97,7 +100,7 @@ module _ (tested : Tested) {S : Scene} {room : ℕ} {log vs₀ ls₀ ss₀ : Lis
     run-small = omega (arith, meshes.small (faces S) (span S) m grid-small (sane .fits) (sane .once), r .holds .count)
 
     told : (j : ℕ) → j < faces S → isEmpty ss j ≡ not (there j m)
-    told j l = ap (λ (xs : List ℕ). isEmpty xs j) (r .holds .slots) ∙ slot-none (wordsBy (bare S)) (span S) room (faces S) ls₀ (g .words) grid-small m h sane j l
+    told j l = ap (λ (xs : List ℕ). isEmpty xs j) (r .holds .slots) ∙ slot-none ground m h sane j l
 
     module _ (lt : k < length log / 12) {e : Entry} (at : e ≡ entryAt log k) where
       pub run-inside : e .cell < cells (S .size)
@@ -136,7 +139,8 @@ module _ (tested : Tested) {S : Scene} {room : ℕ} {log vs₀ ls₀ ss₀ : Lis
             let n = sym length-slots in
             record {
               small = omega arith;
-              all = λ j f l. subst (λ (x : ℕ × List ℕ). All (λ k. k < x .0) (spotIn (x .1) j f)) (λ i. (n i, sym ks-are i)) (spots-inside (S .size) e (g .within) run-inside j f l);
+              all = λ j l. let z : 6 * (j / 6 % 2) + j % 6 ≡ j = omega arith in
+                  subst (λ (x : ℕ × List ℕ × ℕ). All (λ k. k < x .0) (spot (getD (x .1) (x .2) 0))) (λ i. (n i, sym ks-are i, z i)) (spots-inside (S .size) e (g .within) run-inside (j / 6) (j % 6) (omega arith));
             }
 
         pub run-needed : quadsNeeded ss ks w q ≡ needed (works k) m
@@ -166,22 +170,16 @@ module _ (tested : Tested) {S : Scene} {room : ℕ} {log vs₀ ls₀ ss₀ : Lis
           index : indexAt ls ss q v h xs ≡ bookOf (faces S) h m ls₀ v (stepsIn 0 xs)
           index = let a = r .holds .links in let b = r .holds .slots in let c = r .holds .count in λ i. record { links = a i; slots = b i; quads = c i; moved = v; top = h; steps = stepsIn 0 xs }
 
-          pub run-ready : Ready (length xs) ds (indexAt ls ss q v h xs)
+          ready : Ready (length xs) ds (indexAt ls ss q v h xs)
           unfolding each
-          run-ready =
+          ready =
               let few = g .few in
               let mv = r .moves in
               let a = all-few ks e w in
               record {
-                words = wordsBy (bare S);
-                span = span S;
-                room = room;
-                faces = faces S;
-                old = ls₀;
+                ground = ground;
                 top = h;
                 mesh = m;
-                long = g .words;
-                small = grid-small;
                 sane = sane;
                 is = index;
                 good = good;
@@ -189,6 +187,9 @@ module _ (tested : Tested) {S : Scene} {room : ℕ} {log vs₀ ls₀ ss₀ : Lis
                 moves = omega arith;
                 steps = omega arith;
               }
+
+          pub run-ready : Begun (length xs) ds (indexAt ls ss q v h xs)
+          run-ready = ([], subst (λ (x : List Deed). Ready (length xs) x (indexAt ls ss q v h xs)) (sym (append-nil ds)) ready)
 
           abbrev done : Index
           done = indexRun ds (indexAt ls ss q v h xs)
@@ -200,15 +201,14 @@ module _ (tested : Tested) {S : Scene} {room : ℕ} {log vs₀ ls₀ ss₀ : Lis
           unfolding each
           ran =
               ap (indexRun ds) index
-              ∙ run-booked (wordsBy (bare S)) (span S) room (faces S) ls₀ (g .words) grid-small ds m h v [] good sane fits-deeds
+              ∙ run-booked ground ds m h v [] good sane fits-deeds
               ∙ (λ i. bookOf (faces S) (highest h (as-ops i) m) (run (as-ops i) m) ls₀ (v + moves (as-ops i) m) steps)
 
           steps-are : done .steps ≡ steps
           steps-are = ap (λ (I : Index). I .steps) ran
 
           pub run-few : 2 * length (done .steps) ≤ length xs
-          unfolding run-ready
-          run-few = let z = ready-run ds run-ready .steps in omega arith
+          run-few = let z = ready-rest ds (run-ready .0) _ (run-ready .1) .steps in omega arith
 
           replayed-now : Can (Drawn (bare S)) room steps (length m) × (replayed (span S) (wordsBy (bare S)) steps (shelf (laid (span S) (λ q x. x .words) h m vs₀) (length m))
               ≡ shelf (laid (span S) (λ q x. x .words) (highest h (opsOf (quadBy (wordsBy (bare S))) ds) m) (run (opsOf (quadBy (wordsBy (bare S))) ds) m) vs₀) (length (run (opsOf (quadBy (wordsBy (bare S))) ds) m)))

@@ -27,7 +27,7 @@ ghost use Rattle.face.specs.Face.{number};
 ghost use Rattle.util.specs.Grid.{sizeOf, tripleOf, Within, Inverts};
 ghost use Rattle.entries.specs.Log.{entryIn};
 ghost use Rattle.terms.specs.Modes.{testedBy};
-ghost use Rattle.works.specs.Sets.{typesBy, isShown, noWork, meant, setIn, keyOr, keysAround, cutting, typeAt};
+ghost use Rattle.works.specs.Sets.{typesBy, isShown, sets, noWork, meant, setIn, keyOr, keysAround, cutting, typeAt};
 
 // All six sides.
 const ALL_SIDES: u8 = 63;
@@ -114,25 +114,36 @@ fn shown_sides(kinds: &[u8], cover: u8, entry: Entry) -> u8
     )
 }
 
-// The sides of which the side tested is covered.
+// Whether the side tested is covered.
+fn is_hidden(tested: Tested, cover: u8, face: Face) -> bool
+    ensures { λ r. ⌜ r ≡ rule.has cover (testedBy tested (number face)) ⌝ }
+{
+    has(cover, tested.side(face))
+}
+
 fn hidden_sides(tested: Tested, cover: u8) -> u8
     ensures { λ r. ⌜ r ≡ setOf (λ i. rule.has cover (testedBy tested i)) ⌝ }
 {
     side_set(
-        has(cover, tested.side(Face::Top)),
-        has(cover, tested.side(Face::Bottom)),
-        has(cover, tested.side(Face::Right)),
-        has(cover, tested.side(Face::Left)),
-        has(cover, tested.side(Face::Back)),
-        has(cover, tested.side(Face::Forward)),
+        is_hidden(tested, cover, Face::Top),
+        is_hidden(tested, cover, Face::Bottom),
+        is_hidden(tested, cover, Face::Right),
+        is_hidden(tested, cover, Face::Left),
+        is_hidden(tested, cover, Face::Back),
+        is_hidden(tested, cover, Face::Forward),
     )
 }
 
-fn work_if(on: bool, work: Work) -> Work
-    ensures { λ r. ⌜ r ≡ cond on work noWork ⌝ }
+fn work_if(on: bool, own: u8, shown: u8, drawn: u8, hidden: u8) -> Work
+    ensures { λ r. ⌜ r ≡ cond on (sets own shown drawn hidden) noWork ⌝ }
 {
     if on {
-        return work;
+        return Work {
+            own,
+            shown,
+            drawn,
+            hidden,
+        };
     }
     Work {
         own: 0,
@@ -150,44 +161,13 @@ pub fn work_of(kinds: &[u8], covers: &[u8], tested: Tested, entry: Entry) -> Wor
     let cover = code_of(covers, entry.voxel);
     let change = entry.change;
     match change {
-        VoxelChange::Broken => {
-            Work {
-                own: ALL_SIDES,
-                shown: shown_sides(kinds, cover, entry),
-                drawn: 0,
-                hidden: 0,
-            }
-        }
+        VoxelChange::Broken => work_if(true, ALL_SIDES, shown_sides(kinds, cover, entry), 0, 0),
         VoxelChange::Added => {
-            work_if(
-                cube,
-                Work {
-                    own: ALL_SIDES,
-                    shown: 0,
-                    drawn: open_sides(covers, entry),
-                    hidden: hidden_sides(tested, cover),
-                },
-            )
+            let open = open_sides(covers, entry);
+            work_if(cube, ALL_SIDES, 0, open, hidden_sides(tested, cover))
         }
-        VoxelChange::CullFaces => {
-            Work {
-                own: given_sides(entry),
-                shown: 0,
-                drawn: 0,
-                hidden: 0,
-            }
-        }
-        VoxelChange::AddFaces => {
-            work_if(
-                cube,
-                Work {
-                    own: 0,
-                    shown: 0,
-                    drawn: given_sides(entry),
-                    hidden: 0,
-                },
-            )
-        }
+        VoxelChange::CullFaces => work_if(true, given_sides(entry), 0, 0, 0),
+        VoxelChange::AddFaces => work_if(cube, 0, 0, given_sides(entry), 0),
     }
 }
 

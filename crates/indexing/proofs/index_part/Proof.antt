@@ -12,7 +12,7 @@ use Rattle.entries.specs.Log.{entryIn}
 use Rattle.steps.specs.Steps.{Deed}
 use Rattle.steps.proofs.Turning.{Turning, start, this, skip, turn, done}
 use Rattle.works.specs.Sets.{spot, spotIn, cutting, typeAt, deedBy, deedAt}
-use Rattle.indexing.specs.Index.{Index, indexOf, indexRun, Ready}
+use Rattle.indexing.specs.Index.{Index, indexOf, indexRun, Begun}
 use Rattle.indexing.proofs.Doing.{piecewise}
 use borrow.Author.Needs.{needs}
 use Rattle.indexing.proofs.index_part.Statement.{statement}
@@ -20,7 +20,7 @@ use Rattle.indexing.proofs.index_part.Tie as tie
 
 abbrev Inv-loop : tie.InvT-loop
 Inv-loop links₀ slots₀ steps₀ keys entry set part cuts first left₀ rest₀ links slots steps left rest =
-    (f : ℕ) × Turning indexRun (Ready (length steps₀)) 6 (deedAt keys (entryIn entry) set part) f (indexOf links₀ slots₀ steps₀ left₀) (indexOf links slots steps left)
+    (f : ℕ) × Turning indexRun (Begun (length steps₀)) 6 (deedAt keys (entryIn entry) set part) f (indexOf links₀ slots₀ steps₀ left₀) (indexOf links slots steps left)
     × Rest set f rest × (length links ≡ length links₀) × (length slots ≡ length slots₀) × (length steps ≡ length steps₀)
 
 abbrev μ-loop : tie.MeasureT-loop
@@ -47,7 +47,7 @@ abbrev at-set : tie.Start Inv-loop μ-loop → ℕ → Bool → List Deed
 at-set t f on = let a = t .args in cond on (map (deedBy (cutting (a .part)) (typeAt (entryIn (a .entry)) (a .part) f)) (spotIn (a .keys .now) (a .part) f)) []
 
 turned-to : (i : tie.In-loop Inv-loop μ-loop) →
-    let a = begun i .args in Turning indexRun (Ready (length (a .steps .now))) 6 (deed i) (low i) (indexOf (a .links .now) (a .slots .now) (a .steps .now) (a .tally)) (here i)
+    let a = begun i .args in Turning indexRun (Begun (length (a .steps .now))) 6 (deed i) (low i) (indexOf (a .links .now) (a .slots .now) (a .steps .now) (a .tally)) (here i)
 turned-to i =
     let l = i .before .loop in
     let b = below i in
@@ -79,7 +79,7 @@ do-face-requires c κs =
     let i = turning s in
     let n = sym (i .before .loop .inv .5) in
     let d = sym (told s) in
-    subst (λ (x : ℕ × List Deed). Ready (x .0) (x .1) (here i)) (λ j. (n j, d j)) (this (turned-to i) (piecewise _) (below i))
+    subst (λ (x : ℕ × List Deed). Begun (x .0) (x .1) (here i)) (λ j. (n j, d j)) (this (turned-to i) (piecewise _) (below i))
 
 abbrev into : tie.After-slice-known6 Inv-loop μ-loop → tie.In-loop Inv-loop μ-loop
 into c = turning (c .before .before .before .before .before .before .before .before .before .before .before)

@@ -6,7 +6,7 @@ use lib.ListN.{length}
 use Rattle.rules.specs.Lists.{each}
 use Rattle.entries.specs.Log.{entryIn}
 use Rattle.works.specs.Sets.{setIn, deedAt}
-use Rattle.indexing.specs.Index.{indexOf, indexRun, Ready}
+use Rattle.indexing.specs.Index.{indexOf, indexRun, Begun}
 use Rattle.steps.proofs.Turning.{Turning, start, this, turn, done}
 use Rattle.indexing.proofs.Doing.{piecewise}
 use borrow.Author.Needs.{needs}
@@ -15,7 +15,7 @@ use Rattle.indexing.proofs.index_work.Tie as tie
 
 abbrev Inv-loop : tie.InvT-loop
 Inv-loop links₀ slots₀ steps₀ keys entry work left₀ part₀ links slots steps left part =
-    Turning indexRun (Ready (length steps₀)) 4 (λ j. each 6 0 (deedAt keys (entryIn entry) (setIn work j) j)) part (indexOf links₀ slots₀ steps₀ left₀) (indexOf links slots steps left)
+    Turning indexRun (Begun (length steps₀)) 4 (λ j. each 6 0 (deedAt keys (entryIn entry) (setIn work j) j)) part (indexOf links₀ slots₀ steps₀ left₀) (indexOf links slots steps left)
     × (length links ≡ length links₀) × (length slots ≡ length slots₀) × (length steps ≡ length steps₀)
 
 abbrev μ-loop : tie.MeasureT-loop
@@ -31,7 +31,7 @@ index-part-requires c κs =
     let e = sym (set .set-of .ensures) in
     let n = sym (l .inv .3) in (
       subst (λ (n : ℕ). n < 64) e (t .pre .0 (l .part)),
-      subst (λ (x : ℕ × ℕ). Ready (x .0) (each 6 0 (deedAt (a .keys .now) (entryIn (a .entry)) (x .1) (l .part))) (indexOf (l .links) (l .slots) (l .steps) (l .left)))
+      subst (λ (x : ℕ × ℕ). Begun (x .0) (each 6 0 (deedAt (a .keys .now) (entryIn (a .entry)) (x .1) (l .part))) (indexOf (l .links) (l .slots) (l .steps) (l .left)))
           (λ j. (n j, e j)) (this (l .inv .0) (piecewise _) (i .loop-test .taken)),
     )
 

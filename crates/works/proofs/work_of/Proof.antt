@@ -21,11 +21,12 @@ by t e = sym (ap (meantBy (testedBy (t .args .tested)) (types t) (entryIn (t .ar
 
 returns : tie.Need-returns
 returns c =
-    let told = c .before in
-    let cover = told .before .before in
+    let shown = c .before in
+    let cover = shown .before .before .before in
     let t = cover .before .before .before .before in
-    ap (λ (n : ℕ). sets 63 n 0 0) (c .shown-sides .ensures ∙ ap (λ (n : ℕ). setOf (isShown (t .args .kinds .now) n (entryIn (t .args .entry)))) (cover .code-of2 .ensures))
-    ∙ by t (ap changeIn (told .enum-told .given .1))
+    c .work-if .ensures
+    ∙ ap (λ (n : ℕ). sets 63 n 0 0) (shown .shown-sides .ensures ∙ ap (λ (n : ℕ). setOf (isShown (t .args .kinds .now) n (entryIn (t .args .entry)))) (cover .code-of2 .ensures))
+    ∙ by t (ap changeIn (shown .before .enum-told .given .1))
 
 returns-2 : tie.Need-returns-2
 returns-2 c =
@@ -38,12 +39,13 @@ returns-2 c =
     let on = ap (λ (n : ℕ). eqb n 1) (cube .code-of .ensures) in
     let drawn = opened .open-sides .ensures in
     let gone = hidden .hidden-sides .ensures ∙ ap (λ (n : ℕ). setOf (λ i. has n (testedBy (t .args .tested) i))) (cover .code-of2 .ensures) in
-    c .work-if .ensures ∙ (λ i. cond (on i) (sets 63 0 (drawn i) (gone i)) noWork) ∙ by t (ap changeIn (told .enum-told2 .given .1))
+    c .work-if2 .ensures ∙ (λ i. cond (on i) (sets 63 0 (drawn i) (gone i)) noWork) ∙ by t (ap changeIn (told .enum-told2 .given .1))
 
 returns-3 : tie.Need-returns-3
 returns-3 c =
-    let t = c .before .before .before .before .before .before .before in
-    ap (λ (n : ℕ). sets n 0 0 0) (c .given-sides .ensures) ∙ by t (ap changeIn (c .before .enum-told3 .given .1))
+    let given = c .before in
+    let t = given .before .before .before .before .before .before .before in
+    c .work-if3 .ensures ∙ ap (λ (n : ℕ). sets n 0 0 0) (given .given-sides .ensures) ∙ by t (ap changeIn (given .before .enum-told3 .given .1))
 
 returns-4 : tie.Need-returns-4
 returns-4 c =
@@ -52,11 +54,11 @@ returns-4 c =
     let cube = told .before .before .before in
     let on = ap (λ (n : ℕ). eqb n 1) (cube .code-of .ensures) in
     let drawn = given .given-sides2 .ensures in
-    c .work-if2 .ensures ∙ (λ i. cond (on i) (sets 0 0 (drawn i) 0) noWork) ∙ by (cube .before .before .before) (ap changeIn (told .enum-told4 .given .1))
+    c .work-if4 .ensures ∙ (λ i. cond (on i) (sets 0 0 (drawn i) 0) noWork) ∙ by (cube .before .before .before) (ap changeIn (told .enum-told4 .given .1))
 
 pub work-of-spec : {M : Type 1} → statement M
 work-of-spec =
     tie.close
-    (tie.spec (λ c κs. search needs) (λ c κs. search needs) (λ c. search needs) (λ c κs. search needs) (λ c. search needs) (λ c κs. search needs)
-    (λ c κs. search needs) (λ c κs. search needs) (λ c. search needs) (λ c κs. search needs) (λ c. search needs) (λ c κs. search needs)
-    (λ c κs. search needs) returns returns-2 returns-3 returns-4)
+    (tie.spec (λ c κs. search needs) (λ c κs. search needs) (λ c. search needs) (λ c κs. search needs) (λ c κs. search needs) (λ c. search needs)
+    (λ c κs. search needs) (λ c κs. search needs) (λ c κs. search needs) (λ c. search needs) (λ c κs. search needs) (λ c κs. search needs)
+    (λ c. search needs) (λ c κs. search needs) (λ c κs. search needs) returns returns-2 returns-3 returns-4)
