@@ -25,18 +25,16 @@ use Rattle.indexing.specs.Room.{isEmpty, isEmptyAt, goneSide, bareSide, 
 use Rattle.indexing.proofs.Sets.{all-kept, few-deeds, on-spots, spots-inside}
 
 -- ---- at most two quads more a side
-at-most : (n i : ℕ) (g : ℕ → ℕ) → ((f : ℕ) → g f ≤ 3) → total n i g ≤ 3 * n
-unfolding total
-at-most zero i g h = omega arith
-at-most (suc n) i g h = omega (arith, h i, at-most n (suc i) g h)
-
 pub grown-few : (slots cells : List ℕ) (w : Work) → total 6 0 (growthAt slots cells w) ≤ 18
-unfolding growthAt
-grown-few slots cs w = at-most 6 0 (growthAt slots cs w) (λ f. omega (arith, one (not (goneSide slots cs w f)), one (bareSide slots cs w f), one (newSide slots cs w f)))
+unfolding growthAt total
+grown-few slots cs w = omega (arith, side 0, side 1, side 2, side 3, side 4, side 5)
   where
     one : (b : Bool) → cond b 1 0 ≤ 1
     one true = omega arith
     one false = omega arith
+
+    side : (f : ℕ) → cond (not (goneSide slots cs w f)) 1 0 + cond (bareSide slots cs w f) 1 0 + cond (newSide slots cs w f) 1 0 ≤ 3
+    side f = omega (arith, one (not (goneSide slots cs w f)), one (bareSide slots cs w f), one (newSide slots cs w f))
 
 pub less-six : (a b : ℕ) → leb a (b + 6) ≡ leb (a - 6) b
 less-six a b = split (λ t. leb a (b + 6) ≡ t → t ≡ leb (a - 6) b) (leb a (b + 6))
@@ -178,24 +176,18 @@ module _ (m : List Quad) (o : Once m) (W : World) (e : Entry) (w : Work) (slots 
   grows : (set j : ℕ) (x : List Quad) → Once x → length (run (partOps W e set j) x) + 6 ≡ length x + total 6 0 (λ f. gains (deedAt keys e set j f) x)
   grows set j x = part-gain words (sideOf (j % 2)) (deedAt keys e set j) 6 0 (few-deeds keys e set j) (λ f _ l. at-its-side f (omega arith)) x
     where
-      class : (n k f : ℕ) → n ≡ j % 2 → sideOf n k ≡ f → sideOf (j % 2) k ≡ f
-      class n k f q s = ap (λ (n : ℕ). sideOf n k) (sym q) ∙ s
-
       at-its-side : (f : ℕ) → f < 6 → All (λ d. sideOf (j % 2) (faceOf d) ≡ f) (deedAt keys e set j f)
       at-its-side f l =
           on-spots (λ d. sideOf (j % 2) (faceOf d) ≡ f) keys e set j f
           (λ _. all-kept (λ k s. ap (sideOf (j % 2)) (face-by (cutting j) (typeAt e j f) k) ∙ s) (spotIn keys j f)
-          (spot-all (W .size) (e .cell) grid inside (λ k. sideOf (j % 2) k ≡ f) j f l (λ q. class 0 (keyOf (e .cell) f) f (sym q) (omega arith))
-          (λ q n _. class 1 (keyOf n (opposite f)) f (sym q) (let b = opposite-lt f l in let z : keyOf n (opposite f) % 6 ≡ opposite f = omega arith in ap opposite z ∙ opposite-twice f))))
+          (spot-all (W .size) (e .cell) grid inside (λ k. sideOf (j % 2) k ≡ f) j f l (λ q. rw q (omega arith))
+          (λ q n _. rw q (let b = opposite-lt f l in let z : keyOf n (opposite f) % 6 ≡ opposite f = omega arith in ap opposite z ∙ opposite-twice f))))
 
   -- ---- what is there once its own have gone, and its neighbours' have come
   there-gone : (j : ℕ) → there j m₁ ≡ cond (member j (sides (e .cell) (has (w .own)))) false (there j m)
   there-gone j =
-      ap (λ (os : List rule.Op). there j (run os m)) (own-cut W e grid inside (w .own) (has (w .own)) (λ f l. refl)) ∙ rw (at-cuts j (sides (e .cell) (has (w .own))) m (o j)) (go (member j (sides (e .cell) (has (w .own)))))
-    where
-      go : (t : Bool) → not (isNil (cond t [] (at j m))) ≡ cond t false (there j m)
-      go true = refl
-      go false = refl
+      ap (λ (os : List rule.Op). there j (run os m)) (own-cut W e grid inside (w .own) (has (w .own)) (λ f l. refl))
+      ∙ rw (at-cuts j (sides (e .cell) (has (w .own))) m (o j)) (split (λ b. not (isNil (cond b [] (at j m))) ≡ cond b false (there j m)) (member j (sides (e .cell) (has (w .own)))) (λ _. refl) (λ _. refl))
 
   bare-near : (f : ℕ) → f < 6 → bareAt m₁ (spotIn keys 1 f) ≡ isEmptyAt slots (spotIn keys 1 f)
   bare-near f l =
@@ -214,11 +206,8 @@ module _ (m : List Quad) (o : Once m) (W : World) (e : Entry) (w : Work) (slots 
       (all-each (λ d. eqb k (faceOf d) ≡ false) 6 0 (deedAt keys e (w .shown) 1) (λ g _ b. on-spots (λ d. eqb k (faceOf d) ≡ false) keys e (w .shown) 1 g
       (λ _. spot-all (W .size) (e .cell) grid inside (λ j. eqb k j ≡ false) 1 g (omega arith) (λ q. absurd (omega arith))
       (λ _ n q. let x = beside (W .size) (grid .sides .wide) (grid .sides .long) (e .cell) inside g n q .other in let b = opposite-lt g (omega arith) in ne-eqb k (keyOf n (opposite g)) (λ z. x (omega arith)))))) in
-      ap not (past ∙ there-gone k ∙ ap (λ (b : Bool). cond b false (there k m)) (side-in (e .cell) (has (w .own)) f l)) ∙ goes (has (w .own) f) ∙ ap (λ (b : Bool). has (w .own) f || b) (sym (told k (omega arith)))
-    where
-      goes : (a : Bool) → not (cond a false (there (keyOf (e .cell) f) m)) ≡ (a || not (there (keyOf (e .cell) f) m))
-      goes true = refl
-      goes false = refl
+      ap not (past ∙ there-gone k ∙ ap (λ (b : Bool). cond b false (there k m)) (side-in (e .cell) (has (w .own)) f l))
+      ∙ split (λ b. not (cond b false (there k m)) ≡ (b || not (there k m))) (has (w .own) f) (λ _. refl) (λ _. refl) ∙ ap (λ (b : Bool). has (w .own) f || b) (sym (told k (omega arith)))
 
   at-side : (f : ℕ) → f < 6 → gains (deedAt keys e (w .own) 0 f) m + gains (deedAt keys e (w .shown) 1 f) m₁ + gains (deedAt keys e (w .drawn) 2 f) m₂ ≡ growthAt slots keys w f + 2
   unfolding growthAt

@@ -112,7 +112,7 @@ module _ (W : World) (e : Entry) (grid : Within (W .size)) (inside : e .cell < c
   idle-means : Means W e noWork nothing
   idle-means = record { own = idle 0; new = (λ i. idle 1 i ++ idle 2 i); facing = idle 3 }
 
-  by-change : (tested : Tested) (k : Change) → Means W e (meantBy tested W e k) (workBy tested W e k)
+  by-change : (tested : Tested) (k : Change) → Means W e (meantBy tested (typesBy (W .kinds) (W .covers)) e k) (workBy tested W e k)
   by-change tested Broken = record { own = own-cut 63 all (has-setOf all); new = (λ i. near-put i ++ idle 2 i) ∙ append-nil _; facing = idle 3 }
   by-change tested Added = pick (isNormalCube W (e .type))
     where
@@ -145,16 +145,6 @@ module _ {W : World} {e : Entry} {w : Work} {R : rule.Work} (r : Means W e w R) 
   needed-parts m = (λ i. length (run (sym (r .new) i) (run (sym (r .own) i) m))) ∙ ap length (run-append (partOps W e (w .shown) 1) (partOps W e (w .drawn) 2) (run (partOps W e (w .own) 0) m))
 
 module _ (W : World) (e : Entry) where
-  -- the types alone decide it
-  pub meant-types : (tested : Tested) → meant tested (typesBy (W .kinds) (W .covers)) e ≡ meant tested W e
-  meant-types tested = go (e .change)
-    where
-      go : (k : Change) → meantBy tested (typesBy (W .kinds) (W .covers)) e k ≡ meantBy tested W e k
-      go Broken = refl
-      go Added = refl
-      go CullFaces = refl
-      go AddFaces = refl
-
   nothing-in : {A : Type 0} (i : ℕ) → has 0 i ≡ true → A
   nothing-in i h = absurd (false≢true (sym (zero-has i) ∙ h))
 
@@ -166,7 +156,7 @@ module _ (W : World) (e : Entry) where
       drawn w true z c = record { shown = λ i l h. nothing-in i (ap (λ (n : ℕ). has n i) (sym z) ∙ h); drawn = λ i l h. c }
       drawn w false z c = record { shown = λ i l h. nothing-in i h; drawn = λ i l h. nothing-in i h }
 
-      go : (k : Change) → Cubes (W .kinds) e (meantBy tested W e k)
+      go : (k : Change) → Cubes (W .kinds) e (meantBy tested (typesBy (W .kinds) (W .covers)) e k)
       go Broken =
           record {
             shown = λ i l h. and-true (covering W (e .type) i) (isNormalCube W (givenAt e i)) (sym (has-setOf (isShown (W .kinds) (getD (W .covers) (e .type) 0) e) i l) ∙ h) .1;
@@ -190,7 +180,7 @@ module _ (W : World) (e : Entry) where
       one w true h = h
       one w false h = four (omega arith) (omega arith) (omega arith) (omega arith) j
 
-      go : (k : Change) → setIn (meantBy tested W e k) j < 64
+      go : (k : Change) → setIn (meantBy tested (typesBy (W .kinds) (W .covers)) e k) j < 64
       go Broken = four (omega arith) (setOf-lt (isShown (W .kinds) (getD (W .covers) (e .type) 0) e)) (omega arith) (omega arith) j
       go Added = one _ (isNormalCube W (e .type)) (four (omega arith) (omega arith) (setOf-lt (isOpen W e)) (setOf-lt (λ i. covering W (e .type) (tested i))) j)
       go CullFaces = four (setOf-lt (withGiven e)) (omega arith) (omega arith) (omega arith) j

@@ -9,7 +9,6 @@ use lib.Dec.{eqb}
 use Rattle.rules.specs.Lists.{each, table}
 use Rattle.rules.specs.Cells.{Size, opposite, neighbour, keyOf, has, setOf}
 use Rattle.rules.specs.Mesh.{Quad, World, NONE, isNormalCube, covering}
-use Rattle.rules.specs.Update as rule
 use Rattle.rules.specs.Update.{Entry, Change, Broken, Added, CullFaces, AddFaces, Tested, givenAt, withGiven, isOpen}
 use Rattle.steps.specs.Steps.{Deed, show, hide, quadBy}
 use Rattle.works.specs.declared.Work.{Work}
@@ -35,8 +34,9 @@ meantBy tested W e Added = cond (isNormalCube W (e .type)) (sets 63 0 (setOf (is
 meantBy tested W e CullFaces = sets (setOf (withGiven e)) 0 0 0
 meantBy tested W e AddFaces = cond (isNormalCube W (e .type)) (sets 0 0 (setOf (withGiven e)) 0) noWork
 
+-- the types alone decide it
 abbrev pub meant : Tested → World → Entry → Work
-meant tested W e = meantBy tested W e (e .change)
+meant tested W e = meantBy tested (typesBy (W .kinds) (W .covers)) e (e .change)
 
 -- ---- the four parts: their sets, the faces that they are about, and what is done there
 abbrev pub setIn : Work → ℕ → ℕ

@@ -14,8 +14,6 @@ use Rattle.terms.specs.Modes.{testedBy}
 use Rattle.terms.specs.Scenes.{sceneOf}
 use Rattle.steps.specs.Steps.{Step, shelf, stepAt, replayed}
 use Rattle.steps.specs.Rows.{wordsBy, Replaying}
-use Rattle.works.specs.Sets.{meant}
-use Rattle.works.proofs.Meant.{meant-types}
 use Rattle.indexing.specs.Index.{Index}
 use Rattle.update.proofs.Drawing.{bare}
 use Rattle.update.proofs.Running.{Running, run-start, run-inside, run-sets, run-gridded, run-small, run-needed, run-ready, run-few, run-replaying, run-on, run-full, run-through, run-ended}
@@ -48,11 +46,6 @@ looped c = c .before .before .before
 abbrev works : tie.After-keys-around Inv-loop μ-loop → Work
 works c = let t = begun (looped c) in work (side t) (world (scene-of t)) (entryAt (t .args .log .now) (looped c .before .loop .k))
 
--- its sets, as the rule means them
-sets : (c : tie.After-keys-around Inv-loop μ-loop) →
-    let t = begun (looped c) in c .before .work-of .result ≡ meant (side t) (world (scene-of t)) (entryIn (c .before .before .read-entry .result))
-sets c = let t = begun (looped c) in c .before .work-of .ensures ∙ meant-types (world (scene-of t)) (entryIn (c .before .before .read-entry .result)) (side t)
-
 -- what it needs, as the rule has it
 asked : (c : tie.After-has-room Inv-loop μ-loop) → let b = c .before .before .before in c .has-room .result ≡ leb (needed (works b) (looped b .before .loop .inv .0 .mesh)) (begun (looped b) .args .task .room)
 asked c =
@@ -60,7 +53,7 @@ asked c =
     let i = looped b in
     let t = begun i in
     c .has-room .ensures
-    ∙ ap (λ (n : ℕ). leb n (t .args .task .room)) (run-needed (side t) (t .pre) (i .before .loop .inv .0) (i .loop-test .taken) (b .before .before .read-entry .ensures) (sets b) (b .keys-around .ensures))
+    ∙ ap (λ (n : ℕ). leb n (t .args .task .room)) (run-needed (side t) (t .pre) (i .before .loop .inv .0) (i .loop-test .taken) (b .before .before .read-entry .ensures) (b .before .work-of .ensures) (b .keys-around .ensures))
 
 inverted-requires : tie.Need-inverted-requires Inv-loop μ-loop
 inverted-requires c κs = c .before .before .before .before .before .before .before .before .pre .within .sides
@@ -83,7 +76,7 @@ has-room-requires c κs =
     let i = looped b in
     let t = begun i in
     let r = i .before .loop .inv .0 in
-    (run-gridded (side t) (t .pre) r (i .loop-test .taken) (b .before .before .read-entry .ensures) (sets b) (b .keys-around .ensures), run-small (side t) (t .pre) r)
+    (run-gridded (side t) (t .pre) r (i .loop-test .taken) (b .before .before .read-entry .ensures) (b .before .work-of .ensures) (b .keys-around .ensures), run-small (side t) (t .pre) r)
 
 returns : tie.Need-returns Inv-loop μ-loop
 returns c =
@@ -110,7 +103,7 @@ index-work-requires c κs =
     let l = i .before .loop in
     let lt = i .loop-test .taken in
     let at = b .before .before .read-entry .ensures in
-    (run-sets (side t) (t .pre) (l .inv .0) lt at (sets b) (b .keys-around .ensures), run-ready (side t) (t .pre) (l .inv .0) lt at (sets b) (b .keys-around .ensures) (fits test) (l .steps) (l .inv .4))
+    (run-sets (side t) (t .pre) (l .inv .0) lt at (b .before .work-of .ensures) (b .keys-around .ensures), run-ready (side t) (t .pre) (l .inv .0) lt at (b .before .work-of .ensures) (b .keys-around .ensures) (fits test) (l .steps) (l .inv .4))
 
 slice-aggregate-replay : tie.Need-slice-aggregate-replay Inv-loop μ-loop
 slice-aggregate-replay c =
@@ -128,12 +121,12 @@ replay-requires c κs =
     let lt = i .loop-test .taken in
     let at = b .before .before .read-entry .ensures in
     let is = ap (λ (I : Index). I .steps) (went .index-work .ensures) in
-    let few = run-few (side t) (t .pre) (l .inv .0) lt at (sets b) (b .keys-around .ensures) (fits test) (l .steps) (l .inv .4) in
+    let few = run-few (side t) (t .pre) (l .inv .0) lt at (b .before .work-of .ensures) (b .keys-around .ensures) (fits test) (l .steps) (l .inv .4) in
     let n = length-table (stepAt (went .index-work .last .1 .1 .0)) (went .index-work .result .steps) in
     let long = went .index-work .kept .1 .1 .0 in (
       omega (arith, ap length is, n, few, long),
       subst (λ (xs : List Step). Replaying (bare (scene-of t)) xs (shelf (l .vertices) (l .quads))) (sym is)
-          (run-replaying (side t) (t .pre) (l .inv .0) lt at (sets b) (b .keys-around .ensures) (fits test) (l .steps) (l .inv .4) (l .inv .1)),
+          (run-replaying (side t) (t .pre) (l .inv .0) lt at (b .before .work-of .ensures) (b .keys-around .ensures) (fits test) (l .steps) (l .inv .4) (l .inv .1)),
       i .before .before .inverted .ensures,
     )
 
@@ -154,7 +147,7 @@ loop-again c =
     let l = i .before .loop in
     let S = bare (scene-of t) in
     let is = ap (λ (I : Index). I .steps) (went .index-work .ensures) in (
-      run-on (side t) (t .pre) (l .inv .0) (i .loop-test .taken) (b .before .before .read-entry .ensures) (sets b) (b .keys-around .ensures) (fits test) (l .steps) (l .inv .4)
+      run-on (side t) (t .pre) (l .inv .0) (i .loop-test .taken) (b .before .before .read-entry .ensures) (b .before .work-of .ensures) (b .keys-around .ensures) (fits test) (l .steps) (l .inv .4)
           (went .index-work .ensures)
           (drew .replay .ensures ∙ ap (λ (xs : List Step). replayed (span S) (wordsBy S) xs (shelf (l .vertices) (l .quads))) is),
       drew .replay .kept .0 ∙ l .inv .1,
