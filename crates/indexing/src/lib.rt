@@ -45,17 +45,7 @@ fn larger(a: usize, b: usize) -> usize
     if a <= b { b } else { a }
 }
 
-// Writes step i: a key and a type, or a place and the mark.
-fn write_step(steps: &mut [u32], i: usize, a: u32, b: u32)
-    requires { ⌜ 2 * i + 2 ≤ length (now steps) ⌝ }
-    ensures { λ _. ⌜ now (steps .exit) ≡ set (set (now (steps .entry)) (2 * i) a) (2 * i + 1) b ⌝ }
-{
-    let at = 2 * i;
-    steps[at] = a;
-    steps[at + 1] = b;
-}
-
-// Removes quad q: the links of those that move go along, their slots name the new places.
+// Removes quad q: the links of those that move go along, their slots name the new places. The step is its place and the mark.
 fn remove_quad(
     links: &mut [u32],
     slots: &mut [u32],
@@ -68,21 +58,22 @@ fn remove_quad(
         ≡ goneAt (quad .0) (indexOf (now (links .entry)) (now (slots .entry)) (now (steps .entry)) tally) ⌝ }
 {
     let count = tally.quads;
-    let at = tally.steps;
+    let at = 2 * tally.steps;
     let place = quad.0 as usize;
     let moved = tally.moved + moved_by(place, count) as u64;
     renumber(slots, links, place, count);
     free_row(links, 1, place, count);
-    write_step(steps, at, quad.0, CUT);
+    steps[at] = quad.0;
+    steps[at + 1] = CUT;
     Tally {
         quads: count - 1,
         moved: moved,
         top: tally.top,
-        steps: at + 1,
+        steps: tally.steps + 1,
     }
 }
 
-// Draws the quad of the face of a key after the last one.
+// Draws the quad of the face of a key after the last one. The step is the key and the type.
 fn append_quad(
     links: &mut [u32],
     slots: &mut [u32],
@@ -96,7 +87,7 @@ fn append_quad(
         ≡ cameAt key voxel (indexOf (now (links .entry)) (now (slots .entry)) (now (steps .entry)) tally) ⌝ }
 {
     let count = tally.quads;
-    let at = tally.steps;
+    let at = 2 * tally.steps;
     insert(
         links,
         slots,
@@ -104,12 +95,13 @@ fn append_quad(
         Cell(key / 6),
         Quad(count as u32),
     );
-    write_step(steps, at, key, voxel as u32);
+    steps[at] = key;
+    steps[at + 1] = voxel as u32;
     Tally {
         quads: count + 1,
         moved: tally.moved,
         top: larger(tally.top, count + 1),
-        steps: at + 1,
+        steps: tally.steps + 1,
     }
 }
 

@@ -14,7 +14,7 @@ use Rattle.rules.specs.Update as rule
 use Rattle.rules.specs.Update.{Entry, Change, Tested, Broken, Added, CullFaces, AddFaces, Op, put, cut, run, cuts, puts, ops, needed, givenAt, sides, quads, all, isOpen, withGiven, reveal, nothing, added, workBy, work}
 use Rattle.rules.proofs.Sets.{has-setOf, setOf-lt}
 use Rattle.rules.proofs.Neighbours.{opposite-lt}
-use Rattle.rules.proofs.ListLaws.{and-true, each-same}
+use Rattle.rules.proofs.ListLaws.{split, and-true, each-same}
 use Rattle.rules.proofs.Quads.{run-append}
 use Rattle.util.specs.Grid.{Within}
 use Rattle.steps.specs.Steps.{opOf, opsOf}
@@ -65,45 +65,43 @@ module _ (W : World) (e : Entry) (grid : Within (W .size)) (inside : e .cell < c
   quad-at : (t c f : ℕ) → f < 6 → quadIn W (keyOf c f) t ≡ quadOf W t c f
   quad-at t c f h = let a : keyOf c f % 6 ≡ f = omega arith in let b : keyOf c f / 6 ≡ c = omega arith in rw (a, b)
 
-  pub own-cut : (set : ℕ) (p : ℕ → Bool) → ((f : ℕ) → f < 6 → has set f ≡ p f) → partOps W e set 0 ≡ cuts (sides (e .cell) p)
-  own-cut set p h =
-      part-is 0 set p (λ f. map cut (only (p f) (keyOf (e .cell) f))) h (λ f l b q. ap (on 0 f b) (own-spot (W .size) (e .cell) grid inside 0 f refl l) ∙ one f b ∙ ap (λ (b : Bool). map cut (only b (keyOf (e .cell) f))) (sym q))
-      ∙ sym (map-each cut 6 0 (λ f. only (p f) (keyOf (e .cell) f)))
+  -- LAW: a part about own sides, as the rule lists them
+  own-part : {A : Type 0} (g : A → Op) (x : ℕ → A) (j set : ℕ) (p : ℕ → Bool) → j % 2 ≡ 0 → ((f : ℕ) → f < 6 → has set f ≡ p f)
+      → ((f : ℕ) → f < 6 → opOf (quadIn W) (deedBy (cutting j) (typeAt e j f) (keyOf (e .cell) f)) ≡ g (x f)) → partOps W e set j ≡ map g (each 6 0 (λ f. only (p f) (x f)))
+  own-part g x j set p even h is =
+      part-is j set p (λ f. map g (only (p f) (x f))) h (λ f l b q. ap (on j f b) (own-spot (W .size) (e .cell) grid inside j f even l) ∙ one f l b ∙ ap (λ (b : Bool). map g (only b (x f))) (sym q))
+      ∙ sym (map-each g 6 0 (λ f. only (p f) (x f)))
     where
-      one : (f : ℕ) (b : Bool) → on 0 f b (keyOf (e .cell) f ∷ []) ≡ map cut (only b (keyOf (e .cell) f))
-      one f true = refl
-      one f false = refl
+      one : (f : ℕ) → f < 6 → (b : Bool) → on j f b (keyOf (e .cell) f ∷ []) ≡ map g (only b (x f))
+      one f l true = ap (λ (o : Op). o ∷ []) (is f l)
+      one f l false = refl
+
+  -- LAW: one about facing sides, of the neighbours that the grid has
+  near-part : {A : Type 0} (g : A → Op) (r : ℕ → Option ℕ → List A) (x : ℕ → ℕ → A) (j : ℕ) (p : ℕ → Bool) → j % 2 ≡ 1 → ((f : ℕ) → r f none ≡ []) → ((f n : ℕ) → r f (some n) ≡ only (p f) (x f n))
+      → ((f n : ℕ) → f < 6 → opOf (quadIn W) (deedBy (cutting j) (typeAt e j f) (keyOf n (opposite f))) ≡ g (x f n)) → partOps W e (setOf p) j ≡ map g (each 6 0 (λ f. r f (beyond f)))
+  near-part g r x j p odd bare met is =
+      part-is j (setOf p) p (λ f. map g (r f (beyond f))) (has-setOf p) (λ f l b q. ap (on j f b) (near-spot (W .size) (e .cell) grid inside j f odd l) ∙ one f l b q (beyond f))
+      ∙ sym (map-each g 6 0 (λ f. r f (beyond f)))
+    where
+      one : (f : ℕ) → f < 6 → (b : Bool) → p f ≡ b → (o : Option ℕ) → on j f b (facing f o) ≡ map g (r f o)
+      one f l true q none = sym (ap (map g) (bare f))
+      one f l false q none = sym (ap (map g) (bare f))
+      one f l true q (some n) = ap (λ (o : Op). o ∷ []) (is f n l) ∙ sym (ap (map g) (met f n ∙ ap (λ (b : Bool). only b (x f n)) q))
+      one f l false q (some n) = sym (ap (map g) (met f n ∙ ap (λ (b : Bool). only b (x f n)) q))
+
+  pub own-cut : (set : ℕ) (p : ℕ → Bool) → ((f : ℕ) → f < 6 → has set f ≡ p f) → partOps W e set 0 ≡ cuts (sides (e .cell) p)
+  own-cut set p h = own-part cut (keyOf (e .cell)) 0 set p refl h (λ f l. refl)
 
   own-put : (p : ℕ → Bool) → partOps W e (setOf p) 2 ≡ puts (quads W (e .type) (e .cell) p)
-  own-put p =
-      part-is 2 (setOf p) p (λ f. map put (only (p f) (quadOf W (e .type) (e .cell) f))) (has-setOf p) (λ f l b q. ap (on 2 f b) (own-spot (W .size) (e .cell) grid inside 2 f refl l) ∙ one f l b ∙ ap (λ (b : Bool). map put (only b (quadOf W (e .type) (e .cell) f))) (sym q))
-      ∙ sym (map-each put 6 0 (λ f. only (p f) (quadOf W (e .type) (e .cell) f)))
-    where
-      one : (f : ℕ) → f < 6 → (b : Bool) → on 2 f b (keyOf (e .cell) f ∷ []) ≡ map put (only b (quadOf W (e .type) (e .cell) f))
-      one f l true = ap (λ (q : Quad). put q ∷ []) (quad-at (e .type) (e .cell) f l)
-      one f l false = refl
+  own-put p = own-part put (quadOf W (e .type) (e .cell)) 2 (setOf p) p refl (has-setOf p) (λ f l. ap put (quad-at (e .type) (e .cell) f l))
 
   near-put : partOps W e (setOf (λ i. covering W (e .type) i && isNormalCube W (givenAt e i))) 1 ≡ puts (each 6 0 (λ i. reveal W (e .type) (givenAt e i) i (beyond i)))
   near-put =
-      part-is 1 _ (λ i. covering W (e .type) i && isNormalCube W (givenAt e i)) (λ i. map put (reveal W (e .type) (givenAt e i) i (beyond i))) (has-setOf (λ i. covering W (e .type) i && isNormalCube W (givenAt e i)))
-      (λ f l b q. ap (on 1 f b) (near-spot (W .size) (e .cell) grid inside 1 f refl l) ∙ one f l b q (beyond f)) ∙ sym (map-each put 6 0 (λ i. reveal W (e .type) (givenAt e i) i (beyond i)))
-    where
-      one : (f : ℕ) → f < 6 → (b : Bool) → (covering W (e .type) f && isNormalCube W (givenAt e f)) ≡ b → (o : Option ℕ) → on 1 f b (facing f o) ≡ map put (reveal W (e .type) (givenAt e f) f o)
-      one f l true q none = refl
-      one f l false q none = refl
-      one f l true q (some n) = rw q (ap (λ (x : Quad). put x ∷ []) (quad-at (givenAt e f) n (opposite f) (opposite-lt f l)))
-      one f l false q (some n) = rw q
+      near-part put (λ i. reveal W (e .type) (givenAt e i) i) (λ f n. quadOf W (givenAt e f) n (opposite f)) 1 (λ i. covering W (e .type) i && isNormalCube W (givenAt e i)) refl
+      (λ f. refl) (λ f n. refl) (λ f n l. ap put (quad-at (givenAt e f) n (opposite f) (opposite-lt f l)))
 
   near-cut : (tested : Tested) → partOps W e (setOf (λ i. covering W (e .type) (tested i))) 3 ≡ cuts (each 6 0 (λ i. rule.hide tested W (e .type) i (beyond i)))
-  near-cut tested =
-      part-is 3 _ (λ i. covering W (e .type) (tested i)) (λ i. map cut (rule.hide tested W (e .type) i (beyond i))) (has-setOf (λ i. covering W (e .type) (tested i)))
-      (λ f l b q. ap (on 3 f b) (near-spot (W .size) (e .cell) grid inside 3 f refl l) ∙ one f b q (beyond f)) ∙ sym (map-each cut 6 0 (λ i. rule.hide tested W (e .type) i (beyond i)))
-    where
-      one : (f : ℕ) (b : Bool) → covering W (e .type) (tested f) ≡ b → (o : Option ℕ) → on 3 f b (facing f o) ≡ map cut (rule.hide tested W (e .type) f o)
-      one f true q none = refl
-      one f false q none = refl
-      one f true q (some n) = rw q
-      one f false q (some n) = rw q
+  near-cut tested = near-part cut (rule.hide tested W (e .type)) (λ f n. keyOf n (opposite f)) 3 (λ i. covering W (e .type) (tested i)) refl (λ f. refl) (λ f n. refl) (λ f n l. refl)
 
   idle : (j : ℕ) → partOps W e 0 j ≡ []
   unfolding each
@@ -152,9 +150,13 @@ module _ (W : World) (e : Entry) where
   pub meant-cubes : (tested : Tested) → Cubes (W .kinds) e (meant tested W e)
   meant-cubes tested = go (e .change)
     where
-      drawn : (w : Work) (b : Bool) → w .shown ≡ 0 → isNormalCube W (e .type) ≡ b → Cubes (W .kinds) e (cond b w noWork)
-      drawn w true z c = record { shown = λ i l h. nothing-in i (ap (λ (n : ℕ). has n i) (sym z) ∙ h); drawn = λ i l h. c }
-      drawn w false z c = record { shown = λ i l h. nothing-in i h; drawn = λ i l h. nothing-in i h }
+      idle-cubes : {own : ℕ} → Cubes (W .kinds) e (sets own 0 0 0)
+      idle-cubes = record { shown = λ i l h. nothing-in i h; drawn = λ i l h. nothing-in i h }
+
+      own-drawn : (own drawn hidden : ℕ) → Cubes (W .kinds) e (cond (isNormalCube W (e .type)) (sets own 0 drawn hidden) noWork)
+      own-drawn own drawn hidden =
+          split (λ b. isNormalCube W (e .type) ≡ b → Cubes (W .kinds) e (cond b (sets own 0 drawn hidden) noWork)) (isNormalCube W (e .type))
+          (λ _ c. record { shown = λ i l h. nothing-in i h; drawn = λ i l h. c }) (λ _ c. idle-cubes) refl
 
       go : (k : Change) → Cubes (W .kinds) e (meantBy tested (typesBy (W .kinds) (W .covers)) e k)
       go Broken =
@@ -162,9 +164,9 @@ module _ (W : World) (e : Entry) where
             shown = λ i l h. and-true (covering W (e .type) i) (isNormalCube W (givenAt e i)) (sym (has-setOf (isShown (W .kinds) (getD (W .covers) (e .type) 0) e) i l) ∙ h) .1;
             drawn = λ i l h. nothing-in i h;
           }
-      go Added = drawn _ (isNormalCube W (e .type)) refl refl
-      go CullFaces = record { shown = λ i l h. nothing-in i h; drawn = λ i l h. nothing-in i h }
-      go AddFaces = drawn _ (isNormalCube W (e .type)) refl refl
+      go Added = own-drawn 63 _ _
+      go CullFaces = idle-cubes
+      go AddFaces = own-drawn 0 _ 0
 
   -- LAW: they are sets of six sides
   pub meant-few : (tested : Tested) (j : ℕ) → setIn (meant tested W e) j < 64
