@@ -11,7 +11,7 @@ ghost use lib.ListN.{length, getD, set, replicate};
 ghost use Rattle.rules.specs.Cells.{UNIT, linkWord, codeIn, keyOf, keyIn, firstVertex};
 ghost use Rattle.rules.specs.Mesh.{NONE};
 ghost use Rattle.face.specs.Face.{number};
-ghost use Rattle.mesh_metadata.specs.Index.{vertexIn, vertexOf, renum, Linked};
+ghost use Rattle.mesh_metadata.specs.Index.{vertexIn, vertexOf, shifted, renum, Linked};
 
 // The first vertex of a quad.
 pub enum QuadIndex {
@@ -106,16 +106,36 @@ pub fn remove_quad(slots: &mut [u32], links: &[u32], quad: Quad)
     slots[slot] = NONE;
 }
 
+// Quads `from` and on are at q and on from now on.
+fn rename(slots: &mut [u32], links: &[u32], q: usize, from: usize, count: usize)
+    requires { ⌜ (q < from) × (from ≤ count) × Linked count (now links) (now slots) ⌝ }
+    ensures { λ _. ⌜ now (slots .exit) ≡ map (shifted q from count) (now (slots .entry)) ⌝ }
+{
+    let mut i = from;
+    while i < count {
+        change_quad_index(slots, links, Quad(i as u32), Quad((i - (from - q)) as u32));
+        i += 1;
+    }
+}
+
+// The same; if it is the last one alone, without counting.
+fn rename_from(slots: &mut [u32], links: &[u32], q: usize, from: usize, count: usize)
+    requires { ⌜ (q < from) × (from ≤ count) × Linked count (now links) (now slots) ⌝ }
+    ensures { λ _. ⌜ now (slots .exit) ≡ map (shifted q from count) (now (slots .entry)) ⌝ }
+{
+    if count - from == 1 {
+        rename(slots, links, q, count - 1, count);
+        return;
+    }
+    rename(slots, links, q, from, count);
+}
+
 // Mends the slots where quad q of `count` is removed: that of q, and those of the quads that move, which are five at most.
 pub fn renumber(slots: &mut [u32], links: &[u32], q: usize, count: usize)
     requires { ⌜ (q < count) × Linked count (now links) (now slots) ⌝ }
     ensures { λ _. ⌜ now (slots .exit) ≡ map (renum q count) (now (slots .entry)) ⌝ }
 {
     let from = vav::source(q, count);
-    let mut i = from;
-    while i < count {
-        change_quad_index(slots, links, Quad(i as u32), Quad((i - (from - q)) as u32));
-        i += 1;
-    }
+    rename_from(slots, links, q, from, count);
     remove_quad(slots, links, Quad(q as u32));
 }
