@@ -14,7 +14,7 @@ use Rattle.rules.proofs.ListLaws.{All, all-append, all-take, all-drop, all-at, 
 use Rattle.rules.proofs.Quads.{placed, length-removeAt}
 use Rattle.rules.proofs.Laying.{Sized}
 use Rattle.vav.proofs.Laid.{draw-laid, remove-laid}
-use Rattle.steps.specs.Steps.{Step, gone, came, Shelf, shelf, replayed, Can, quadBy, Deed, show, hide, opsOf, stepsOf, Able}
+use Rattle.steps.specs.Steps.{Step, gone, came, shelf, replayed, Can, quadBy, Deed, show, hide, opsOf, stepsOf, Able}
 
 -- what holds of all quads holds of them after a removal
 all-removed : (P : Quad → Type 0) (q : ℕ) (m : List Quad) → q < length m → All P m → All P (removeAt q m)

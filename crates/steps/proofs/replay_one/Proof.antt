@@ -1,72 +1,152 @@
 -- `steps::replay_one` meets its contract. Assumes nothing.
-use mathlib.Core.Path.{_≡_, ap, _∙_}
-use mathlib.Core.Bool.{Bool, cond}
-use mathlib.Core.List.{[], _∷_}
-use Prim.Native.Nat.{ℕ, _-_, _*_, _<_, _≤_}
+use mathlib.Core.Path.{_≡_, sym, ap, _∙_, subst}
+use mathlib.Core.List.{List, [], _∷_}
+use Prim.Native.Nat.{ℕ, suc, _+_, _-_, _*_, _/_, _≤_}
 use native.Mathlib.Nat.{mul-le-mul-left}
 use native.Mathlib.Omega.{arith}
-use lib.ListN.{length}
+use lib.ListN.{length, take, drop}
 use borrow.Author.Needs.{needs}
 use borrow.Author.Tests.{lt-ltb, le-ltb}
+use Rattle.rules.specs.Lists.{part}
+use Rattle.rules.specs.Cells.{Triple, coordinates}
+use Rattle.rules.specs.Types.{floats, cubeOf, quadWords}
 use Rattle.rules.specs.Calls.{Scene, span}
+use Rattle.rules.proofs.Neighbours.{inside-of}
+use Rattle.util.specs.Grid.{Within}
 use Rattle.voxel_mesh.proofs.Shapes.{few}
 use Rattle.terms.specs.Scenes.{sceneOf}
-use Rattle.vav.specs.Rows.{freed}
-use Rattle.steps.specs.Steps.{gone, came, CUT, Shelf, shelf}
-use Rattle.steps.specs.Rows.{runOf, Replaying}
+use Rattle.vav.specs.Rows.{put, freed}
+use Rattle.vav.proofs.Laws.{length-part, part-lent}
+use Rattle.quads.specs.Quads.{Drawable}
+use Rattle.steps.specs.Steps.{Step, gone, came, CUT, Shelf, shelf}
+use Rattle.steps.specs.Rows.{Drawn, Replaying}
 use Rattle.steps.proofs.replay_one.Statement.{statement}
 use Rattle.steps.proofs.replay_one.Tie as tie
+
+-- quads within the room have their words
+rows-fit : {S : Scene} {xs : List Step} {v : Shelf} (p : Replaying S xs v) {n : ℕ} → n ≤ p .room → span S * n ≤ length (v .words)
+rows-fit {S} p h = omega (arith, p .fits, mul-le-mul-left (span S) h)
+
+-- the cube of a type can be drawn at a cell of the grid
+drawable : (S : Scene) (k t : ℕ) → Within (S .size) → Drawn S k t → Drawable (cubeOf (S .types) t) (floats (S .types)) (coordinates (S .size) (k / 6)) (S .d)
+drawable S k t w d =
+    let s = w .sides in
+    let i = inside-of (S .size) (k / 6) (s .wide) (s .long) (d .0) in
+    let f = few (S .types .coloured) in
+    let all = length-part (24 * floats (S .types) * t) (24 * floats (S .types)) (S .types .cubes) (d .1 .whole) in
+    record {
+      words = record { least = omega arith; most = omega arith; whole = omega arith };
+      placed = d .1 .placed;
+      finite = d .1 .finite;
+      x = omega (arith, i .x, s .widest);
+      y = omega (arith, i .y, s .highest);
+      z = omega (arith, i .z, s .longest);
+    }
 
 abbrev scene : tie.Start → Scene
 scene t = sceneOf (t .args .scene) [] [] (t .args .cubes .now)
 
-abbrev there : tie.Start → Shelf
-there t = shelf (t .args .vertices .now) (t .args .count)
+abbrev Doing : tie.Start → Step → Type 0
+Doing t x = Replaying (scene t) (x ∷ []) (shelf (t .args .vertices .now) (t .args .count))
 
-draw-row-requires : tie.Need-draw-row-requires
-draw-row-requires c κs =
-    let t = c .before .before .before .before in
-    (rw (lt-ltb (t .args .b) CUT (c .before .if1 .taken)) at (t .pre .0), t .pre .1)
+-- ---- a cut
+module _ (c : tie.Then1) where
+  abbrev cutting : tie.Start
+  cutting = c .before .before .before .before
 
-returns : tie.Need-returns
-returns c =
-    let drew = c .before .before in
-    let t = drew .before .before .before .before .before in
-    rw (lt-ltb (t .args .b) CUT (drew .before .before .if1 .taken)) (drew .draw-row .ensures)
-
--- a step that is a cut
-module _ (c : tie.Else1) where
-  abbrev t : tie.Start
-  t = c .before .before .before
-
-  cut : Replaying (scene t) (gone (t .args .a) ∷ []) (there t)
-  cut = rw (le-ltb (t .args .b) CUT (c .if1 .left)) at (t .pre .0)
-
-  room : span (scene t) * t .args .count ≤ length (t .args .vertices .now)
-  room = let f = cut .fits in let m = mul-le-mul-left (span (scene t)) (cut .here) in omega arith
+  cut : Doing cutting (gone (cutting .args .a))
+  cut = rw (le-ltb (cutting .args .b) CUT (c .if1 .taken)) at (cutting .pre .0)
 
 mul-free-row : tie.Need-mul-free-row
 mul-free-row c =
-    let f = few (t (c .before .before) .args .scene .coloured) .1 in
-    record { fits = omega (arith, c .floats-of .ensures) }
+    let f = few (cutting (c .before) .args .scene .coloured) .1 in
+    record { fits = omega (arith, c .before .before .floats-of .ensures) }
 
 free-row-requires : tie.Need-free-row-requires
-free-row-requires c κs = let e = c .before .before in (cut e .can .0, rw (c .floats-of .ensures) (room e))
+free-row-requires c κs =
+    let p = cut (c .before) in
+    (p .can .0, rw (c .before .before .floats-of .ensures) (rows-fit p (p .here)))
 
 sub-result : tie.Need-sub-result
-sub-result c = let l = cut (c .before .before .before .before .before) .can .0 in omega arith
+sub-result c = let l = cut (c .before .before .before .before) .can .0 in omega arith
+
+returns : tie.Need-returns
+returns c =
+    let went = c .before .before in
+    let test = went .before .before in
+    let a = cutting test .args in
+    rw (le-ltb (a .b) CUT (test .if1 .taken))
+    (ap (λ (xs : List ℕ). shelf xs (a .count - 1))
+    (went .free-row .ensures ∙ ap (λ (n : ℕ). freed (4 * n) (a .a) (a .count) (a .vertices .now)) (test .before .floats-of .ensures)))
+
+-- ---- a draw
+module _ (c : tie.Else1) where
+  abbrev drawing : tie.Start
+  drawing = c .before .before .before .before
+
+  drawn : Doing drawing (came (drawing .args .a) (drawing .args .b))
+  drawn = rw (lt-ltb (drawing .args .b) CUT (c .if1 .left)) at (drawing .pre .0)
+
+  abbrev words : ℕ
+  words = c .before .floats-of .result
+
+  abbrev from : ℕ
+  from = 24 * words * drawing .args .b
+
+  -- the part of the registry that is lent is the type's cube
+  ends : (words ≤ 12) × (from + 24 * words ≤ length (drawing .args .cubes .now))
+  ends =
+      let a = drawing .args in
+      subst (λ (n : ℕ). (n ≤ 12) × (24 * n * a .b + 24 * n ≤ length (a .cubes .now))) (sym (c .before .floats-of .ensures))
+      (few (a .scene .coloured) .1, drawn .can .1 .1 .whole)
+
+  lent : take (from + 24 * words - from) (drop from (drawing .args .cubes .now)) ≡ cubeOf (scene drawing .types) (drawing .args .b)
+  lent =
+      part-lent from (24 * words) (drawing .args .cubes .now)
+      ∙ ap (λ (n : ℕ). part (24 * n * drawing .args .b) (24 * n) (drawing .args .cubes .now)) (c .before .floats-of .ensures)
+
+  room : span (scene drawing) * suc (drawing .args .count) ≤ length (drawing .args .vertices .now)
+  room = rows-fit drawn (drawn .can .0)
+
+cords-of-requires : tie.Need-cords-of-requires
+cords-of-requires c κs = let test = c .before .before in let p = drawn test in (p .within, p .can .1 .0, drawing test .pre .1)
+
+write-place-requires : tie.Need-write-place-requires
+write-place-requires c κs =
+    let placed = c .before in
+    let test = placed .before .before .before in
+    let t = drawing test in
+    let cube = lent test in
+    let n = test .before .floats-of .ensures in
+    let at = placed .cords-of .ensures in (
+      subst (λ (x : List ℕ × ℕ × Triple). Drawable (x .0) (x .1) (x .2) (scene t .d)) (sym (λ i. (cube i, n i, at i)))
+          (drawable (scene t) (t .args .a) (t .args .b) (drawn test .within) (drawn test .can .1)),
+      rw n (omega (arith, room test)),
+    )
+
+add-result : tie.Need-add-result
+add-result c =
+    let test = c .before .before .before .before .before .before .before in
+    let a = drawing test .args in
+    omega (arith, room test, mul-le-mul-left (suc (a .count)) (few (a .scene .coloured) .0))
 
 returns-2 : tie.Need-returns-2
 returns-2 c =
-    let freed-at = c .before .before in
-    let sized = freed-at .before in
-    let e = sized .before .before in
-    let a = t e .args in
-    let l = freed-at .free-row .ensures ∙ ap (λ (k : ℕ). freed (4 * k) (a .a) (a .count) (a .vertices .now)) (sized .floats-of .ensures) in
-    rw (le-ltb (a .b) CUT (e .if1 .left)) (λ i. shelf (l i) (a .count - 1))
+    let wrote = c .before .before in
+    let placed = wrote .before .before in
+    let test = placed .before .before .before in
+    let a = drawing test .args in
+    let cube = lent test in
+    let n = test .before .floats-of .ensures in
+    let at = placed .cords-of .ensures in
+    let f = placed .before .face-at .ensures in
+    rw (lt-ltb (a .b) CUT (test .if1 .left))
+    (ap (λ (xs : List ℕ). shelf xs (a .count + 1))
+    (wrote .write-place .ensures ∙ (λ i. put (4 * n i * a .count) (quadWords (cube i) (n i) (scene (drawing test) .d) (f i) (at i)) (a .vertices .now))))
 
 pub replay-one-spec : {M : Type 1} → statement M
 replay-one-spec =
     tie.close
-    (tie.spec draw-row-requires (λ c. search needs) returns (λ c κs. search needs) mul-free-row free-row-requires sub-result
-    (λ c. search needs) returns-2)
+    (tie.spec (λ c κs. search needs) mul-free-row free-row-requires sub-result (λ c. search needs) returns (λ c. omega (arith, ends c)) (λ c. omega (arith, ends c))
+    (λ c. omega (arith, ends c)) (λ c. omega (arith, ends c)) (λ c. omega (arith, ends c)) (λ c. search needs) (λ c. search needs) (λ c. omega (arith, ends c))
+    (λ c κs. search needs) cords-of-requires write-place-requires add-result (λ c. search needs) returns-2)
