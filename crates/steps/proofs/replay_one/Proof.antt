@@ -1,14 +1,13 @@
 -- `steps::replay_one` meets its contract. Assumes nothing.
-use mathlib.Core.Path.{_≡_, sym, ap, _∙_, subst}
+use mathlib.Core.Path.{_≡_, ap, _∙_}
 use mathlib.Core.List.{List, [], _∷_}
-use Prim.Native.Nat.{ℕ, suc, _+_, _-_, _*_, _/_, _≤_}
+use Prim.Native.Nat.{ℕ, suc, _+_, _-_, _*_, _≤_, _<_}
 use native.Mathlib.Nat.{mul-le-mul-left}
 use native.Mathlib.Omega.{arith}
 use lib.ListN.{length, take, drop}
 use borrow.Author.Needs.{needs}
 use borrow.Author.Tests.{lt-ltb, le-ltb}
-use Rattle.rules.specs.Lists.{part}
-use Rattle.rules.specs.Cells.{Triple, coordinates}
+use Rattle.rules.specs.Cells.{Triple, cells, coordinates}
 use Rattle.rules.specs.Types.{floats, cubeOf, quadWords}
 use Rattle.rules.specs.Calls.{Scene, span}
 use Rattle.rules.proofs.Neighbours.{inside-of}
@@ -19,7 +18,7 @@ use Rattle.vav.specs.Rows.{put, freed}
 use Rattle.vav.proofs.Laws.{length-part, part-lent}
 use Rattle.quads.specs.Quads.{Drawable}
 use Rattle.steps.specs.Steps.{Step, gone, came, CUT, Shelf, shelf}
-use Rattle.steps.specs.Rows.{Drawn, Replaying}
+use Rattle.steps.specs.Rows.{Shaped, Replaying}
 use Rattle.steps.proofs.replay_one.Statement.{statement}
 use Rattle.steps.proofs.replay_one.Tie as tie
 
@@ -27,21 +26,30 @@ use Rattle.steps.proofs.replay_one.Tie as tie
 rows-fit : {S : Scene} {xs : List Step} {v : Shelf} (p : Replaying S xs v) {n : ℕ} → n ≤ p .room → span S * n ≤ length (v .words)
 rows-fit {S} p h = omega (arith, p .fits, mul-le-mul-left (span S) h)
 
--- the cube of a type can be drawn at a cell of the grid
-drawable : (S : Scene) (k t : ℕ) → Within (S .size) → Drawn S k t → Drawable (cubeOf (S .types) t) (floats (S .types)) (coordinates (S .size) (k / 6)) (S .d)
-drawable S k t w d =
-    let s = w .sides in
-    let i = inside-of (S .size) (k / 6) (s .wide) (s .long) (d .0) in
-    let f = few (S .types .coloured) in
-    let all = length-part (24 * floats (S .types) * t) (24 * floats (S .types)) (S .types .cubes) (d .1 .whole) in
-    record {
-      words = record { least = omega arith; most = omega arith; whole = omega arith };
-      placed = d .1 .placed;
-      finite = d .1 .finite;
-      x = omega (arith, i .x, s .widest);
-      y = omega (arith, i .y, s .highest);
-      z = omega (arith, i .z, s .longest);
-    }
+-- a type whose cube can be drawn, n words a vertex
+module _ {S : Scene} {t : ℕ} (k : Shaped S t) {n : ℕ} (e : n ≡ floats (S .types)) where
+  ends : (n ≤ 12) × (24 * n * t + 24 * n ≤ length (S .types .cubes))
+  ends = rw e (few (S .types .coloured) .1, k .whole)
+
+  -- the part of the registry that is lent is the type's cube
+  lent : take (24 * n * t + 24 * n - 24 * n * t) (drop (24 * n * t) (S .types .cubes)) ≡ cubeOf (S .types) t
+  lent = rw e (part-lent (24 * floats (S .types) * t) (24 * floats (S .types)) (S .types .cubes))
+
+  drawable : {c : ℕ} {a : Triple} → Within (S .size) → c < cells (S .size) → a ≡ coordinates (S .size) c
+      → Drawable (take (24 * n * t + 24 * n - 24 * n * t) (drop (24 * n * t) (S .types .cubes))) n a (S .d)
+  drawable {c} w h at =
+      let s = w .sides in
+      let i = inside-of (S .size) c (s .wide) (s .long) h in
+      let f = few (S .types .coloured) in
+      let all = length-part (24 * floats (S .types) * t) (24 * floats (S .types)) (S .types .cubes) (k .whole) in
+      rw (lent, e, at) (record {
+        words = record { least = omega arith; most = omega arith; whole = omega arith };
+        placed = k .placed;
+        finite = k .finite;
+        x = omega (arith, i .x, s .widest);
+        y = omega (arith, i .y, s .highest);
+        z = omega (arith, i .z, s .longest);
+      })
 
 abbrev scene : tie.Start → Scene
 scene t = sceneOf (t .args .scene) [] [] (t .args .cubes .now)
@@ -87,23 +95,8 @@ module _ (c : tie.Else1) where
   drawn : Doing drawing (came (drawing .args .a) (drawing .args .b))
   drawn = rw (lt-ltb (drawing .args .b) CUT (c .if1 .left)) at (drawing .pre .0)
 
-  abbrev words : ℕ
-  words = c .before .floats-of .result
-
-  abbrev from : ℕ
-  from = 24 * words * drawing .args .b
-
-  -- the part of the registry that is lent is the type's cube
-  ends : (words ≤ 12) × (from + 24 * words ≤ length (drawing .args .cubes .now))
-  ends =
-      let a = drawing .args in
-      subst (λ (n : ℕ). (n ≤ 12) × (24 * n * a .b + 24 * n ≤ length (a .cubes .now))) (sym (c .before .floats-of .ensures))
-      (few (a .scene .coloured) .1, drawn .can .1 .1 .whole)
-
-  lent : take (from + 24 * words - from) (drop from (drawing .args .cubes .now)) ≡ cubeOf (scene drawing .types) (drawing .args .b)
-  lent =
-      part-lent from (24 * words) (drawing .args .cubes .now)
-      ∙ ap (λ (n : ℕ). part (24 * n * drawing .args .b) (24 * n) (drawing .args .cubes .now)) (c .before .floats-of .ensures)
+  fits : let n = c .before .floats-of .result in (n ≤ 12) × (24 * n * drawing .args .b + 24 * n ≤ length (drawing .args .cubes .now))
+  fits = ends (drawn .can .1 .1) (c .before .floats-of .ensures)
 
   room : span (scene drawing) * suc (drawing .args .count) ≤ length (drawing .args .vertices .now)
   room = rows-fit drawn (drawn .can .0)
@@ -113,16 +106,10 @@ cords-of-requires c κs = let test = c .before .before in let p = drawn test in 
 
 write-place-requires : tie.Need-write-place-requires
 write-place-requires c κs =
-    let placed = c .before in
-    let test = placed .before .before .before in
-    let t = drawing test in
-    let cube = lent test in
+    let test = c .before .before .before .before in
+    let p = drawn test in
     let n = test .before .floats-of .ensures in
-    let at = placed .cords-of .ensures in (
-      subst (λ (x : List ℕ × ℕ × Triple). Drawable (x .0) (x .1) (x .2) (scene t .d)) (sym (λ i. (cube i, n i, at i)))
-          (drawable (scene t) (t .args .a) (t .args .b) (drawn test .within) (drawn test .can .1)),
-      rw n (omega (arith, room test)),
-    )
+    (drawable (p .can .1 .1) n (p .within) (p .can .1 .0) (c .before .cords-of .ensures), rw n (omega (arith, room test)))
 
 add-result : tie.Need-add-result
 add-result c =
@@ -136,8 +123,8 @@ returns-2 c =
     let placed = wrote .before .before in
     let test = placed .before .before .before in
     let a = drawing test .args in
-    let cube = lent test in
     let n = test .before .floats-of .ensures in
+    let cube = lent (drawn test .can .1 .1) n in
     let at = placed .cords-of .ensures in
     let f = placed .before .face-at .ensures in
     rw (lt-ltb (a .b) CUT (test .if1 .left))
@@ -147,6 +134,6 @@ returns-2 c =
 pub replay-one-spec : {M : Type 1} → statement M
 replay-one-spec =
     tie.close
-    (tie.spec (λ c κs. search needs) mul-free-row free-row-requires sub-result (λ c. search needs) returns (λ c. omega (arith, ends c)) (λ c. omega (arith, ends c))
-    (λ c. omega (arith, ends c)) (λ c. omega (arith, ends c)) (λ c. omega (arith, ends c)) (λ c. search needs) (λ c. search needs) (λ c. omega (arith, ends c))
+    (tie.spec (λ c κs. search needs) mul-free-row free-row-requires sub-result (λ c. search needs) returns (λ c. omega (arith, fits c)) (λ c. omega (arith, fits c))
+    (λ c. omega (arith, fits c)) (λ c. omega (arith, fits c)) (λ c. omega (arith, fits c)) (λ c. search needs) (λ c. search needs) (λ c. omega (arith, fits c))
     (λ c κs. search needs) cords-of-requires write-place-requires add-result (λ c. search needs) returns-2)
