@@ -15,6 +15,7 @@ use Rattle.steps.specs.Steps.{Step, Shelf, replayed, Can}
 abbrev pub wordsBy : Scene → ℕ → ℕ → List ℕ
 wordsBy S k t = wordsIn S t (k % 6) (k / 6)
 
+-- what steps do to the vertices
 abbrev pub runOf : Scene → List Step → Shelf → Shelf
 runOf S = replayed (span S) (wordsBy S)
 
