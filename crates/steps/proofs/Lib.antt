@@ -1,4 +1,2 @@
 pub mod Replaying
 pub mod Turning
-pub mod Turns
-pub mod Placing

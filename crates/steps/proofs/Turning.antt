@@ -1,5 +1,5 @@
 -- What is to be done list by list, n lists: what is left on what is there is the whole on what was there. Assumes nothing.
-use mathlib.Core.Path.{_≡_, refl, sym, ap, _∙_, subst}
+use mathlib.Core.Path.{_≡_, refl, sym, _∙_}
 use mathlib.Core.List.{List, [], _++_}
 use Prim.Native.Nat.{ℕ, zero, suc, _+_, _-_, _≤_, _<_}
 use native.Mathlib.Omega.{arith}
@@ -24,9 +24,7 @@ pub record Piecewise {D St : Type 0} (run : List D → St → St) (Can : List D 
 
 module _ {D St : Type 0} {run : List D → St → St} {Can : List D → St → Type 0} {n : ℕ} {p : ℕ → List D} where
   pub start : {A : St} → Can (each n 0 p) A → Turning run Can n p 0 A A
-  start {A} r =
-      let e : n ≡ n - 0 = omega arith in
-      record { below = omega arith; left = ap (λ (k : ℕ). run (each k 0 p) A) (sym e); ready = subst (λ (k : ℕ). Can (each k 0 p) A) e r }
+  start r = let e : n - 0 ≡ n = omega arith in record { below = omega arith; left = rw e; ready = rw e r }
 
   module _ {i : ℕ} {A B : St} (t : Turning run Can n p i A B) where
     next : i < n → each (n - i) i p ≡ p i ++ each (n - (i + 1)) (i + 1) p
@@ -34,21 +32,18 @@ module _ {D St : Type 0} {run : List D → St → St} {Can : List D → St → T
     next h =
         let a : n - i ≡ suc (n - (i + 1)) = omega arith in
         let b : suc i ≡ i + 1 = omega arith in
-        ap (λ (k : ℕ). each k i p) a ∙ ap (λ (j : ℕ). p i ++ each (n - (i + 1)) j p) b
-
-    ready-now : i < n → Can (p i ++ each (n - (i + 1)) (i + 1) p) B
-    ready-now h = subst (λ (ds : List D). Can ds B) (next h) (t .ready)
+        rw (a, b)
 
     pub this : Piecewise run Can → i < n → Can (p i) B
-    this w h = w .front (p i) (each (n - (i + 1)) (i + 1) p) B (ready-now h)
+    this w h = w .front (p i) (each (n - (i + 1)) (i + 1) p) B (rw (next h) at (t .ready))
 
     pub turn : Piecewise run Can → i < n → {C : St} → C ≡ run (p i) B → Turning run Can n p (i + 1) A C
     turn w h {C} e =
         let left = each (n - (i + 1)) (i + 1) p in
         record {
           below = omega arith;
-          left = ap (run left) e ∙ sym (w .joined (p i) left B) ∙ sym (ap (λ (ds : List D). run ds B) (next h)) ∙ t .left;
-          ready = subst (Can left) (sym e) (w .rest (p i) left B (ready-now h));
+          left = rw e (sym (w .joined (p i) left B) ∙ (rw (next h) at (t .left)));
+          ready = rw e (w .rest (p i) left B (rw (next h) at (t .ready)));
         }
 
     -- what asks for nothing is passed over
@@ -56,14 +51,13 @@ module _ {D St : Type 0} {run : List D → St → St} {Can : List D → St → T
     skip {j} a b nothing =
         let s : n - i ≡ (j - i) + (n - j) = omega arith in
         let e : i + (j - i) ≡ j = omega arith in
-        let same : each (n - i) i p ≡ each (n - j) j p =
-        ap (λ (k : ℕ). each k i p) s ∙ each-split (j - i) (n - j) i p
-        ∙ (λ y. none-each (j - i) i p (λ k c d. nothing k c (omega arith)) y ++ each (n - j) (e y) p) in
-        record { below = b; left = sym (ap (λ (ds : List D). run ds B) same) ∙ t .left; ready = subst (λ (ds : List D). Can ds B) same (t .ready) }
+        let none = none-each (j - i) i p (λ k c d. nothing k c (omega arith)) in
+        let same : each (n - i) i p ≡ each (n - j) j p = rw (s, each-split (j - i) (n - j) i p, none, e) in
+        record { below = b; left = rw same at (t .left); ready = rw same at (t .ready) }
 
     pub done : ((s : St) → run [] s ≡ s) → n ≤ i → B ≡ run (each n 0 p) A
     unfolding each
     done idle h =
         let b = t .below in
         let z : n - i ≡ 0 = omega arith in
-        sym (idle B) ∙ sym (ap (λ (k : ℕ). run (each k i p) B) z) ∙ t .left
+        sym (idle B) ∙ (rw z at (t .left))

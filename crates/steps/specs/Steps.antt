@@ -38,27 +38,17 @@ pub record Shelf : Type 0 where
 abbrev pub shelf : List ℕ → ℕ → Shelf
 shelf xs Q = record { words = xs; quads = Q }
 
-abbrev pub countAfter : Step → ℕ → ℕ
-countAfter (gone q) Q = Q - 1
-countAfter (came k t) Q = Q + 1
-
--- the row of a key and a type
-abbrev pub replayOne : ℕ → (ℕ → ℕ → List ℕ) → Step → Shelf → Shelf
-replayOne s row (gone q) S = shelf (freed s q (S .quads) (S .words)) (S .quads - 1)
-replayOne s row (came k t) S = shelf (rows.put (s * S .quads) (row k t) (S .words)) (S .quads + 1)
-
+-- with the row of a key and a type
 abbrev pub replayed : ℕ → (ℕ → ℕ → List ℕ) → List Step → Shelf → Shelf
 replayed s row [] S = S
-replayed s row (x ∷ xs) S = replayed s row xs (replayOne s row x S)
+replayed s row (gone q ∷ xs) S = replayed s row xs (shelf (freed s q (S .quads) (S .words)) (S .quads - 1))
+replayed s row (came k t ∷ xs) S = replayed s row xs (shelf (rows.put (s * S .quads) (row k t) (S .words)) (S .quads + 1))
 
 -- ---- what steps ask for: a place that is there, room, and a key and a type that can be drawn
-abbrev pub CanOne : (ℕ → ℕ → Type 0) → ℕ → Step → ℕ → Type 0
-CanOne P R (gone q) Q = q < Q
-CanOne P R (came k t) Q = (Q < R) × P k t
-
 abbrev pub Can : (ℕ → ℕ → Type 0) → ℕ → List Step → ℕ → Type 0
 Can P R [] Q = Unit {0}
-Can P R (x ∷ xs) Q = CanOne P R x Q × Can P R xs (countAfter x Q)
+Can P R (gone q ∷ xs) Q = (q < Q) × Can P R xs (Q - 1)
+Can P R (came k t ∷ xs) Q = (Q < R) × P k t × Can P R xs (Q + 1)
 
 -- ---- on the quads
 
