@@ -11,7 +11,7 @@ use Rattle.rules.specs.Lists.{table, only}
 use Rattle.rules.specs.Cells.{linkOf, firstVertex}
 use Rattle.rules.specs.Mesh.{Quad, NONE, there, placeOf, laid, slotOf, listsOf}
 use Rattle.rules.specs.Update.{removeAt, remove, movedBy, moved, step, run, movedIn, moves, highest, ops, needed}
-use Rattle.rules.proofs.ListLaws.{All, split, getD-table}
+use Rattle.rules.proofs.ListLaws.{All, split, getD-table, all-kept}
 use Rattle.rules.proofs.Quads.{placed, length-removeAt}
 use Rattle.rules.proofs.Courses.{Sane, sane-step}
 use Rattle.vav.proofs.Laid.{remove-laid}
@@ -49,7 +49,7 @@ module _ (G : Ground) where
         let c = length-removeAt q m l in
         let r = k .reached in
         let t : h ≡ max h (length (removeAt q m)) = omega arith in
-        let a = remove-laid 1 (λ x. linkOf (x .key) ∷ []) h (G .old) m q (meshes.all-map (λ x f i. refl) m (k .fits)) l r
+        let a = remove-laid 1 (λ x. linkOf (x .key) ∷ []) h (G .old) m q (all-kept (λ x f i. refl) m (k .fits)) l r
         ∙ ap (λ (j : ℕ). laid 1 (λ q x. linkOf (x .key) ∷ []) j (removeAt q m) (G .old)) t in
         let b = meshes.slots-removed m (k .once) q l small (G .faces) in
         λ i. record { links = a i; slots = b i; quads = sym c i; moved = v + movedBy (length m) q; top = t i; steps = xs ++ (gone q ∷ []) }

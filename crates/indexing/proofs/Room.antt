@@ -12,7 +12,7 @@ use Rattle.rules.specs.Cells.{cells, has, opposite, keyOf}
 use Rattle.rules.specs.Mesh.{Quad, World, at, there, placeOf}
 use Rattle.rules.specs.Update as rule
 use Rattle.rules.specs.Update.{Entry, removeAt, remove, draw, step, run, cuts, sides, needed}
-use Rattle.rules.proofs.ListLaws.{All, all-each, split, members, read-one, read-none}
+use Rattle.rules.proofs.ListLaws.{All, all-kept, all-each, split, members, read-one, read-none}
 use Rattle.rules.proofs.Neighbours.{beside, opposite-lt, opposite-twice}
 use Rattle.rules.proofs.Quads.{Once, orElse, at-draw, at-remove, at-cuts, placed, length-removeAt, run-append, run-once}
 use Rattle.util.specs.Grid.{Within}
@@ -22,7 +22,7 @@ use Rattle.works.specs.Sets.{keysAround, spotIn, cutting, typeAt, deedBy, deedA
 use Rattle.works.proofs.Works.{own-spot, spot-all}
 use Rattle.works.proofs.Meant.{partOps, Means, own-cut, needed-parts}
 use Rattle.indexing.specs.Room.{isEmpty, isEmptyAt, goneSide, bareSide, newSide, growthAt, total, quadsNeeded}
-use Rattle.indexing.proofs.Sets.{all-kept, few-deeds, on-spots, spots-inside}
+use Rattle.indexing.proofs.Sets.{few-deeds, on-spots, spots-inside}
 
 -- ---- at most two quads more a side
 pub grown-few : (slots cells : List ℕ) (w : Work) → total 6 0 (growthAt slots cells w) ≤ 18

@@ -10,17 +10,13 @@ use Rattle.rules.specs.Lists.{each}
 use Rattle.rules.specs.Cells.{Size, cells, has}
 use Rattle.rules.specs.Mesh.{NONE}
 use Rattle.rules.specs.Update.{Entry}
-use Rattle.rules.proofs.ListLaws.{All, all-each}
+use Rattle.rules.proofs.ListLaws.{All, all-kept, all-each}
 use Rattle.rules.proofs.Neighbours.{beside, opposite-lt}
 use Rattle.util.specs.Grid.{Within}
 use Rattle.steps.specs.Steps.{Deed}
 use Rattle.works.specs.declared.Work.{Work}
 use Rattle.works.specs.Sets.{setIn, keysAround, spotIn, cutting, typeAt, deedBy, deedAt, deeds}
 use Rattle.works.proofs.Works.{spot-all}
-
-pub all-kept : {A : Type 0} {P R : A → Type 0} → ((x : A) → P x → R x) → (xs : List A) → All P xs → All R xs
-all-kept h [] a = tt
-all-kept h (x ∷ xs) a = (h x (a .0), all-kept h xs (a .1))
 
 -- ---- how many
 pub few-deeds : (keys : List ℕ) (e : Entry) (set j f : ℕ) → length (deedAt keys e set j f) ≤ 1

@@ -10,20 +10,20 @@ use Rattle.rules.specs.Lists.{table}
 use Rattle.rules.specs.Cells.{linkOf, firstVertex}
 use Rattle.rules.specs.Mesh.{Quad, Lists, there, placeOf, NONE, slotOf, layout}
 use Rattle.rules.specs.Update.{blank}
-use Rattle.rules.proofs.ListLaws.{All, all-at, split, length-table, getD-table}
+use Rattle.rules.proofs.ListLaws.{All, all-at, split, length-table, getD-table, all-kept}
 use Rattle.rules.proofs.Quads.{Once, placed}
 use Rattle.rules.proofs.Laying.{Sized, Fits, keyAt, link-inside, links-at, keys-at, length-links}
 use Rattle.vav.proofs.Laws.{put-one}
 use Rattle.vav.proofs.Laid.{draw-laid}
 use Rattle.mesh_metadata.specs.Index.{Named, Linked}
-use Rattle.mesh_metadata.proofs.Meshes.{all-map, small, slot-there}
+use Rattle.mesh_metadata.proofs.Meshes.{small, slot-there}
 
 module _ (n s highest : ℕ) (m : List Quad) (B : Lists) (fits : All (Fits n s) m) where
   abbrev here : Lists
   here = layout n s highest m B
 
   link-sized : Sized 1 (λ q x. linkOf (x .key) ∷ []) m
-  link-sized = all-map (λ x f i. refl) m fits
+  link-sized = all-kept (λ x f i. refl) m fits
 
   -- LAW: links and slots name each other
   pub linked : n ≤ 1073741823 → Once m → length m ≤ highest → highest ≤ length (B .links)

@@ -14,7 +14,7 @@ use Rattle.rules.specs.Lists.{table, only, isNil, count}
 use Rattle.rules.specs.Cells.{firstVertex}
 use Rattle.rules.specs.Mesh.{Quad, at, there, placeOf, NONE, slotOf}
 use Rattle.rules.specs.Update.{blank, shifts, removeAt}
-use Rattle.rules.proofs.ListLaws.{All, all-at, split, length-table, getD-table, table-is}
+use Rattle.rules.proofs.ListLaws.{All, all-at, split, length-table, getD-table, table-is, all-kept}
 use Rattle.rules.proofs.Quads.{Once, placed, absent, at-append, at-removeAt, length-removeAt}
 use Rattle.rules.proofs.Laying.{Fits, keyAt, is-there, distinct-of-once, place-is}
 use Rattle.rules.proofs.Index.{isFull, Named, no-other}
@@ -211,10 +211,6 @@ module _ (m : List Quad) (o : Once m) where
 
 -- ---- how many quads there are
 
-pub all-map : {P R : Quad → Type 0} → ((x : Quad) → P x → R x) → (m : List Quad) → All P m → All R m
-all-map f [] h = tt
-all-map f (x ∷ m) h = (f x (h .0), all-map f m (h .1))
-
 count-le : (n : ℕ) (p : ℕ → Bool) → count n p ≤ n
 unfolding count
 count-le zero p = omega arith
@@ -252,4 +248,4 @@ few n (x ∷ m) o b = go (order n (suc (length m)))
 
 -- LAW: no vertex has the number that stands for none
 pub small : (n s : ℕ) (m : List Quad) → n ≤ 1073741823 → All (Fits n s) m → Once m → firstVertex (length m) < NONE
-small n s m h fits o = omega (arith, few n m o (all-map (λ x f. f .0) m fits))
+small n s m h fits o = omega (arith, few n m o (all-kept (λ x f. f .0) m fits))

@@ -8,6 +8,7 @@ use Prim.Native.Nat.{ℕ, zero, suc, _+_, _-_, _*_, _≤_, _<_, max}
 use native.Mathlib.Omega.{arith}
 use lib.Dec.{leb}
 use lib.ListN.{length, getD, set, take, drop, length-append, length-set}
+use lib.Seq.{set-split}
 use borrow.Author.Tests.{leb-true}
 use Rattle.rules.specs.Lists.{each, only}
 use Rattle.rules.specs.Cells.{cells, opposite, neighbour, keyOf}
@@ -139,24 +140,20 @@ run-le w m =
     omega (arith, ap length e)
 
 -- ---- quads that fit stay quads that fit
+pub all-removed : (P : Quad → Type 0) (q : ℕ) (m : List Quad) → q < length m → All P m → All P (removeAt q m)
+unfolding removeAt
+all-removed P q m h v =
+    let last = getD m (length m - 1) blank in
+    split (λ t. All P (cond t (take q m ++ drop (suc q) m) (take (length m - 1) (set m q last)))) (shifts (length m) q)
+    (λ _. all-append P (take q m) (drop (suc q) m) (all-take P q m v) (all-drop P (suc q) m v))
+    (λ _. all-take P (length m - 1) (set m q last) (rw (set-split m q last h)
+    (all-append P (take q m) (last ∷ drop (suc q) m) (all-take P q m v) (all-at P m (length m - 1) blank v (omega arith), all-drop P (suc q) m v))))
+
 module _ (n s : ℕ) where
   fits-remove : (k : ℕ) (m : List Quad) → All (Fits n s) m → All (Fits n s) (remove k m)
-  unfolding remove removeAt
+  unfolding remove
   fits-remove k m v =
-      split (λ t. there k m ≡ t → All (Fits n s) (cond t (removeAt (placeOf k m) m) m)) (there k m)
-      (λ x e. let w = placed k m e .within in at-place (placeOf k m) w) (λ x e. v) refl
-    where
-      put-in : (q : ℕ) (x : Quad) (l : List Quad) → Fits n s x → All (Fits n s) l → All (Fits n s) (set l q x)
-      put-in q x [] f v = tt
-      put-in zero x (y ∷ l) f v = (f, v .1)
-      put-in (suc q) x (y ∷ l) f v = (v .0, put-in q x l f (v .1))
-
-      at-place : (q : ℕ) → q < length m → All (Fits n s) (removeAt q m)
-      at-place q h =
-          split (λ t. All (Fits n s) (cond t (take q m ++ drop (suc q) m) (take (length m - 1) (set m q (getD m (length m - 1) blank))))) (shifts (length m) q)
-          (λ e. all-append (Fits n s) (take q m) (drop (suc q) m) (all-take (Fits n s) q m v) (all-drop (Fits n s) (suc q) m v))
-          (λ e. all-take (Fits n s) (length m - 1) (set m q (getD m (length m - 1) blank))
-          (put-in q (getD m (length m - 1) blank) m (all-at (Fits n s) m (length m - 1) blank v (omega arith)) v))
+      split (λ t. All (Fits n s) (cond t (removeAt (placeOf k m) m) m)) (there k m) (λ e. all-removed (Fits n s) (placeOf k m) m (placed k m e .within) v) (λ e. v)
 
   fits-cuts : (ks : List ℕ) (m : List Quad) → All (Fits n s) m → All (Fits n s) (run (cuts ks) m)
   fits-cuts [] m v = v

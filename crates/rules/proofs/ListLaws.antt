@@ -221,6 +221,10 @@ abbrev pub All {ℓ} : {A : Type ℓ} → (A → Type 0) → List A → Type 0
 All P [] = Unit {0}
 All P (x ∷ xs) = P x × All P xs
 
+pub all-kept {ℓ} : {A : Type ℓ} {P R : A → Type 0} → ((x : A) → P x → R x) → (xs : List A) → All P xs → All R xs
+all-kept h [] a = tt
+all-kept h (x ∷ xs) a = (h x (a .0), all-kept h xs (a .1))
+
 module _ {ℓ} {A : Type ℓ} (P : A → Type 0) where
   pub all-append : (a b : List A) → All P a → All P b → All P (a ++ b)
   all-append [] b v w = w

@@ -8,7 +8,7 @@ use Rattle.rules.specs.Lists.{each, only}
 use Rattle.rules.specs.Cells.{cells, keyOf}
 use Rattle.rules.specs.Mesh.{Quad, World, quadAt, quadsBy, meshBy}
 use Rattle.rules.specs.Update.{blank}
-use Rattle.rules.proofs.ListLaws.{All, all-append, all-at, all-each, all-only}
+use Rattle.rules.proofs.ListLaws.{All, all-append, all-at, all-each, all-only, all-kept}
 
 -- keys within [low, high)
 abbrev Between : ℕ → ℕ → Quad → Type 0
@@ -18,14 +18,10 @@ abbrev Ascends : List Quad → Type 0
 Ascends [] = Unit {0}
 Ascends (q ∷ m) = All (λ r. q .key < r .key) m × Ascends m
 
-all-weaken : {P R : Quad → Type 0} → ((q : Quad) → P q → R q) → (m : List Quad) → All P m → All R m
-all-weaken h [] v = tt
-all-weaken h (q ∷ m) v = (h q (v .0), all-weaken h m (v .1))
-
 ascends-append : (low mid high : ℕ) (a b : List Quad) → Ascends a → Ascends b → All (Between low mid) a → All (Between mid high) b → Ascends (a ++ b)
 ascends-append low mid high [] b x y v w = y
 ascends-append low mid high (q ∷ a) b x y v w = (
-  all-append (λ r. q .key < r .key) a b (x .0) (all-weaken (λ r k. let u = v .0 .1 in let t = k .0 in omega arith) b w),
+  all-append (λ r. q .key < r .key) a b (x .0) (all-kept (λ r k. let u = v .0 .1 in let t = k .0 in omega arith) b w),
   ascends-append low mid high a b (x .1) y (v .1) w,
 )
 
@@ -34,7 +30,7 @@ module _ (edge : ℕ → ℕ) (rises : (i j : ℕ) → i ≤ j → edge i ≤ ed
   between-each : (n i : ℕ) → ((k : ℕ) → All (Between (edge k) (edge (suc k))) (p k)) → All (Between (edge i) (edge (i + n))) (each n i p)
   between-each n i v =
       all-each (Between (edge i) (edge (i + n))) n i p
-      (λ k a b. all-weaken (λ q h. let x = rises i k a in let y = rises (suc k) (i + n) b in (omega (arith, h .0), omega (arith, h .1))) (p k) (v k))
+      (λ k a b. all-kept (λ q h. let x = rises i k a in let y = rises (suc k) (i + n) b in (omega (arith, h .0), omega (arith, h .1))) (p k) (v k))
 
   ascends-each : (n i : ℕ) → ((k : ℕ) → All (Between (edge k) (edge (suc k))) (p k)) → ((k : ℕ) → Ascends (p k)) → Ascends (each n i p)
   unfolding each
@@ -61,7 +57,7 @@ module _ (W : World) (test : ℕ → ℕ → Bool) (g : List ℕ) where
 
   cell-between : (c : ℕ) → All (Between (6 * c) (6 * suc c)) (quadsBy W test g c)
   cell-between c =
-      all-weaken (λ q h. (omega (arith, h .0), omega (arith, h .1))) (quadsBy W test g c)
+      all-kept (λ q h. (omega (arith, h .0), omega (arith, h .1))) (quadsBy W test g c)
       (between-each (keyOf c) (λ i j l. omega arith) (λ f. only (test c f) (quadAt W g c f)) 6 0 (side-between c))
 
   cell-ascends : (c : ℕ) → Ascends (quadsBy W test g c)

@@ -6,25 +6,15 @@ use Prim.Native.Nat.{ℕ, suc, _+_, _-_, _*_, _≤_, _<_, max}
 use native.Mathlib.Nat.{mul-le-mul-left}
 use native.Mathlib.Omega.{arith}
 use lib.ListN.{length, length-append, take, drop, set, getD}
-use lib.Seq.{set-split}
 use Rattle.rules.specs.Lists.{only}
 use Rattle.rules.specs.Mesh.{Quad, there, placeOf, laid}
 use Rattle.rules.specs.Update.{removeAt, remove, step, run, highest, Op, shifts, blank}
-use Rattle.rules.proofs.ListLaws.{All, all-append, all-take, all-drop, all-at, split}
+use Rattle.rules.proofs.ListLaws.{All, all-append, split}
 use Rattle.rules.proofs.Quads.{placed, length-removeAt}
 use Rattle.rules.proofs.Laying.{Sized}
+use Rattle.rules.proofs.Courses.{all-removed}
 use Rattle.vav.proofs.Laid.{draw-laid, remove-laid}
 use Rattle.steps.specs.Steps.{Step, gone, came, shelf, replayed, Can, quadBy, Deed, show, hide, opsOf, stepsOf, Able}
-
--- what holds of all quads holds of them after a removal
-all-removed : (P : Quad → Type 0) (q : ℕ) (m : List Quad) → q < length m → All P m → All P (removeAt q m)
-unfolding removeAt
-all-removed P q m h v =
-    let last = getD m (length m - 1) blank in
-    split (λ t. All P (cond t (take q m ++ drop (suc q) m) (take (length m - 1) (set m q last)))) (shifts (length m) q)
-    (λ _. all-append P (take q m) (drop (suc q) m) (all-take P q m v) (all-drop P (suc q) m v))
-    (λ _. all-take P (length m - 1) (set m q last) (rw (set-split m q last h)
-    (all-append P (take q m) (last ∷ drop (suc q) m) (all-take P q m v) (all-at P m (length m - 1) blank v (omega arith), all-drop P (suc q) m v))))
 
 pub highest-ge : (os : List Op) (h : ℕ) (m : List Quad) → h ≤ highest h os m
 highest-ge [] h m = omega arith

@@ -14,7 +14,7 @@ use Rattle.rules.specs.Mesh.{Quad, there, laid, slotOf}
 use Rattle.rules.specs.Update as rule
 use Rattle.rules.specs.Update.{Tested, Entry, Op, run, moves, highest, ops, needed, work, entryAt, courseFrom}
 use Rattle.rules.specs.Calls.{Scene, world, span, faces}
-use Rattle.rules.proofs.ListLaws.{All, split, length-table}
+use Rattle.rules.proofs.ListLaws.{All, split, length-table, all-kept}
 use Rattle.rules.proofs.Laying.{Fits}
 use Rattle.rules.proofs.Mending.{Sound}
 use Rattle.rules.proofs.Courses.{Sane, sane-step, highest-needed, run-le, fits-new, entry-moves}
@@ -214,7 +214,7 @@ module _ (tested : Tested) {S : Scene} {room : ℕ} {log vs₀ ls₀ ss₀ : Lis
               ≡ shelf (laid (span S) (λ q x. x .words) (highest h (opsOf (quadBy (wordsBy (bare S))) ds) m) (run (opsOf (quadBy (wordsBy (bare S))) ds) m) vs₀) (length (run (opsOf (quadBy (wordsBy (bare S))) ds) m)))
           replayed-now =
               replay-run (span S) (λ x. x .words) (wordsBy (bare S)) (Drawn (bare S)) (λ n t d. words-sized S t (n % 6) (n / 6)) room vs₀ (g .rows) ds m h
-              (meshes.all-map (λ x f i. f .1) m (sane .fits)) able (sane .reached) fits-deeds
+              (all-kept (λ x f i. f .1) m (sane .fits)) able (sane .reached) fits-deeds
 
           pub run-replaying : length vs ≡ length vs₀ → Replaying (bare S) (done .steps) (shelf vs q)
           run-replaying kept =

@@ -16,7 +16,7 @@ use Rattle.rules.specs.Update.{Tested, entryAt, work, Course}
 use Rattle.rules.specs.Types.{floats}
 use Rattle.rules.specs.Answers.{Verdict, fine, refuse, _then_, refuseLowest, badEntry, BAD-SIZE, SHORT-SLOTS, BAD-COUNT, BAD-LINKS, BAD-TRIANGLES, BAD-ENTRY}
 use Rattle.rules.specs.Calls.{Scene, world, span, faces, room, typesVerdict, updateVerdict, course, refused, courseAnswer, updateBy, updateMesh}
-use Rattle.rules.proofs.ListLaws.{length-table, length-each, each-split}
+use Rattle.rules.proofs.ListLaws.{length-table, length-each, each-split, all-kept}
 use Rattle.rules.proofs.Checking.{then-fine, if-fine, lowest-fine, book-of-fine, length-decode}
 use Rattle.rules.proofs.Courses.{Sane}
 use Rattle.rules.proofs.Demands.{limits, room-for, lent-sane, entry-inside, Asked, asked-of, ran-sane}
@@ -195,7 +195,7 @@ module _ (tested : Tested) (S : Scene) (log : List ℕ) (B : Lists) (Q : ℕ) wh
           let h : r .highest ≡ c .highest = ap (λ (x : Ended). x .highest) rule in
           let low = left .reached in
           let d = room-for S B (c .highest) (left .within) .triangles in
-          let few = meshes.few (faces S) (c .quads) (left .once) (meshes.all-map (λ x f. f .0) (c .quads) (left .fits)) in
+          let few = meshes.few (faces S) (c .quads) (left .once) (all-kept (λ x f. f .0) (c .quads) (left .fits)) in
           let small = limits S (a .size) .small in
           (omega arith, omega arith, omega arith)
 
