@@ -233,24 +233,16 @@ pub fn update_mesh(
         links: links.len(),
         slots: slots.len(),
     };
-    let room = room_of(scene.coloured, lengths);
+    let task = Task {
+        scene: scene,
+        tested: tested,
+        room: room_of(scene.coloured, lengths),
+        quads: quads,
+    };
     let dims = scene.dims;
     let six = 6 * dims.cell_count() as usize;
-    let ran = run_log(
-        vertices,
-        links,
-        &mut slots[..six],
-        kinds,
-        covers,
-        cubes,
-        log,
-        Task {
-            scene: scene,
-            tested: tested,
-            room: room,
-            quads: quads,
-        },
-    );
+    let faces = &mut slots[..six];
+    let ran = run_log(vertices, links, faces, kinds, covers, cubes, log, task);
     let count = ran.count;
     mend_patterns(triangles, quads, count.quads, ran.highest);
     let end = ran.end;

@@ -3,7 +3,6 @@ use mathlib.Core.Path.{_≡_, refl, sym, ap, _∙_}
 use Prim.Native.Nat.{ℕ, _*_}
 use lib.Seq.{length-take-le}
 use Rattle.rules.specs.Mesh.{Lists, listsOf}
-use Rattle.rules.specs.Update.{Tested}
 use Rattle.rules.specs.Answers.{Verdict, fine}
 use Rattle.rules.specs.Calls.{Scene, answered, course, updateVerdict, updateBy}
 use Rattle.rules.proofs.Checking.{then-fine}
@@ -20,9 +19,6 @@ use Rattle.update.proofs.update_mesh.Tie as tie
 abbrev scene : tie.Start → Scene
 scene t = let a = t .args in sceneOf (a .scene) (a .kinds .now) (a .covers .now) (a .cubes .now)
 
-abbrev side : tie.Start → Tested
-side t = testedBy (t .args .tested)
-
 abbrev lists : tie.Start → Lists
 lists t = let a = t .args in listsOf (a .vertices .now) (a .triangles .now) (a .links .now) (a .slots .now)
 
@@ -33,7 +29,7 @@ accepted : (c : tie.After-enum-told) → let t = asked (c .before .before) in up
 accepted c = sym (c .before .before .asked-verdict .ensures) ∙ ap verdictOf (c .enum-told .given .1)
 
 begun : (c : tie.After-cell-count) → let t = asked (c .before .before .before .before .before) in
-    Begun (side t) (scene t) (t .args .log .now) (lists t) (t .args .quads) (6 * c .cell-count .result) (c .before .before .room-of .result)
+    Begun (testedBy (t .args .tested)) (scene t) (t .args .log .now) (lists t) (t .args .quads) (6 * c .cell-count .result) (c .before .before .room-of .result)
 begun c =
     let r = c .before .before in
     let t = asked (r .before .before .before) in
@@ -47,7 +43,7 @@ returns : tie.Need-returns
 returns c =
     let a = c .before .before .before in
     let t = asked a in
-    ap (λ (v : Verdict). updateBy v (scene t) (course (side t) (scene t) (t .args .log .now) (lists t) (t .args .quads)) (lists t))
+    ap (λ (v : Verdict). updateBy v (scene t) (course (testedBy (t .args .tested)) (scene t) (t .args .log .now) (lists t) (t .args .quads)) (lists t))
     (sym (ap verdictOf (c .before .asked .given .1)) ∙ a .asked-verdict .ensures)
 
 cell-count-requires : tie.Need-cell-count-requires
@@ -76,7 +72,7 @@ update-mesh-spec =
     tie.close
     (tie.spec (λ c κs. search needs) (λ c. search needs) (λ c. search needs) (λ c. search needs) (λ c. search needs) (λ c. search needs) returns
     (λ c. search needs) (λ c κs. search needs) cell-count-requires (λ c. search needs) (λ c. search needs)
-    (λ c. lent-ends (begun (c .before .before))) (λ c. sym (length-take-le _ _ (lent-ends (begun (c .before .before .before)))))
+    (λ c. lent-ends (begun c)) (λ c. sym (length-take-le _ _ (lent-ends (begun (c .before)))))
     (λ c κs. logging (begun (c .before .before .before))) mend-patterns-requires (λ c. search needs) (λ c. search needs)
     (λ c. search needs) (λ c. search needs) (λ c. search needs) (λ c. search needs) returns-2
     (λ c. search needs) (λ c. search needs) (λ c. search needs) (λ c. search needs) returns-3)
