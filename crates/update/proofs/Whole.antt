@@ -39,10 +39,10 @@ up-to : (a b : ℕ) → each a 0 pattern ++ each (b - a) a pattern ≡ each (a +
 up-to a b = ap (λ (k : ℕ). each a 0 pattern ++ each (b - a) k pattern) (omega arith) ∙ sym (each-split a (b - a) 0 pattern)
 
 -- LAW: the triangles of a mesh, mended by its counts, are those of the mesh after
-patterns-laid : (ts : List ℕ) (Q h : ℕ) (m m′ : List Quad) → length m ≡ Q → ts ≡ laid 6 (λ q x. pattern q) Q m ts → length m′ ≤ h → Q ≤ h → 6 * h ≤ length ts
+patterns-laid : (ts : List ℕ) (Q h : ℕ) (m m′ : List Quad) → length m ≡ Q → ts ≡ laid 6 (λ q x. pattern q) Q m ts → length m′ ≤ h → Q ≤ h
     → patternsMended Q (length m′) h ts ≡ laid 6 (λ q x. pattern q) h m′ ts
 unfolding laid patternsMended put
-patterns-laid ts Q h m m′ len is low up long =
+patterns-laid ts Q h m m′ len is low up =
     let a = length m′ in
     let more = each (a - Q) Q pattern in
     let less = each (Q - a) a pattern in
@@ -98,13 +98,8 @@ module _ {tested : Tested} {S : Scene} {log : List ℕ} {B : Lists} {Q n R : ℕ
       let bad = lowest-fine 13 (length log / 12) (badEntry (cells (S .size)) (length (S .types .kinds)) log) (then-fine _ _ (a .entries) .0) in
       ⊎-elim (λ l. absurd (true≢false (bad 16777216 l))) (λ l. l) (order 16777216 (length log / 12))
 
-  slots-are : take (faces S) (B .slots) ≡ table (faces S) (slotOf m)
-  unfolding slotted
-  slots-are =
-      ap (λ (b : Lists). take (faces S) (b .slots)) (sym stands)
-      ∙ take-at (table (faces S) (slotOf m)) (drop (faces S) (B .slots)) (faces S) (length-table (slotOf m) (faces S))
-
   pub logging : Logging S R log (B .vertices) (B .links) (take n (B .slots)) Q
+  unfolding slotted
   logging =
       let r = room-for S B (room S B) (omega arith) in
       rw (b .lent, b .found)
@@ -120,7 +115,8 @@ module _ {tested : Tested} {S : Scene} {log : List ℕ} {B : Lists} {Q n R : ℕ
           count = sym length-mesh;
           vertices = ap (λ (b : Lists). b .vertices) (sym stands);
           links = ap (λ (b : Lists). b .links) (sym stands);
-          slots = slots-are;
+          slots = ap (λ (b : Lists). take (faces S) (b .slots)) (sym stands)
+              ∙ take-at (table (faces S) (slotOf m)) (drop (faces S) (B .slots)) (faces S) (length-table (slotOf m) (faces S));
         };
       })
 
@@ -137,13 +133,8 @@ module _ {tested : Tested} {S : Scene} {log : List ℕ} {B : Lists} {Q n R : ℕ
 
     pub mend-ready : (r .quads ≤ r .highest) × (6 * r .highest ≤ length (B .triangles)) × (4 * r .quads ≤ NONE)
     mend-ready =
-        let q : r .quads ≡ length (c .quads) = ap (λ (x : Ended). x .quads) rule in
-        let h : r .highest ≡ c .highest = ap (λ (x : Ended). x .highest) rule in
-        let low = left .reached in
-        let d = room-for S B (c .highest) (left .within) .triangles in
         let few = meshes.few (faces S) (c .quads) (left .once) (meshes.all-map (λ x f. f .0) (c .quads) (left .fits)) in
-        let small = limits S (a .size) .small in
-        (omega arith, omega arith, omega arith)
+        rw rule (left .reached, room-for S B (c .highest) (left .within) .triangles, omega (arith, limits S (a .size) .small))
 
     -- LAW: the log's lists with the triangles mended, and the slots past the grid's put back, are the rule's outcome, where so is what is said
     pub ended-so : {o : Option ℕ} {ts : List ℕ} (says : ℕ → ℕ → Answer) → says (length (c .quads)) (c .moved) ≡ courseAnswer c o → r .full ≡ o
@@ -154,7 +145,7 @@ module _ {tested : Tested} {S : Scene} {log : List ℕ} {B : Lists} {Q n R : ℕ
         let past = course-past (room S B) (λ k. work tested (world S) (entryAt log k)) 0 (length log / 12) m 0 Q (omega (arith, length-mesh)) in
         let t : ts ≡ laid 6 (λ q x. pattern q) (c .highest) (c .quads) (B .triangles) =
         k ∙ (λ i. patternsMended Q ((rule i) .quads) ((rule i) .highest) (B .triangles))
-        ∙ patterns-laid (B .triangles) Q (c .highest) m (c .quads) length-mesh (ap (λ (x : Lists). x .triangles) (sym stands)) (left .reached) past (room-for S B (c .highest) (left .within) .triangles) in
+        ∙ patterns-laid (B .triangles) Q (c .highest) m (c .quads) length-mesh (ap (λ (x : Lists). x .triangles) (sym stands)) (left .reached) past in
         let answers : says (length (c .quads)) (c .moved) ≡ courseAnswer c (c .full) = s ∙ ap (courseAnswer c) (sym f ∙ ap (λ (x : Ended). x .full) rule) in
         (λ i. record {
           answer = says ((rule i) .quads) ((rule i) .moved);

@@ -239,8 +239,7 @@ pub fn update_mesh(
         room: room_of(scene.coloured, lengths),
         quads: quads,
     };
-    let dims = scene.dims;
-    let six = 6 * dims.cell_count() as usize;
+    let six = 6 * scene.dims.cell_count() as usize;
     let faces = &mut slots[..six];
     let ran = run_log(vertices, links, faces, kinds, covers, cubes, log, task);
     let count = ran.count;

@@ -112,35 +112,17 @@ from-lowest c =
     rw (c .refuse-if .ensures, c .before .first-bad-entry .ensures, patterned .before .before .before .before .before .before .cell-count .ensures)
     (past _ (from-triangles (patterned .before .before)) (patterned .before .is-refusal5 .ensures) (patterned .if5 .left))
 
-returns : tie.Need-returns
-returns c = halt _ _ (from-size (c .before .before)) (c .before .is-refusal .ensures) (c .if1 .taken)
-
-returns-2 : tie.Need-returns-2
-returns-2 c = halt _ _ (from-types (c .before .before)) (c .before .is-refusal2 .ensures) (c .if2 .taken)
-
-returns-3 : tie.Need-returns-3
-returns-3 c = halt _ _ (from-lent (c .before .before)) (c .before .is-refusal3 .ensures) (c .if3 .taken)
-
-returns-4 : tie.Need-returns-4
-returns-4 c = halt _ _ (from-links (c .before .before)) (c .before .is-refusal4 .ensures) (c .if4 .taken)
-
 triangles-verdict-requires : tie.Need-triangles-verdict-requires
 triangles-verdict-requires c κs =
     let w = well (c .before .before .before .before) in
     let few = few-linked _ _ _ (w .0 .slotted) (passes _ _ (links-are (c .before .before)) (sym (c .before .is-refusal4 .ensures) ∙ c .if4 .left)) in
     (w .1 .triangles, omega (arith, w .0 .few))
 
-returns-5 : tie.Need-returns-5
-returns-5 c = halt _ _ (from-triangles (c .before .before)) (c .before .is-refusal5 .ensures) (c .if5 .taken)
-
 cast-first-bad-entry : tie.Need-cast-first-bad-entry
 cast-first-bad-entry c =
     let told-so = c .before .before .before .before .before .before .before .before .before .before in
     let few = typed (scene (told (told-so .before .before))) (passes _ _ (told-so .before .before .types-verdict .ensures) (sym (told-so .before .is-refusal2 .ensures) ∙ told-so .if2 .left)) .counted .few in
     omega arith
-
-returns-6 : tie.Need-returns-6
-returns-6 c = halt _ _ (from-lowest (c .before .before)) (c .before .is-refusal6 .ensures) (c .if6 .taken)
 
 returns-7 : tie.Need-returns-7
 returns-7 c =
@@ -149,9 +131,13 @@ returns-7 c =
 pub asked-verdict-spec : {M : Type 1} → statement M
 asked-verdict-spec =
     tie.close
-    (tie.spec (λ c κs. search needs) (λ c κs. search needs) returns (λ c κs. search needs) (λ c κs. search needs) returns-2
-    (λ c κs. within (c .before .before .before) .0) (λ c κs. search needs) returns-3
-    (λ c κs. within (c .before .before .before .before .before .before) .0 .sides) (λ c κs. rw (c .cell-count .ensures) (well (c .before) .0))
-    (λ c κs. search needs) returns-4 triangles-verdict-requires
-    (λ c κs. search needs) returns-5 cast-first-bad-entry (λ c κs. search needs) (λ c κs. search needs) (λ c κs. search needs) returns-6
-    (λ c κs. search needs) returns-7)
+    (tie.spec (λ c κs. search needs) (λ c κs. search needs)
+    (λ c. halt _ _ (from-size (c .before .before)) (c .before .is-refusal .ensures) (c .if1 .taken)) (λ c κs. search needs) (λ c κs. search needs)
+    (λ c. halt _ _ (from-types (c .before .before)) (c .before .is-refusal2 .ensures) (c .if2 .taken))
+    (λ c κs. within (c .before .before .before) .0) (λ c κs. search needs)
+    (λ c. halt _ _ (from-lent (c .before .before)) (c .before .is-refusal3 .ensures) (c .if3 .taken))
+    (λ c κs. within (c .before .before .before .before .before .before) .0 .sides) (λ c κs. rw (c .cell-count .ensures) (well (c .before) .0)) (λ c κs. search needs)
+    (λ c. halt _ _ (from-links (c .before .before)) (c .before .is-refusal4 .ensures) (c .if4 .taken)) triangles-verdict-requires (λ c κs. search needs)
+    (λ c. halt _ _ (from-triangles (c .before .before)) (c .before .is-refusal5 .ensures) (c .if5 .taken)) cast-first-bad-entry
+    (λ c κs. search needs) (λ c κs. search needs) (λ c κs. search needs)
+    (λ c. halt _ _ (from-lowest (c .before .before)) (c .before .is-refusal6 .ensures) (c .if6 .taken)) (λ c κs. search needs) returns-7)

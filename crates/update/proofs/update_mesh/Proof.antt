@@ -28,10 +28,10 @@ asked c = c .before .before .before .before .before .before .before .before .bef
 accepted : (c : tie.After-enum-told) → let t = asked (c .before .before) in updateVerdict (scene t) (t .args .log .now) (lists t) (t .args .quads) ≡ fine
 accepted c = sym (c .before .before .asked-verdict .ensures) ∙ ap verdictOf (c .enum-told .given .1)
 
-begun : (c : tie.After-cell-count) → let t = asked (c .before .before .before .before .before) in
-    Begun (testedBy (t .args .tested)) (scene t) (t .args .log .now) (lists t) (t .args .quads) (6 * c .cell-count .result) (c .before .before .room-of .result)
+begun : (c : tie.After-cell-count) → let t = asked (c .before .before .before .before) in
+    Begun (testedBy (t .args .tested)) (scene t) (t .args .log .now) (lists t) (t .args .quads) (6 * c .cell-count .result) (c .before .room-of .result)
 begun c =
-    let r = c .before .before in
+    let r = c .before in
     let t = asked (r .before .before .before) in
     record {
       accepted = accepted (r .before);
@@ -47,7 +47,7 @@ returns c =
     (sym (ap verdictOf (c .before .asked .given .1)) ∙ a .asked-verdict .ensures)
 
 cell-count-requires : tie.Need-cell-count-requires
-cell-count-requires c κs = let told = c .before .before in sized (scene (asked (told .before .before))) (then-fine _ _ (accepted told) .0) .sides
+cell-count-requires c κs = let told = c .before in sized (scene (asked (told .before .before))) (then-fine _ _ (accepted told) .0) .sides
 
 mend-patterns-requires : tie.Need-mend-patterns-requires
 mend-patterns-requires c κs =
