@@ -1,4 +1,4 @@
--- The whole of an update: the tests in their order, what an accepted log starts from, and what it leaves. Assumes nothing.
+-- The whole of an update: the triangles by their counts, what an accepted log starts from, and what it leaves. Assumes nothing.
 use mathlib.Core.Path.{_≡_, refl, sym, ap, _∙_}
 use mathlib.Core.Logic.{⊎-elim}
 use mathlib.Core.Bool.{true≢false}
@@ -13,8 +13,8 @@ use Rattle.rules.specs.Lists.{each, table}
 use Rattle.rules.specs.Cells.{cells}
 use Rattle.rules.specs.Mesh.{Quad, Lists, NONE, pattern, rows, laid, listsOf, decode, layout, slotted, slotOf}
 use Rattle.rules.specs.Update.{Tested, entryAt, work, Course}
-use Rattle.rules.specs.Answers.{Verdict, fine, badEntry, BAD-ENTRY}
-use Rattle.rules.specs.Calls.{Scene, Answer, world, span, faces, room, updateVerdict, course, courseAnswer, updateBy, updateMesh}
+use Rattle.rules.specs.Answers.{fine, badEntry, BAD-ENTRY}
+use Rattle.rules.specs.Calls.{Scene, Answer, world, span, faces, room, updateVerdict, course, courseAnswer, updateMesh}
 use Rattle.rules.proofs.ListLaws.{length-table, each-split}
 use Rattle.rules.proofs.Checking.{then-fine, if-fine, lowest-fine, book-of-fine, length-decode}
 use Rattle.rules.proofs.Courses.{Sane}
@@ -143,13 +143,6 @@ module _ {tested : Tested} {S : Scene} {log : List ℕ} {B : Lists} {Q n R : ℕ
     unfolding slotted
     ended-so {o} {ts} says s f k =
         let past = course-past (room S B) (λ k. work tested (world S) (entryAt log k)) 0 (length log / 12) m 0 Q (omega (arith, length-mesh)) in
-        let t : ts ≡ laid 6 (λ q x. pattern q) (c .highest) (c .quads) (B .triangles) =
-        k ∙ (λ i. patternsMended Q ((rule i) .quads) ((rule i) .highest) (B .triangles))
-        ∙ patterns-laid (B .triangles) Q (c .highest) m (c .quads) length-mesh (ap (λ (x : Lists). x .triangles) (sym stands)) (left .reached) past in
+        let t = patterns-laid (B .triangles) Q (c .highest) m (c .quads) length-mesh (ap (λ (x : Lists). x .triangles) (sym stands)) (left .reached) past in
         let answers : says (length (c .quads)) (c .moved) ≡ courseAnswer c (c .full) = s ∙ ap (courseAnswer c) (sym f ∙ ap (λ (x : Ended). x .full) rule) in
-        (λ i. record {
-          answer = says ((rule i) .quads) ((rule i) .moved);
-          lists = listsOf ((rule i) .vertices) (t i) ((rule i) .links) ((rule i) .slots ++ drop (b .lent i) (B .slots));
-        })
-        ∙ (λ i. record { answer = answers i; lists = layout (faces S) (span S) (c .highest) (c .quads) B })
-        ∙ sym (ap (λ (x : Verdict). updateBy x S c B) (b .accepted))
+        rw (k, rule, t, b .lent, b .accepted) (λ i. record { answer = answers i; lists = layout (faces S) (span S) (c .highest) (c .quads) B })

@@ -1,14 +1,14 @@
 -- `update::asked_verdict` meets its contract: each return is what the tests before it leave. Assumes nothing.
-use mathlib.Core.Path.{_≡_, refl, sym, ap, _∙_}
+use mathlib.Core.Path.{_≡_, refl, sym, _∙_}
+use mathlib.Core.Bool.{Bool, true, false, not}
 use Prim.Native.Nat.{ℕ, _/_, _%_, _^_, _<_}
 use native.Mathlib.Omega.{arith}
 use lib.Dec.{eqb}
 use lib.ListN.{length}
-use mathlib.Core.Bool.{Bool, false, true, not}
 use Rattle.rules.specs.Cells.{cells}
 use Rattle.rules.specs.Mesh.{Lists, listsOf}
 use Rattle.rules.specs.Types.{floats}
-use Rattle.rules.specs.Answers.{Verdict, fine, _then_, refuseIf, refuseLowest, badEntry, BAD-SIZE, SHORT-SLOTS, BAD-COUNT, BAD-LINKS, BAD-TRIANGLES, BAD-ENTRY}
+use Rattle.rules.specs.Answers.{Verdict, _then_, refuseIf, SHORT-SLOTS, BAD-COUNT, BAD-LINKS, BAD-TRIANGLES, BAD-ENTRY}
 use Rattle.rules.specs.Calls.{Scene, typesVerdict, lentVerdict, bookVerdict, updateVerdict}
 use Rattle.rules.proofs.Checking.{then-fine}
 use Rattle.rules.proofs.Demands.{Room}
@@ -54,7 +54,9 @@ from-size : (c : tie.After-size-verdict) → let t = begun c in
 from-size c = rw (c .size-verdict .ensures)
 
 within : (c : tie.Else1) → let t = begun (c .before .before) in Within (scene t .size) × (length (t .args .vertices .now) < 2 ^ 64)
-within c = (sized (scene (begun (c .before .before))) (passes _ _ (c .before .before .size-verdict .ensures) (sym (c .before .is-refusal .ensures) ∙ c .if1 .left)), omega arith)
+within c =
+    let size = passes _ _ (c .before .before .size-verdict .ensures) (sym (c .before .is-refusal .ensures) ∙ c .if1 .left) in
+    (sized (scene (begun (c .before .before))) size, omega arith)
 
 -- 3, 4 and 6
 abbrev told : tie.After-types-verdict → tie.Start
@@ -93,8 +95,8 @@ links-are c = let a = asked c .args in rw (c .before .cell-count .ensures) at (c
 from-links : (c : tie.After-links-verdict) → let t = asked c in
     whole t ≡ (verdictOf (c .links-verdict .result) then BAD-TRIANGLES (lists t) (t .args .quads) then entries t)
 from-links c =
-    let open-at = c .before .before in
-    rw (links-are c) (past _ (from-lent (open-at .before .before)) (open-at .before .is-refusal3 .ensures) (open-at .if3 .left) ∙ then-assoc _ _ _)
+    let at = c .before .before in
+    rw (links-are c) (past _ (from-lent (at .before .before)) (at .before .is-refusal3 .ensures) (at .if3 .left) ∙ then-assoc _ _ _)
 
 -- 12
 from-triangles : (c : tie.After-triangles-verdict) → let t = asked (c .before .before .before) in whole t ≡ (verdictOf (c .triangles-verdict .result) then entries t)
@@ -120,13 +122,10 @@ triangles-verdict-requires c κs =
 
 cast-first-bad-entry : tie.Need-cast-first-bad-entry
 cast-first-bad-entry c =
-    let told-so = c .before .before .before .before .before .before .before .before .before .before in
-    let few = typed (scene (told (told-so .before .before))) (passes _ _ (told-so .before .before .types-verdict .ensures) (sym (told-so .before .is-refusal2 .ensures) ∙ told-so .if2 .left)) .counted .few in
+    let after = c .before .before .before .before .before .before .before .before .before .before in
+    let types = passes _ _ (after .before .before .types-verdict .ensures) (sym (after .before .is-refusal2 .ensures) ∙ after .if2 .left) in
+    let few = typed (scene (told (after .before .before))) types .counted .few in
     omega arith
-
-returns-7 : tie.Need-returns-7
-returns-7 c =
-    c .refuse-if2 .ensures ∙ sym (past _ (from-lowest (c .before .before .before)) (c .before .before .is-refusal6 .ensures) (c .before .if6 .left))
 
 pub asked-verdict-spec : {M : Type 1} → statement M
 asked-verdict-spec =
@@ -140,4 +139,5 @@ asked-verdict-spec =
     (λ c. halt _ _ (from-links (c .before .before)) (c .before .is-refusal4 .ensures) (c .if4 .taken)) triangles-verdict-requires (λ c κs. search needs)
     (λ c. halt _ _ (from-triangles (c .before .before)) (c .before .is-refusal5 .ensures) (c .if5 .taken)) cast-first-bad-entry
     (λ c κs. search needs) (λ c κs. search needs) (λ c κs. search needs)
-    (λ c. halt _ _ (from-lowest (c .before .before)) (c .before .is-refusal6 .ensures) (c .if6 .taken)) (λ c κs. search needs) returns-7)
+    (λ c. halt _ _ (from-lowest (c .before .before)) (c .before .is-refusal6 .ensures) (c .if6 .taken)) (λ c κs. search needs)
+    (λ c. c .refuse-if2 .ensures ∙ sym (past _ (from-lowest (c .before .before .before)) (c .before .before .is-refusal6 .ensures) (c .before .if6 .left))))

@@ -3,8 +3,8 @@ use mathlib.Core.Path.{_≡_, refl, sym, ap, _∙_}
 use Prim.Native.Nat.{ℕ, _*_}
 use lib.Seq.{length-take-le}
 use Rattle.rules.specs.Mesh.{Lists, listsOf}
-use Rattle.rules.specs.Answers.{Verdict, fine}
-use Rattle.rules.specs.Calls.{Scene, answered, course, updateVerdict, updateBy}
+use Rattle.rules.specs.Answers.{fine}
+use Rattle.rules.specs.Calls.{Scene, answered, updateVerdict}
 use Rattle.rules.proofs.Checking.{then-fine}
 use Rattle.answers.specs.Verdicts.{verdictOf}
 use Rattle.terms.specs.Scenes.{sceneOf}
@@ -39,16 +39,6 @@ begun c =
       found = r .room-of .ensures (lists t) (record { vertices = refl; triangles = refl; links = refl; slots = refl });
     }
 
-returns : tie.Need-returns
-returns c =
-    let a = c .before .before .before in
-    let t = asked a in
-    ap (λ (v : Verdict). updateBy v (scene t) (course (testedBy (t .args .tested)) (scene t) (t .args .log .now) (lists t) (t .args .quads)) (lists t))
-    (sym (ap verdictOf (c .before .asked .given .1)) ∙ a .asked-verdict .ensures)
-
-cell-count-requires : tie.Need-cell-count-requires
-cell-count-requires c κs = let told = c .before in sized (scene (asked (told .before .before))) (then-fine _ _ (accepted told) .0) .sides
-
 mend-patterns-requires : tie.Need-mend-patterns-requires
 mend-patterns-requires c κs =
     let went = c .before .before .before .before .before .before .before .before in
@@ -70,8 +60,9 @@ returns-3 c =
 pub update-mesh-spec : {M : Type 1} → statement M
 update-mesh-spec =
     tie.close
-    (tie.spec (λ c κs. search needs) (λ c. search needs) (λ c. search needs) (λ c. search needs) (λ c. search needs) (λ c. search needs) returns
-    (λ c. search needs) (λ c κs. search needs) cell-count-requires (λ c. search needs) (λ c. search needs)
+    (tie.spec (λ c κs. search needs) (λ c. search needs) (λ c. search needs) (λ c. search needs) (λ c. search needs) (λ c. search needs)
+    (λ c. rw (sym (c .before .before .before .asked-verdict .ensures) ∙ ap verdictOf (c .before .asked .given .1))) (λ c. search needs) (λ c κs. search needs)
+    (λ c κs. sized (scene (asked (c .before .before .before))) (then-fine _ _ (accepted (c .before)) .0) .sides) (λ c. search needs) (λ c. search needs)
     (λ c. lent-ends (begun c)) (λ c. sym (length-take-le _ _ (lent-ends (begun (c .before)))))
     (λ c κs. logging (begun (c .before .before .before))) mend-patterns-requires (λ c. search needs) (λ c. search needs)
     (λ c. search needs) (λ c. search needs) (λ c. search needs) (λ c. search needs) returns-2
