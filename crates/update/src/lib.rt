@@ -138,7 +138,7 @@ fn mend_patterns(triangles: &mut [u32], before: usize, after: usize, highest: us
     clear(&mut triangles[start..start + words], words, 0);
 }
 
-// BAD_SIZE to BAD_ENTRY, each in its place: what is asked before a list is written. Of the entries the lowest that is bad, else a ragged end.
+// BAD_SIZE to BAD_ENTRY in their order: what is asked before a list is written. Of the entries the lowest that is bad, else a ragged end.
 fn asked_verdict(
     scene: Scene,
     kinds: &[u8],

@@ -39,11 +39,6 @@ begun c =
       found = r .room-of .ensures (lists t) (record { vertices = refl; triangles = refl; links = refl; slots = refl });
     }
 
-mend-patterns-requires : tie.Need-mend-patterns-requires
-mend-patterns-requires c κs =
-    let went = c .before .before .before .before .before .before .before .before in
-    mend-ready (begun (went .before .before .before .before)) (went .run-log .ensures)
-
 returns-2 : tie.Need-returns-2
 returns-2 c =
     let mended = c .before .before .before .before in
@@ -64,6 +59,8 @@ update-mesh-spec =
     (λ c. rw (sym (c .before .before .before .asked-verdict .ensures) ∙ ap verdictOf (c .before .asked .given .1))) (λ c. search needs) (λ c κs. search needs)
     (λ c κs. sized (scene (asked (c .before .before .before))) (then-fine _ _ (accepted (c .before)) .0) .sides) (λ c. search needs) (λ c. search needs)
     (λ c. lent-ends (begun c)) (λ c. sym (length-take-le _ _ (lent-ends (begun (c .before)))))
-    (λ c κs. logging (begun (c .before .before .before))) mend-patterns-requires (λ c. search needs) (λ c. search needs)
+    (λ c κs. logging (begun (c .before .before .before)))
+    (λ c κs. let went = c .before .before .before .before .before .before .before .before in mend-ready (begun (went .before .before .before .before)) (went .run-log .ensures))
+    (λ c. search needs) (λ c. search needs)
     (λ c. search needs) (λ c. search needs) (λ c. search needs) (λ c. search needs) returns-2
     (λ c. search needs) (λ c. search needs) (λ c. search needs) (λ c. search needs) returns-3)
