@@ -76,4 +76,4 @@ pub record Logging (S : Scene) (room : ℕ) (log vs ls ss : List ℕ) (Q : ℕ) 
 
 -- patterns up to the last quad, zeros up to the highest count
 unfoldable pub patternsMended : ℕ → ℕ → ℕ → List ℕ → List ℕ
-patternsMended before after highest xs = put (6 * after) (zeros (6 * highest - 6 * after)) (put (6 * before) (each (after - before) before pattern) xs)
+patternsMended before after highest xs = put (6 * after) (zeros (6 * (highest - after))) (put (6 * before) (each (after - before) before pattern) xs)

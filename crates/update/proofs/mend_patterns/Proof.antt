@@ -1,13 +1,11 @@
 -- `update::mend_patterns` meets its contract. Assumes nothing.
 use mathlib.Core.Path.{_≡_, sym, ap, _∙_}
-use Prim.Native.Nat.{ℕ, _+_, _-_, _*_}
+use Prim.Native.Nat.{_-_, _*_}
 use native.Mathlib.Omega.{arith}
-use lib.ListN.{length, length-replicate, take, drop, length-drop}
-use lib.Seq.{length-take-le}
-use borrow.Rule.Slice.PartMut.{putMid}
+use lib.ListN.{length-replicate}
+use Rattle.rules.proofs.Rows.{length-lent}
 use Rattle.vav.specs.Rows.{put, zeros}
-use Rattle.vav.proofs.Laws.{lent}
-use Rattle.quads.proofs.Writing.{put-whole}
+use Rattle.vav.proofs.Laws.{lent, put-whole}
 use Rattle.update.specs.Runs.{patternsMended}
 use borrow.Author.Needs.{needs}
 use Rattle.update.proofs.mend_patterns.Statement.{statement}
@@ -20,22 +18,15 @@ returns c =
     let wrote = cleared .before .before .before .before in
     let t = wrote .before .before .before in
     let a = 6 * t .args .after in
-    let k = 6 * t .args .highest - a in
+    let k = 6 * (t .args .highest - t .args .after) in
     let xs = wrote .write-patterns .last .0 in
-    let kept = wrote .write-patterns .kept .0 in
-    let low = t .pre .0 in
-    let long = t .pre .1 in
-    let e : k ≡ a + k - a = omega arith in
-    let part : length (take k (drop a xs)) ≡ k = length-take-le k (drop a xs) (rw (length-drop a xs) (omega (arith, kept, low, long))) in
-    let z : length {A = ℕ} (zeros k) ≡ k = length-replicate k 0 in
-    let y : k * 0 ≡ 0 = omega arith in
-    let whole : cleared .clear .last .0 ≡ zeros k =
-    cleared .clear .ensures ∙ ap (λ (j : ℕ). put j (zeros k) (take k (drop a xs))) y ∙ put-whole (zeros k) (take k (drop a xs)) (z ∙ sym part) in
-    ap (λ (j : ℕ). putMid a j xs (cleared .clear .last .0)) e ∙ lent a k xs (cleared .clear .last .0) (zeros k) whole z
-    ∙ ap (put a (zeros k)) (wrote .write-patterns .ensures)
+    let none : k * 0 ≡ 0 = omega arith in
+    let part = length-lent a k xs (omega (arith, wrote .write-patterns .kept .0, t .pre .0, t .pre .1)) in
+    let whole = (rw none at (cleared .clear .ensures)) ∙ put-whole (zeros k) _ (length-replicate k 0 ∙ sym part) in
+    lent a k xs _ (zeros k) whole (length-replicate k 0) ∙ ap (put a (zeros k)) (wrote .write-patterns .ensures)
 
 pub mend-patterns-spec : {M : Type 1} → statement M
 mend-patterns-spec =
     tie.close
     (tie.spec (λ c κs. search needs) (λ c. search needs) (λ c. search needs) (λ c. search needs) (λ c. search needs) (λ c. search needs)
-    (λ c. search needs) (λ c. search needs) (λ c κs. search needs) (λ c. search needs) returns)
+    (λ c. search needs) (λ c. search needs) (λ c. search needs) (λ c κs. search needs) (λ c. search needs) returns)
