@@ -2,9 +2,11 @@
 use Prim.Native.Nat.{ℕ}
 use mathlib.Core.Path.{_≡_}
 use mathlib.Core.List.{List}
+use Rattle.rules.specs.Types.{floats}
 use Rattle.rules.specs.Mesh.{Lists}
 use Rattle.rules.specs.Update.{Tested}
-use Rattle.rules.specs.Calls.{Scene, Answer, answered, Outcome, updateMesh}
+use Rattle.rules.specs.Answers.{Verdict, _then_, BAD-SIZE, SHORT-SLOTS, BAD-COUNT}
+use Rattle.rules.specs.Calls.{Scene, Answer, answered, Outcome, typesVerdict, updateMesh}
 use Rattle.answers.specs.Verdicts.{numberOf}
 use Rattle.update.specs.declared.Updated.{Updated}
 use Rattle.update.specs.declared.Updated.the-variants.{Done, Refused}
@@ -21,3 +23,7 @@ outcomeOf r B = record { answer = answerOf r; lists = B }
 -- the call's contract: it answers r for a mesh of Q quads, by the side tested, and leaves the lists at exit
 abbrev pub Updates : Tested → Scene → List ℕ → Lists → ℕ → Updated → Lists → Type 0
 Updates tested S log B Q r exit = outcomeOf r exit ≡ updateMesh tested S log B Q
+
+-- 2, 3, 4, 6, 9 and 10: what is asked before the mesh is looked at
+abbrev pub toldVerdict : Scene → Lists → ℕ → Verdict
+toldVerdict S B Q = BAD-SIZE (S .size) then typesVerdict S then SHORT-SLOTS (S .size) B then BAD-COUNT (floats (S .types)) B Q

@@ -28,14 +28,15 @@ use works::work_of;
 ghost use mathlib.Core.Path.{_≡_};
 ghost use Prim.Native.Nat.{_*_, _≤_};
 ghost use lib.ListN.{length};
-ghost use Rattle.rules.specs.Mesh.{NONE};
-ghost use Rattle.rules.specs.Calls.{updateVerdict};
+ghost use Rattle.rules.specs.Mesh.{NONE, Lists};
+ghost use Rattle.rules.specs.Answers.{BAD-ENTRY};
 ghost use Rattle.answers.specs.Verdicts.{verdictOf};
 ghost use Rattle.terms.specs.Scenes.{sceneOf};
 ghost use Rattle.terms.specs.Modes.{testedBy};
 ghost use Rattle.terms.specs.Loans.{sceneLent, before, after};
 ghost use Rattle.update.specs.Runs.{ranOf, laidOut, courseIn, Logging, patternsMended};
-ghost use Rattle.update.specs.Outcome.{Updates};
+ghost use Rattle.lent.specs.Scenes.{Long};
+ghost use Rattle.update.specs.Outcome.{Updates, toldVerdict};
 
 // What a log is run under: the scene, the side tested, the room and the quads that there are.
 pub struct Task {
@@ -138,20 +139,29 @@ fn mend_patterns(triangles: &mut [u32], before: usize, after: usize, highest: us
     clear(&mut triangles[start..start + words], words, 0);
 }
 
-// BAD_SIZE to BAD_ENTRY in their order: what is asked before a list is written. Of the entries the lowest that is bad, else a ragged end.
-fn asked_verdict(
+// BAD_ENTRY: the lowest bad entry, else a ragged end.
+fn entry_verdict(log: &[u8], cells: u32, types: u32) -> Verdict
+    ensures { λ r. ⌜ verdictOf r ≡ BAD-ENTRY cells types (now (log .entry)) ⌝ }
+{
+    let entries = log.len() / Entry::BYTES;
+    let bad = first_bad_entry(log, cells, types);
+    let lowest = refuse_if(bad < entries, Refusal::BadEntry, bad);
+    if is_refusal(lowest) {
+        return lowest;
+    }
+    refuse_if(log.len() % Entry::BYTES != 0, Refusal::BadEntry, entries)
+}
+
+// BAD_SIZE, BAD_TYPES, BAD_NUMBER, NOT_A_CUBE, SHORT_ROOM and BAD_COUNT: what is asked before the mesh is looked at.
+fn told_verdict(
     scene: Scene,
     kinds: &[u8],
     covers: &[u8],
     cubes: &[u32],
-    log: &[u8],
-    vertices: &[u32],
-    triangles: &[u32],
-    links: &[u32],
-    slots: &[u32],
+    lengths: Lengths,
     quads: usize,
 ) -> Verdict
-    ensures { λ r. ⌜ verdictOf r ≡ updateVerdict (sceneLent scene kinds covers cubes) (now (log .entry)) (before vertices triangles links slots) quads ⌝ }
+    ensures { λ r. ⌜ ((B : Lists) → Long B lengths → verdictOf r ≡ toldVerdict (sceneOf scene (now (kinds .entry)) (now (covers .entry)) (now (cubes .entry))) B quads) ⌝ }
 {
     let size = size_verdict(scene.dims);
     if is_refusal(size) {
@@ -161,32 +171,7 @@ fn asked_verdict(
     if is_refusal(typed) {
         return typed;
     }
-    let lengths = Lengths {
-        vertices: vertices.len(),
-        triangles: triangles.len(),
-        links: links.len(),
-        slots: slots.len(),
-    };
-    let lent = lent_verdict(scene, lengths, quads);
-    if is_refusal(lent) {
-        return lent;
-    }
-    let cells = scene.dims.cell_count();
-    let linked = links_verdict(cells, links, slots, quads);
-    if is_refusal(linked) {
-        return linked;
-    }
-    let patterned = triangles_verdict(triangles, quads);
-    if is_refusal(patterned) {
-        return patterned;
-    }
-    let entries = log.len() / Entry::BYTES;
-    let bad = first_bad_entry(log, cells, kinds.len() as u32);
-    let lowest = refuse_if(bad < entries, Refusal::BadEntry, bad);
-    if is_refusal(lowest) {
-        return lowest;
-    }
-    refuse_if(log.len() % Entry::BYTES != 0, Refusal::BadEntry, entries)
+    lent_verdict(scene, lengths, quads)
 }
 
 // What an update answers: what was done; or why and where it refuses, and what was done before: nothing, unless an entry finds no room.
@@ -212,34 +197,37 @@ pub fn update_mesh(
     ensures { λ r. ⌜ Updates (testedBy tested) (sceneLent scene kinds covers cubes) (now (log .entry))
         (before vertices triangles links slots) quads r (after vertices triangles links slots) ⌝ }
 {
-    let asked = asked_verdict(
-        scene,
-        kinds,
-        covers,
-        cubes,
-        log,
-        vertices,
-        triangles,
-        links,
-        slots,
-        quads,
-    );
-    if let Verdict::Refuse(why, place) = asked {
-        return Updated::Refused(why, place, Count { quads: 0, moved: 0 });
-    }
+    let none = Count { quads: 0, moved: 0 };
     let lengths = Lengths {
         vertices: vertices.len(),
         triangles: triangles.len(),
         links: links.len(),
         slots: slots.len(),
     };
+    let told = told_verdict(scene, kinds, covers, cubes, lengths, quads);
+    if let Verdict::Refuse(why, place) = told {
+        return Updated::Refused(why, place, none);
+    }
+    let cells = scene.dims.cell_count();
+    let linked = links_verdict(cells, links, slots, quads);
+    if let Verdict::Refuse(why, place) = linked {
+        return Updated::Refused(why, place, none);
+    }
+    let patterned = triangles_verdict(triangles, quads);
+    if let Verdict::Refuse(why, place) = patterned {
+        return Updated::Refused(why, place, none);
+    }
+    let entered = entry_verdict(log, cells, kinds.len() as u32);
+    if let Verdict::Refuse(why, place) = entered {
+        return Updated::Refused(why, place, none);
+    }
     let task = Task {
         scene: scene,
         tested: tested,
         room: room_of(scene.coloured, lengths),
         quads: quads,
     };
-    let six = 6 * scene.dims.cell_count() as usize;
+    let six = 6 * cells as usize;
     let faces = &mut slots[..six];
     let ran = run_log(vertices, links, faces, kinds, covers, cubes, log, task);
     let count = ran.count;
