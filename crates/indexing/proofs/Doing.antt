@@ -2,19 +2,19 @@
 use mathlib.Core.Path.{_≡_, refl, sym, ap, _∙_, subst}
 use mathlib.Core.Logic.{⊎-elim}
 use mathlib.Core.Bool.{Bool, true, false, cond, not}
-use mathlib.Core.List.{List, [], _∷_, _++_, append-assoc, map}
+use mathlib.Core.List.{List, [], _∷_, _++_, append-assoc}
 use mathlib.Core.Option.{none, some}
-use Prim.Native.Nat.{ℕ, zero, suc, _+_, _*_, _/_, _≤_, _<_, max}
+use Prim.Native.Nat.{ℕ, _+_, _*_, _/_, _≤_, _<_, max}
 use native.Mathlib.Omega.{arith}
 use lib.Dec.{eqb}
 use lib.ListN.{length, getD, set, length-append, length-set}
 use lib.Seq.{getD-set-same, getD-set-other}
-use borrow.Author.Tests.{eqb-true, eqb-false, eq-eqb, ne-eqb, lt-ltb}
+use borrow.Author.Tests.{eqb-false, eq-eqb, ne-eqb, lt-ltb}
 use Rattle.rules.specs.Lists.{each, only}
 use Rattle.rules.specs.Cells.{onlyIf}
 use Rattle.rules.specs.Mesh.{Quad, NONE, there, placeOf, slotOf, listsOf}
-use Rattle.rules.specs.Update.{step, movedIn, highest}
-use Rattle.rules.proofs.ListLaws.{All, within, split, length-table, each-same, each-split}
+use Rattle.rules.specs.Update.{step, movedIn}
+use Rattle.rules.proofs.ListLaws.{within, split, length-table, each-same, each-split}
 use Rattle.rules.proofs.Quads.{moved-le}
 use Rattle.rules.proofs.Laying.{length-links}
 use Rattle.mesh_metadata.specs.Index.{Linked, vertexOf}

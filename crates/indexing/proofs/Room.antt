@@ -1,5 +1,5 @@
 -- How many quads a mesh has once the first three parts of a work are done: side by side, as the slots tell it. Assumes nothing.
-use mathlib.Core.Path.{_≡_, refl, sym, ap, _∙_, subst}
+use mathlib.Core.Path.{_≡_, refl, sym, ap, _∙_}
 use mathlib.Core.Bool.{Bool, true, false, cond, not, _&&_, _||_}
 use mathlib.Core.List.{List, [], _∷_, _++_, map, map-append}
 use Prim.Native.Nat.{ℕ, zero, suc, _+_, _-_, _*_, _/_, _%_, _≤_, _<_}
@@ -11,7 +11,7 @@ use Rattle.rules.specs.Lists.{each, only, member, isNil}
 use Rattle.rules.specs.Cells.{cells, has, opposite, keyOf}
 use Rattle.rules.specs.Mesh.{Quad, World, at, there, placeOf}
 use Rattle.rules.specs.Update as rule
-use Rattle.rules.specs.Update.{Entry, removeAt, remove, draw, step, run, cuts, sides, needed}
+use Rattle.rules.specs.Update.{Entry, removeAt, remove, step, run, cuts, sides, needed}
 use Rattle.rules.proofs.ListLaws.{All, all-kept, all-each, split, members, read-one, read-none}
 use Rattle.rules.proofs.Neighbours.{beside, opposite-lt, opposite-twice}
 use Rattle.rules.proofs.Quads.{Once, orElse, at-draw, at-remove, at-cuts, placed, length-removeAt, run-append, run-once}

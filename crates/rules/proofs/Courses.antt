@@ -173,9 +173,6 @@ module _ (n s : ℕ) where
 
 -- ---- what an entry draws fits
 module _ (W : World) (snd : Sound W) (s : ℕ) (sized : (t f c : ℕ) → length (W .wordsOf t f c) ≡ s) where
-  N : ℕ
-  N = 6 * cells (W .size)
-
   fits-quads : (t c : ℕ) (p : ℕ → Bool) → c < cells (W .size) → All (Fits (6 * cells (W .size)) s) (quads W t c p)
   fits-quads t c p h =
       all-each (Fits (6 * cells (W .size)) s) 6 0 (λ f. only (p f) (quadOf W t c f))

@@ -201,10 +201,6 @@ length-removeAt q m h =
     (shifts (length m) q)
     (λ e. simp (length-append, length-take, length-drop) (omega arith)) (λ e. simp (length-take, length-set) (omega arith))
 
-pub length-remove : (k : ℕ) (m : List Quad) → there k m ≡ true → length (remove k m) ≡ length m - 1
-unfolding remove
-length-remove k m h = rw h (length-removeAt (placeOf k m) m (placed k m h .within))
-
 -- a removal moves at most five quads
 pub movedBy-le : (Q q : ℕ) → q < Q → movedBy Q q ≤ 5
 movedBy-le Q q h =

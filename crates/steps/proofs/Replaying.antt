@@ -2,13 +2,13 @@
 use mathlib.Core.Path.{_≡_, refl, sym, ap, _∙_, subst}
 use mathlib.Core.Bool.{cond, not}
 use mathlib.Core.List.{List, [], _∷_, _++_}
-use Prim.Native.Nat.{ℕ, suc, _+_, _-_, _*_, _≤_, _<_, max}
+use Prim.Native.Nat.{ℕ, suc, _+_, _-_, _*_, _≤_, max}
 use native.Mathlib.Nat.{mul-le-mul-left}
 use native.Mathlib.Omega.{arith}
-use lib.ListN.{length, length-append, take, drop, set, getD}
+use lib.ListN.{length, length-append}
 use Rattle.rules.specs.Lists.{only}
 use Rattle.rules.specs.Mesh.{Quad, there, placeOf, laid}
-use Rattle.rules.specs.Update.{removeAt, remove, step, run, highest, Op, shifts, blank}
+use Rattle.rules.specs.Update.{removeAt, remove, step, run, highest, Op}
 use Rattle.rules.proofs.ListLaws.{All, all-append, split}
 use Rattle.rules.proofs.Quads.{placed, length-removeAt}
 use Rattle.rules.proofs.Laying.{Sized}

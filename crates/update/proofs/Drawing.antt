@@ -14,7 +14,7 @@ use Rattle.rules.specs.Cells.{cells, has}
 use Rattle.rules.specs.Floats.{finite}
 use Rattle.rules.specs.Types.{floats, cubeOf, isCube, positionOf}
 use Rattle.rules.specs.Update.{Entry, givenAt}
-use Rattle.rules.specs.Calls.{Scene, world, span, faces}
+use Rattle.rules.specs.Calls.{Scene, span, faces}
 use Rattle.rules.proofs.ListLaws.{All}
 use Rattle.rules.proofs.Demands.{words-sized}
 use Rattle.mesh_metadata.proofs.Slots.{order}

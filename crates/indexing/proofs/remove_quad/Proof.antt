@@ -1,5 +1,5 @@
 -- `indexing::remove_quad` meets its contract: each list by the leaf that mends it. Assumes nothing.
-use mathlib.Core.Path.{refl, ap, _∙_}
+use mathlib.Core.Path.{refl, ap}
 use Prim.Native.Nat.{ℕ, _+_}
 use native.Mathlib.Omega.{arith}
 use lib.ListN.{length-set}

@@ -1,7 +1,7 @@
 -- `mesh_metadata::rename` meets its contract: slot by slot. Assumes nothing.
 use mathlib.Core.Path.{_≡_, refl, ap, _∙_}
 use mathlib.Core.List.{List, map}
-use Prim.Native.Nat.{ℕ, _-_, _≤_, _<_}
+use Prim.Native.Nat.{ℕ, _-_, _≤_}
 use lib.ListN.{length, getD, set}
 use Rattle.rules.specs.Cells.{keyIn, firstVertex}
 use Rattle.mesh_metadata.specs.Index.{shifted}

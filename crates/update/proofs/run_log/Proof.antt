@@ -9,7 +9,6 @@ use borrow.Author.Tests.{leb-true, leb-false}
 use Rattle.rules.specs.Update.{Tested, Work, entryAt, work, needed}
 use Rattle.rules.specs.Calls.{Scene, world, span}
 use Rattle.rules.proofs.ListLaws.{length-table, not-true, not-false}
-use Rattle.entries.specs.Log.{entryIn}
 use Rattle.terms.specs.Modes.{testedBy}
 use Rattle.terms.specs.Scenes.{sceneOf}
 use Rattle.steps.specs.Steps.{Step, shelf, stepAt, replayed}

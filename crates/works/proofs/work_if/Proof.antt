@@ -1,5 +1,4 @@
 -- `works::work_if` meets its contract. Assumes nothing.
-use borrow.Author.Needs.{needs}
 use Rattle.works.proofs.work_if.Statement.{statement}
 use Rattle.works.proofs.work_if.Tie as tie
 
