@@ -1,4 +1,4 @@
 pub mod Booking
 pub mod Doing
-pub mod Room
+pub mod Due
 pub mod Sets

@@ -5,8 +5,9 @@ use face::Face;
 use face::NONE;
 use face::Quad;
 use face::face_at;
-use face::has;
 use face::lowest_side;
+use face::quads_of;
+use face::side_set;
 use mesh_metadata::QuadIndex;
 use mesh_metadata::get_quad_index;
 use mesh_metadata::insert;
@@ -19,16 +20,16 @@ use works::Work;
 use works::does_cut;
 use works::type_of;
 ghost use mathlib.Core.Path.{_≡_};
-ghost use mathlib.Core.Bool.{cond};
 ghost use mathlib.Core.List.{map};
 ghost use Prim.Native.Nat.{ℕ, _+_, _*_, _^_, _≤_, _<_, max};
-ghost use lib.Dec.{leb};
-ghost use lib.ListN.{length, getD, set};
+ghost use lib.ListN.{length};
 ghost use Rattle.rules.specs.Lists.{each};
+ghost use Rattle.rules.specs.Cells.{UNIT, keyOf, setOf};
+ghost use Rattle.rules.proofs.ListLaws.{All};
 ghost use Rattle.face.specs.Face.{number};
 ghost use Rattle.entries.specs.Log.{entryIn};
-ghost use Rattle.works.specs.Sets.{setIn, spot, deedBy, deedAt, deeds};
-ghost use Rattle.indexing.specs.Room.{isEmptyAt, growthAt, quadsNeeded, Gridded};
+ghost use Rattle.works.specs.Sets.{setIn, spot, spotIn, deedBy, deedAt, deeds};
+ghost use Rattle.indexing.specs.Due.{isEmpty, isEmptyAt, Due, fitsIn, Gridded};
 ghost use Rattle.indexing.specs.Index.{indexOf, goneAt, cameAt, indexRun, Begun, Removable, Drawable};
 
 // The number of quads, how many have changed their place, the highest number of quads on the way, and the number of steps.
@@ -193,53 +194,84 @@ pub fn index_work(
     left
 }
 
-// Whether the face of a key has no quad. NONE is no face.
-fn is_empty(slots: &[u32], keys: &[u32; 12], at: usize) -> bool
-    requires { ⌜ (at < 12) × Gridded (now keys) (now slots) ⌝ }
-    ensures { λ r. ⌜ r ≡ isEmptyAt (now (slots .entry)) (spot (getD (now (keys .entry)) at 0)) ⌝ }
+// Whether a side of a cell has no quad.
+fn lacks(slots: &[u32], cell: Cell, face: Face) -> bool
+    requires { ⌜ (cell .0 < UNIT) × (keyOf (cell .0) (number face) < length (now slots)) ⌝ }
+    ensures { λ r. ⌜ r ≡ isEmpty (now (slots .entry)) (keyOf (cell .0) (number face)) ⌝ }
 {
-    let key = keys[at];
-    if key == NONE {
-        return false;
-    }
-    match get_quad_index(slots, face_at(key % 6), Cell(key / 6)) {
+    match get_quad_index(slots, face, cell) {
         QuadIndex::Nothing => true,
         QuadIndex::At(_) => false,
     }
 }
 
-fn one(on: bool) -> usize
-    ensures { λ r. ⌜ (r ≡ cond on 1 0) × (r ≤ 1) ⌝ }
+// Whether the face of a key has none. NONE is no face.
+fn is_bare(slots: &[u32], key: u32) -> bool
+    requires { ⌜ All (λ k. k < length (now slots)) (spot key) ⌝ }
+    ensures { λ r. ⌜ r ≡ isEmptyAt (now (slots .entry)) (spot key) ⌝ }
 {
-    if on { 1 } else { 0 }
+    if key == NONE {
+        return false;
+    }
+    match quad_at(slots, key) {
+        QuadIndex::Nothing => true,
+        QuadIndex::At(_) => false,
+    }
 }
 
-// One more than the count grows by at a side: an own quad that goes, a neighbour's and an own one that come.
-fn growth(slots: &[u32], keys: &[u32; 12], work: Work, face: Face) -> usize
-    requires { ⌜ Gridded (now keys) (now slots) ⌝ }
-    ensures { λ r. ⌜ (r ≡ growthAt (now (slots .entry)) (now (keys .entry)) work (number face)) × (r ≤ 3) ⌝ }
+fn empty_sides(slots: &[u32], cell: Cell) -> u8
+    requires { ⌜ (cell .0 < UNIT) × (6 * cell .0 + 6 ≤ length (now slots)) ⌝ }
+    ensures { λ r. ⌜ r ≡ setOf (λ f. isEmpty (now (slots .entry)) (keyOf (cell .0) f)) ⌝ }
 {
-    let side = face.number() as usize;
-    let empty = is_empty(slots, keys, side);
-    let goes = has(work.own, face);
-    let bare = has(work.shown, face) & is_empty(slots, keys, 6 + side);
-    let comes = has(work.drawn, face) & (goes | empty);
-    one(!(goes & !empty)) + one(bare) + one(comes)
+    side_set(
+        lacks(slots, cell, Face::Top),
+        lacks(slots, cell, Face::Bottom),
+        lacks(slots, cell, Face::Right),
+        lacks(slots, cell, Face::Left),
+        lacks(slots, cell, Face::Back),
+        lacks(slots, cell, Face::Forward),
+    )
 }
 
-// Whether the room holds what the entry's work needs. Twelve quads more are enough for any.
-pub fn has_room(slots: &[u32], keys: &[u32; 12], work: Work, count: usize, room: usize) -> bool
-    requires { ⌜ Gridded (now keys) (now slots) × (count < 2 ^ 32) ⌝ }
-    ensures { λ r. ⌜ r ≡ leb (quadsNeeded (now (slots .entry)) (now (keys .entry)) work count) room ⌝ }
+fn bare_sides(slots: &[u32], keys: &[u32; 12]) -> u8
+    requires { ⌜ ((f : ℕ) → f < 6 → All (λ k. k < length (now slots)) (spotIn (now keys) 1 f)) ⌝ }
+    ensures { λ r. ⌜ r ≡ setOf (λ f. isEmptyAt (now (slots .entry)) (spotIn (now (keys .entry)) 1 f)) ⌝ }
+{
+    side_set(
+        is_bare(slots, keys[6]),
+        is_bare(slots, keys[7]),
+        is_bare(slots, keys[8]),
+        is_bare(slots, keys[9]),
+        is_bare(slots, keys[10]),
+        is_bare(slots, keys[11]),
+    )
+}
+
+// What of a work changes something. The slots are looked at once, so that its parts need not guess.
+pub fn due_work(slots: &[u32], keys: &[u32; 12], cell: Cell, work: Work) -> Work
+    requires { ⌜ Gridded (now keys) (now slots) (cell .0) × ((j : ℕ) → setIn work j < 64) ⌝ }
+    ensures { λ r. ⌜ Due (now (slots .entry)) (now (keys .entry)) (cell .0) work r ⌝ }
+{
+    let empty = empty_sides(slots, cell);
+    let bare = bare_sides(slots, keys);
+    let shown = work.shown & bare;
+    Work {
+        own: work.own & (63 - empty),
+        shown: shown,
+        drawn: work.drawn & (work.own | empty),
+        hidden: work.hidden & ((63 - bare) | shown),
+    }
+}
+
+// Whether the room holds what comes. Twelve quads more are enough for any.
+pub fn has_room(due: Work, count: usize, room: usize) -> bool
+    requires { ⌜ ((j : ℕ) → setIn due j < 64) × (count < 2 ^ 32) ⌝ }
+    ensures { λ r. ⌜ r ≡ fitsIn due count room ⌝ }
 {
     if count + 12 <= room {
         return true;
     }
-    let grown = growth(slots, keys, work, Face::Top)
-        + growth(slots, keys, work, Face::Bottom)
-        + growth(slots, keys, work, Face::Right)
-        + growth(slots, keys, work, Face::Left)
-        + growth(slots, keys, work, Face::Back)
-        + growth(slots, keys, work, Face::Forward);
-    count + grown <= room + 6
+    let gone = quads_of(due.own) as usize;
+    let come = quads_of(due.shown) as usize + quads_of(due.drawn) as usize;
+    count + come <= room + gone
 }

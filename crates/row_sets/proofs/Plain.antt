@@ -18,7 +18,7 @@ use Rattle.rules.specs.Cells.{Size, Triple, cells, coordinates, opposite, onlyI
 use Rattle.rules.specs.Mesh.{typeAt, shown, drawn}
 use Rattle.rules.proofs.ListLaws.{within}
 use Rattle.rules.proofs.Searches.{every-at}
-use Rattle.rules.proofs.Sets.{setOf-lt, set-is, has-setOf}
+use Rattle.rules.proofs.Sets.{setOf-lt, set-is, has-setOf, has-and, has-or, has-others}
 use Rattle.rules.proofs.Neighbours.{beside}
 use Rattle.util.specs.Grid.{sizeOf, cordsOf, Within, Starts}
 use Rattle.util.proofs.Rows.{row-end, row-cords}
@@ -33,39 +33,6 @@ use Rattle.row_sets.specs.Rows.{ClearBelow, FullFrom, Plainly, Plain, Se
 
 -- ---- faces of a set that is made bit by bit
 
-and-bits : (m n : ℕ) → m < 2 → n < 2 → eqb (bitAnd m n) 1 ≡ (eqb m 1 && eqb n 1)
-and-bits zero zero a b = refl
-and-bits zero (suc zero) a b = refl
-and-bits (suc zero) zero a b = refl
-and-bits (suc zero) (suc zero) a b = refl
-and-bits zero (suc (suc n)) a b = absurd (omega arith)
-and-bits (suc zero) (suc (suc n)) a b = absurd (omega arith)
-and-bits (suc (suc m)) n a b = absurd (omega arith)
-
-or-bits : (m n : ℕ) → m < 2 → n < 2 → eqb (bitOr m n) 1 ≡ (eqb m 1 || eqb n 1)
-or-bits zero zero a b = refl
-or-bits zero (suc zero) a b = refl
-or-bits (suc zero) zero a b = refl
-or-bits (suc zero) (suc zero) a b = refl
-or-bits zero (suc (suc n)) a b = absurd (omega arith)
-or-bits (suc zero) (suc (suc n)) a b = absurd (omega arith)
-or-bits (suc (suc m)) n a b = absurd (omega arith)
-
-pub has-and : (a b f : ℕ) → has (bitAnd a b) f ≡ (has a f && has b f)
-has-and a b f =
-    ap (λ (n : ℕ). eqb (n % 2) 1) (and-shr a b f) ∙ ap (λ (n : ℕ). eqb n 1) (and-mod (a / 2 ^ f) (b / 2 ^ f) 1)
-    ∙ and-bits (a / 2 ^ f % 2) (b / 2 ^ f % 2) (omega arith) (omega arith)
-
-pub has-or : (a b f : ℕ) → has (bitOr a b) f ≡ (has a f || has b f)
-has-or a b f =
-    ap (λ (n : ℕ). eqb (n % 2) 1) (or-shr a b f) ∙ ap (λ (n : ℕ). eqb n 1) (or-mod (a / 2 ^ f) (b / 2 ^ f) 1)
-    ∙ or-bits (a / 2 ^ f % 2) (b / 2 ^ f % 2) (omega arith) (omega arith)
-
--- by one test over the 64 sets
-others : (s : ℕ) → s < 64 → 63 - s ≡ setOf (λ f. not (has s f))
-unfolding every
-others s h = eqb→eq _ _ (every-at 64 (λ s. eqb (63 - s) (setOf (λ f. not (has s f)))) tt s h)
-
 -- LAW: a side is kept and open, or not kept and not in the outer set
 pub formula-is : (p : ℕ → Bool) (seen keep outer : ℕ) → seen ≡ setOf p → keep < 64 → outer < 64
     → bitOr (bitAnd seen keep) (63 - bitOr keep outer) ≡ setOf (λ f. cond (has keep f) (p f) (not (has outer f)))
@@ -75,7 +42,7 @@ formula-is p seen keep outer e k o =
     (or-lt 6 (bitAnd seen keep) (63 - bitOr keep outer) (and-lt 6 seen keep l k) (omega arith))
     (λ f h. has-or (bitAnd seen keep) (63 - bitOr keep outer) f
     ∙ ap₂ (λ (a b : Bool). a || b) (has-and seen keep f ∙ ap (λ (a : Bool). a && has keep f) (ap (λ (n : ℕ). has n f) e ∙ has-setOf p f h))
-    (ap (λ (n : ℕ). has n f) (others (bitOr keep outer) (or-lt 6 keep outer k o)) ∙ has-setOf (λ f. not (has (bitOr keep outer) f)) f h ∙ ap not (has-or keep outer f))
+    (has-others (bitOr keep outer) (or-lt 6 keep outer k o) f h ∙ ap not (has-or keep outer f))
     ∙ tidy (p f) (has keep f) (has outer f))
   where
     tidy : (p k o : Bool) → ((p && k) || not (k || o)) ≡ cond k p (not o)

@@ -119,7 +119,7 @@ no-more (x ∷ ks) n S h c =
             absurd (d (rw e (getD-set-same S x NONE NONE (omega arith))))
         go (no e) = let i = c k l (rw (getD-set-other S x k NONE NONE e) at d) in later k e (i .0) (i .1) (i .2)
 
-count-le : (n : ℕ) (p : ℕ → Bool) → count n p ≤ n
+pub count-le : (n : ℕ) (p : ℕ → Bool) → count n p ≤ n
 unfolding count
 count-le zero p = omega arith
 count-le (suc n) p = omega (arith, count-le n p, one-le (p n))

@@ -1,11 +1,14 @@
 -- Side sets and the faces they have. Assumes nothing.
-use mathlib.Core.Path.{_≡_, refl, sym, _∙_}
-use mathlib.Core.Bool.{Bool, true, false, cond}
-use Prim.Native.Nat.{ℕ, zero, suc, _+_, _*_, _/_, _%_, _≤_, _<_}
+use mathlib.Core.Path.{_≡_, refl, sym, ap, _∙_}
+use mathlib.Core.Bool.{Bool, true, false, cond, not, _&&_, _||_}
+use Prim.Native.Nat.{ℕ, zero, suc, _+_, _-_, _*_, _/_, _%_, _^_, _≤_, _<_}
 use native.Mathlib.Omega.{arith}
-use lib.Dec.{eqb}
+use lib.Bits.{bitAnd, bitOr, and-shr, or-shr, and-mod, or-mod}
+use lib.Dec.{eqb, eqb→eq}
 use borrow.Author.Tests.{eqb-true, eqb-false}
+use Rattle.rules.specs.Lists.{every}
 use Rattle.rules.specs.Cells.{has, setOf}
+use Rattle.rules.proofs.Searches.{every-at}
 
 abbrev bit : Bool → ℕ
 bit b = cond b 1 0
@@ -72,3 +75,38 @@ module _ (p : ℕ → Bool) where
       whole : (n m k j i h a b c d e f : ℕ) → n ≡ 2 * m + a → m ≡ 2 * k + b → k ≡ 2 * j + c → j ≡ 2 * i + d → i ≡ 2 * h + e → h ≡ f
           → n ≡ a + 2 * b + 4 * c + 8 * d + 16 * e + 32 * f
       whole n m k j i h a b c d e f p q r s t u = omega arith
+
+-- ---- sets made bit by bit
+and-bits : (m n : ℕ) → m < 2 → n < 2 → eqb (bitAnd m n) 1 ≡ (eqb m 1 && eqb n 1)
+and-bits zero zero a b = refl
+and-bits zero (suc zero) a b = refl
+and-bits (suc zero) zero a b = refl
+and-bits (suc zero) (suc zero) a b = refl
+and-bits zero (suc (suc n)) a b = absurd (omega arith)
+and-bits (suc zero) (suc (suc n)) a b = absurd (omega arith)
+and-bits (suc (suc m)) n a b = absurd (omega arith)
+
+or-bits : (m n : ℕ) → m < 2 → n < 2 → eqb (bitOr m n) 1 ≡ (eqb m 1 || eqb n 1)
+or-bits zero zero a b = refl
+or-bits zero (suc zero) a b = refl
+or-bits (suc zero) zero a b = refl
+or-bits (suc zero) (suc zero) a b = refl
+or-bits zero (suc (suc n)) a b = absurd (omega arith)
+or-bits (suc zero) (suc (suc n)) a b = absurd (omega arith)
+or-bits (suc (suc m)) n a b = absurd (omega arith)
+
+pub has-and : (a b f : ℕ) → has (bitAnd a b) f ≡ (has a f && has b f)
+has-and a b f =
+    ap (λ (n : ℕ). eqb (n % 2) 1) (and-shr a b f) ∙ ap (λ (n : ℕ). eqb n 1) (and-mod (a / 2 ^ f) (b / 2 ^ f) 1)
+    ∙ and-bits (a / 2 ^ f % 2) (b / 2 ^ f % 2) (omega arith) (omega arith)
+
+pub has-or : (a b f : ℕ) → has (bitOr a b) f ≡ (has a f || has b f)
+has-or a b f =
+    ap (λ (n : ℕ). eqb (n % 2) 1) (or-shr a b f) ∙ ap (λ (n : ℕ). eqb n 1) (or-mod (a / 2 ^ f) (b / 2 ^ f) 1)
+    ∙ or-bits (a / 2 ^ f % 2) (b / 2 ^ f % 2) (omega arith) (omega arith)
+
+-- by one test over the 64 sets
+pub has-others : (s : ℕ) → s < 64 → (f : ℕ) → f < 6 → has (63 - s) f ≡ not (has s f)
+unfolding every
+has-others s h f l =
+    ap (λ (n : ℕ). has n f) (eqb→eq (63 - s) (setOf (λ f. not (has s f))) (every-at 64 (λ s. eqb (63 - s) (setOf (λ f. not (has s f)))) tt s h)) ∙ has-setOf (λ f. not (has s f)) f l

@@ -6,7 +6,7 @@ use mathlib.Core.Option.{Option, none, some}
 use Prim.Native.Nat.{ℕ, zero, suc, _+_, _-_, _*_, _/_, _%_, _^_, _≤_, _<_}
 use native.Mathlib.Omega.{arith}
 use lib.Dec.{leb}
-use lib.ListN.{length, getD}
+use lib.ListN.{length}
 use borrow.Author.Tests.{le-leb, lt-leb}
 use Rattle.rules.specs.Lists.{each}
 use Rattle.rules.specs.Cells.{cells}
@@ -14,7 +14,7 @@ use Rattle.rules.specs.Mesh.{Quad, there, laid, slotOf}
 use Rattle.rules.specs.Update as rule
 use Rattle.rules.specs.Update.{Tested, Entry, Op, run, moves, highest, ops, needed, work, entryAt, courseFrom}
 use Rattle.rules.specs.Calls.{Scene, world, span, faces}
-use Rattle.rules.proofs.ListLaws.{All, split, length-table, all-kept}
+use Rattle.rules.proofs.ListLaws.{All, split, and-true, length-table, all-kept}
 use Rattle.rules.proofs.Laying.{Fits}
 use Rattle.rules.proofs.Mending.{Sound}
 use Rattle.rules.proofs.Courses.{Sane, sane-step, highest-needed, run-le, fits-new, entry-moves}
@@ -24,14 +24,14 @@ use Rattle.steps.specs.Steps.{Step, Deed, stepsIn, Shelf, shelf, replayed, quad
 use Rattle.steps.proofs.Replaying.{replay-run}
 use Rattle.steps.specs.Rows.{wordsBy, Drawn, Replaying}
 use Rattle.works.specs.declared.Work.{Work}
-use Rattle.works.specs.Sets.{meant, setIn, keysAround, spot, deeds, Cubes}
+use Rattle.works.specs.Sets.{meant, setIn, keysAround, spotIn, deeds, Cubes}
 use Rattle.works.proofs.Meant.{Means, meant-work, meant-cubes, meant-few, deeds-ops}
 use Rattle.indexing.specs.Index.{Index, indexRun, bookOf, Good, Ground, Ready, Begun}
-use Rattle.indexing.specs.Room.{isEmpty, quadsNeeded, Gridded}
+use Rattle.indexing.specs.Due.{isEmpty, Due, fitsIn, Gridded}
 use Rattle.indexing.proofs.Sets.{all-few, spots-inside}
 use Rattle.indexing.proofs.Booking.{slot-none, run-booked}
 use Rattle.indexing.proofs.Doing.{ready-rest}
-use Rattle.indexing.proofs.Room.{needed-counted}
+use Rattle.indexing.proofs.Due.{due-same, room-told}
 use Rattle.update.specs.Runs.{Ended, laidOut, meshIn, courseIn, Holds, Logging}
 use Rattle.update.proofs.Drawing.{bare, deeds-good, deeds-able}
 
@@ -131,133 +131,145 @@ module _ (tested : Tested) {S : Scene} {room : ℕ} {log vs₀ ls₀ ss₀ : Lis
         pub run-sets : (j : ℕ) → setIn w j < 64
         run-sets j = subst (λ (x : Work). setIn x j < 64) (sym w-is) (meant-few (world S) e tested j)
 
-        -- ---- the room test
-        pub run-gridded : Gridded ks ss
+        pub run-gridded : Gridded ks ss (e .cell)
         run-gridded =
             let z = length-slots in
             let s = grid-small in
+            let c = run-inside in
             let n = sym length-slots in
             record {
               small = omega arith;
-              all = λ j l. let z : 6 * (j / 6 % 2) + j % 6 ≡ j = omega arith in
-                  subst (λ (x : ℕ × List ℕ × ℕ). All (λ k. k < x .0) (spot (getD (x .1) (x .2) 0))) (λ i. (n i, sym ks-are i, z i)) (spots-inside (S .size) e (g .within) run-inside (j / 6) (j % 6) (omega arith));
+              own = omega arith;
+              all = λ f l. subst (λ (x : ℕ × List ℕ). All (λ k. k < x .0) (spotIn (x .1) 1 f)) (λ i. (n i, sym ks-are i)) (spots-inside (S .size) e (g .within) run-inside 1 f l);
             }
 
-        pub run-needed : quadsNeeded ss ks w q ≡ needed (works k) m
-        run-needed =
-            (λ i. quadsNeeded ss (ks-are i) w (r .holds .count i)) ∙ needed-counted m (sane .once) (world S) e w ss told (g .within) run-inside means
+        -- ---- what of it changes something
+        module _ {d : Work} (due : Due ss ks (e .cell) w d) where
+          due-around : Due ss (keysAround (S .size) (e .cell)) (e .cell) w d
+          due-around = subst (λ (x : List ℕ). Due ss x (e .cell) w d) ks-are due
 
-        -- ---- an entry that finds its room
-        module _ (fit : needed (works k) m ≤ room) (xs : List ℕ) (long : length xs ≡ 48) where
-          abbrev ds : List Deed
-          ds = deeds ks e w
+          pub run-room : fitsIn d q room ≡ leb (needed (works k) m) room
+          run-room = ap (λ (n : ℕ). fitsIn d n room) (r .holds .count) ∙ room-told m (sane .once) (world S) e w ss told (g .within) run-inside due-around means room
 
-          good : All (Good (wordsBy (bare S)) (faces S) (span S)) ds
-          good = subst (λ (x : List ℕ). All (Good (wordsBy (bare S)) (faces S) (span S)) (deeds x e w)) (sym ks-are) (deeds-good S (g .typed) (g .within) e run-inside w)
+          -- ---- an entry that finds its room
+          module _ (fit : needed (works k) m ≤ room) (xs : List ℕ) (long : length xs ≡ 48) where
+            abbrev ds : List Deed
+            ds = deeds ks e d
 
-          able : All (Able (Drawn (bare S))) ds
-          able =
-              subst (λ (x : List ℕ). All (Able (Drawn (bare S))) (deeds x e w)) (sym ks-are)
-              (deeds-able S (g .typed) (g .within) e run-inside w (subst (Cubes (S .types .kinds) e) (sym w-is) (meant-cubes (world S) e tested)))
+            good : All (Good (wordsBy (bare S)) (faces S) (span S)) ds
+            good = subst (λ (x : List ℕ). All (Good (wordsBy (bare S)) (faces S) (span S)) (deeds x e d)) (sym ks-are) (deeds-good S (g .typed) (g .within) e run-inside d)
 
-          as-ops : opsOf (quadBy (wordsBy (bare S))) ds ≡ ops (works k)
-          as-ops = ap (λ (x : List ℕ). opsOf (quadBy (wordsBy (bare S))) (deeds x e w)) ks-are ∙ deeds-ops means
+            cubes : Cubes (S .types .kinds) e d
+            cubes =
+                let c = subst (Cubes (S .types .kinds) e) (sym w-is) (meant-cubes (world S) e tested) in
+                record { shown = λ i l h. c .shown i l (and-true _ _ (sym (due .shown i l) ∙ h) .0); drawn = λ i l h. c .drawn i l (and-true _ _ (sym (due .drawn i l) ∙ h) .0) }
 
-          fits-deeds : highest h (opsOf (quadBy (wordsBy (bare S))) ds) m ≤ room
-          fits-deeds =
-              subst (λ (os : List Op). highest h os m ≤ room) (sym as-ops) (let t = highest-needed (works k) h m (sane .reached) in let b = sane .within in omega arith)
+            able : All (Able (Drawn (bare S))) ds
+            able = subst (λ (x : List ℕ). All (Able (Drawn (bare S))) (deeds x e d)) (sym ks-are) (deeds-able S (g .typed) (g .within) e run-inside d cubes)
 
-          index : indexAt ls ss q v h xs ≡ bookOf (faces S) h m ls₀ v (stepsIn 0 xs)
-          index = let a = r .holds .links in let b = r .holds .slots in let c = r .holds .count in λ i. record { links = a i; slots = b i; quads = c i; moved = v; top = h; steps = stepsIn 0 xs }
+            -- the highest count, how many have moved, and the mesh
+            abbrev after : List Op → ℕ × ℕ × List Quad
+            after os = (highest h os m, v + moves os m, run os m)
 
-          ready : Ready (length xs) ds (indexAt ls ss q v h xs)
-          unfolding each
-          ready =
-              let few = g .few in
-              let mv = r .moves in
-              let a = all-few ks e w in
-              record {
-                ground = ground;
-                top = h;
-                mesh = m;
-                sane = sane;
-                is = index;
-                good = good;
-                fits = fits-deeds;
-                moves = omega arith;
-                steps = omega arith;
-              }
+            same : after (opsOf (quadBy (wordsBy (bare S))) ds) ≡ after (ops (works k))
+            same =
+                ap (λ (x : List ℕ). after (opsOf (quadBy (wordsBy (bare S))) (deeds x e d))) ks-are
+                ∙ due-same m (sane .once) (world S) e w ss told (g .within) run-inside due-around h v (sane .reached) ∙ ap after (deeds-ops means)
 
-          pub run-ready : Begun (length xs) ds (indexAt ls ss q v h xs)
-          run-ready = ([], subst (λ (x : List Deed). Ready (length xs) x (indexAt ls ss q v h xs)) (sym (append-nil ds)) ready)
+            fits-deeds : highest h (opsOf (quadBy (wordsBy (bare S))) ds) m ≤ room
+            fits-deeds = let e = ap (λ (x : ℕ × ℕ × List Quad). x .0) same in let t = highest-needed (works k) h m (sane .reached) in let b = sane .within in omega arith
 
-          abbrev done : Index
-          done = indexRun ds (indexAt ls ss q v h xs)
+            index : indexAt ls ss q v h xs ≡ bookOf (faces S) h m ls₀ v (stepsIn 0 xs)
+            index = let a = r .holds .links in let b = r .holds .slots in let c = r .holds .count in λ i. record { links = a i; slots = b i; quads = c i; moved = v; top = h; steps = stepsIn 0 xs }
 
-          abbrev steps : List Step
-          steps = stepsOf (quadBy (wordsBy (bare S))) ds m
+            ready : Ready (length xs) ds (indexAt ls ss q v h xs)
+            unfolding each
+            ready =
+                let few = g .few in
+                let mv = r .moves in
+                let a = all-few ks e d in
+                record {
+                  ground = ground;
+                  top = h;
+                  mesh = m;
+                  sane = sane;
+                  is = index;
+                  good = good;
+                  fits = fits-deeds;
+                  moves = omega arith;
+                  steps = omega arith;
+                }
 
-          ran : done ≡ bookOf (faces S) (highest h (ops (works k)) m) (run (ops (works k)) m) ls₀ (v + moves (ops (works k)) m) steps
-          unfolding each
-          ran =
-              ap (indexRun ds) index
-              ∙ run-booked ground ds m h v [] good sane fits-deeds
-              ∙ (λ i. bookOf (faces S) (highest h (as-ops i) m) (run (as-ops i) m) ls₀ (v + moves (as-ops i) m) steps)
+            pub run-ready : Begun (length xs) ds (indexAt ls ss q v h xs)
+            run-ready = ([], subst (λ (x : List Deed). Ready (length xs) x (indexAt ls ss q v h xs)) (sym (append-nil ds)) ready)
 
-          steps-are : done .steps ≡ steps
-          steps-are = ap (λ (I : Index). I .steps) ran
+            abbrev done : Index
+            done = indexRun ds (indexAt ls ss q v h xs)
 
-          pub run-few : 2 * length (done .steps) ≤ length xs
-          run-few = let z = ready-rest ds (run-ready .0) _ (run-ready .1) .steps in omega arith
+            abbrev steps : List Step
+            steps = stepsOf (quadBy (wordsBy (bare S))) ds m
 
-          replayed-now : Can (Drawn (bare S)) room steps (length m) × (replayed (span S) (wordsBy (bare S)) steps (shelf (laid (span S) (λ q x. x .words) h m vs₀) (length m))
-              ≡ shelf (laid (span S) (λ q x. x .words) (highest h (opsOf (quadBy (wordsBy (bare S))) ds) m) (run (opsOf (quadBy (wordsBy (bare S))) ds) m) vs₀) (length (run (opsOf (quadBy (wordsBy (bare S))) ds) m)))
-          replayed-now =
-              replay-run (span S) (λ x. x .words) (wordsBy (bare S)) (Drawn (bare S)) (λ n t d. words-sized S t (n % 6) (n / 6)) room vs₀ (g .rows) ds m h
-              (all-kept (λ x f i. f .1) m (sane .fits)) able (sane .reached) fits-deeds
+            ran : done ≡ bookOf (faces S) (highest h (ops (works k)) m) (run (ops (works k)) m) ls₀ (v + moves (ops (works k)) m) steps
+            unfolding each
+            ran =
+                ap (indexRun ds) index
+                ∙ run-booked ground ds m h v [] good sane fits-deeds
+                ∙ ap (λ (x : ℕ × ℕ × List Quad). bookOf (faces S) (x .0) (x .2) ls₀ (x .1) steps) same
 
-          pub run-replaying : length vs ≡ length vs₀ → Replaying (bare S) (done .steps) (shelf vs q)
-          run-replaying kept =
-              let c = r .holds .count in
-              let l = sane .reached in
-              let b = sane .within in
-              let y = g .rows in
-              record {
-                room = room;
-                within = g .within;
-                fits = omega arith;
-                here = omega arith;
-                can = subst (Can (Drawn (bare S)) room (done .steps)) (sym c)
-                    (subst (λ (ys : List Step). Can (Drawn (bare S)) room ys (length m)) (sym steps-are) (replayed-now .0));
-              }
+            steps-are : done .steps ≡ steps
+            steps-are = ap (λ (I : Index). I .steps) ran
 
-          -- what the entry leaves
-          pub run-on : {vs′ : List ℕ} {c : ℕ} {ls′ ss′ : List ℕ} {q′ v′ h′ : ℕ} {ys : List Step}
-              → record { links = ls′; slots = ss′; quads = q′; moved = v′; top = h′; steps = ys } ≡ done
-              → shelf vs′ c ≡ replayed (span S) (wordsBy (bare S)) (done .steps) (shelf vs q)
-              → Running tested S room log vs₀ ls₀ Q (k + 1) h′ vs′ ls′ ss′ q′ v′
-          run-on {vs′} i s =
-              let after : List Quad = run (ops (works k)) m in
-              let rows = s
-              ∙ (λ j. replayed (span S) (wordsBy (bare S)) (steps-are j) (shelf (r .holds .vertices j) (r .holds .count j)))
-              ∙ replayed-now .1
-              ∙ (λ j. shelf (laid (span S) (λ q x. x .words) (highest h (as-ops j) m) (run (as-ops j) m) vs₀) (length (run (as-ops j) m))) in
-              let few = entry-moves tested (world S) (entryAt log k) m in
-              let old = r .moves in
-              subst (λ (I : Index). Running tested S room log vs₀ ls₀ Q (k + 1) (I .top) vs′ (I .links) (I .slots) (I .quads) (I .moved)) (sym (i ∙ ran))
-              (record {
-                mesh = after;
-                below = omega arith;
-                left = sym (course-on fit) ∙ r .left;
-                holds = record {
-                  sane = sane-step (faces S) (span S) room (works k) m h sane fits fit;
-                  count = refl;
-                  vertices = ap (λ (x : Shelf). x .words) rows;
-                  links = refl;
-                  slots = refl;
-                };
-                moves = omega arith;
-              })
+            pub run-few : 2 * length (done .steps) ≤ length xs
+            run-few = let z = ready-rest ds (run-ready .0) _ (run-ready .1) .steps in omega arith
+
+            replayed-now : Can (Drawn (bare S)) room steps (length m) × (replayed (span S) (wordsBy (bare S)) steps (shelf (laid (span S) (λ q x. x .words) h m vs₀) (length m))
+                ≡ shelf (laid (span S) (λ q x. x .words) (highest h (opsOf (quadBy (wordsBy (bare S))) ds) m) (run (opsOf (quadBy (wordsBy (bare S))) ds) m) vs₀) (length (run (opsOf (quadBy (wordsBy (bare S))) ds) m)))
+            replayed-now =
+                replay-run (span S) (λ x. x .words) (wordsBy (bare S)) (Drawn (bare S)) (λ n t d. words-sized S t (n % 6) (n / 6)) room vs₀ (g .rows) ds m h
+                (all-kept (λ x f i. f .1) m (sane .fits)) able (sane .reached) fits-deeds
+
+            pub run-replaying : length vs ≡ length vs₀ → Replaying (bare S) (done .steps) (shelf vs q)
+            run-replaying kept =
+                let c = r .holds .count in
+                let l = sane .reached in
+                let b = sane .within in
+                let y = g .rows in
+                record {
+                  room = room;
+                  within = g .within;
+                  fits = omega arith;
+                  here = omega arith;
+                  can = subst (Can (Drawn (bare S)) room (done .steps)) (sym c)
+                      (subst (λ (ys : List Step). Can (Drawn (bare S)) room ys (length m)) (sym steps-are) (replayed-now .0));
+                }
+
+            -- what the entry leaves
+            pub run-on : {vs′ : List ℕ} {c : ℕ} {ls′ ss′ : List ℕ} {q′ v′ h′ : ℕ} {ys : List Step}
+                → record { links = ls′; slots = ss′; quads = q′; moved = v′; top = h′; steps = ys } ≡ done
+                → shelf vs′ c ≡ replayed (span S) (wordsBy (bare S)) (done .steps) (shelf vs q)
+                → Running tested S room log vs₀ ls₀ Q (k + 1) h′ vs′ ls′ ss′ q′ v′
+            run-on {vs′} i s =
+                let after : List Quad = run (ops (works k)) m in
+                let rows = s
+                ∙ (λ j. replayed (span S) (wordsBy (bare S)) (steps-are j) (shelf (r .holds .vertices j) (r .holds .count j)))
+                ∙ replayed-now .1
+                ∙ ap (λ (x : ℕ × ℕ × List Quad). shelf (laid (span S) (λ q x. x .words) (x .0) (x .2) vs₀) (length (x .2))) same in
+                let few = entry-moves tested (world S) (entryAt log k) m in
+                let old = r .moves in
+                subst (λ (I : Index). Running tested S room log vs₀ ls₀ Q (k + 1) (I .top) vs′ (I .links) (I .slots) (I .quads) (I .moved)) (sym (i ∙ ran))
+                (record {
+                  mesh = after;
+                  below = omega arith;
+                  left = sym (course-on fit) ∙ r .left;
+                  holds = record {
+                    sane = sane-step (faces S) (span S) room (works k) m h sane fits fit;
+                    count = refl;
+                    vertices = ap (λ (x : Shelf). x .words) rows;
+                    links = refl;
+                    slots = refl;
+                  };
+                  moves = omega arith;
+                })
 
       -- ---- an entry that finds none
       pub run-full : room < needed (works k) m → record { full = some k; quads = m; moved = v; highest = h } ≡ courseIn tested S room log vs₀ ls₀ Q

@@ -8,6 +8,7 @@ use entries::Entry;
 use entries::first_bad_entry;
 use entries::read_entry;
 use indexing::Tally;
+use indexing::due_work;
 use indexing::has_room;
 use indexing::index_work;
 use lent::lent_verdict;
@@ -88,7 +89,8 @@ fn run_log(
         let entry = read_entry(log, k);
         let work = work_of(kinds, covers, tested, entry);
         let keys = keys_around(scene.dims, inverse, entry.cell);
-        if !has_room(slots, &keys, work, quads, task.room) {
+        let due = due_work(slots, &keys, entry.cell, work);
+        if !has_room(due, quads, task.room) {
             return Ran {
                 end: End::Full(k),
                 count: Count {
@@ -104,7 +106,7 @@ fn run_log(
             &mut steps,
             &keys,
             entry,
-            work,
+            due,
             Tally {
                 quads: quads,
                 moved: moved,

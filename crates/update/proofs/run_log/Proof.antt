@@ -15,7 +15,7 @@ use Rattle.steps.specs.Steps.{Step, shelf, stepAt, replayed}
 use Rattle.steps.specs.Rows.{wordsBy, Replaying}
 use Rattle.indexing.specs.Index.{Index}
 use Rattle.update.proofs.Drawing.{bare}
-use Rattle.update.proofs.Running.{Running, run-start, run-inside, run-sets, run-gridded, run-small, run-needed, run-ready, run-few, run-replaying, run-on, run-full, run-through, run-ended}
+use Rattle.update.proofs.Running.{Running, run-start, run-inside, run-sets, run-gridded, run-small, run-room, run-ready, run-few, run-replaying, run-on, run-full, run-through, run-ended}
 use borrow.Author.Needs.{needs}
 use Rattle.update.proofs.run_log.Statement.{statement}
 use Rattle.update.proofs.run_log.Tie as tie
@@ -45,14 +45,17 @@ looped c = c .before .before .before
 abbrev works : tie.After-keys-around Inv-loop μ-loop → Work
 works c = let t = begun (looped c) in work (side t) (world (scene-of t)) (entryAt (t .args .log .now) (looped c .before .loop .k))
 
+abbrev keyed : tie.After-due-work Inv-loop μ-loop → tie.After-keys-around Inv-loop μ-loop
+keyed c = c .before .before .before
+
 -- what it needs, as the rule has it
-asked : (c : tie.After-has-room Inv-loop μ-loop) → let b = c .before .before .before in c .has-room .result ≡ leb (needed (works b) (looped b .before .loop .inv .0 .mesh)) (begun (looped b) .args .task .room)
+asked : (c : tie.After-has-room Inv-loop μ-loop) → let b = keyed (c .before) in c .has-room .result ≡ leb (needed (works b) (looped b .before .loop .inv .0 .mesh)) (begun (looped b) .args .task .room)
 asked c =
-    let b = c .before .before .before in
+    let b = keyed (c .before) in
     let i = looped b in
     let t = begun i in
     c .has-room .ensures
-    ∙ ap (λ (n : ℕ). leb n (t .args .task .room)) (run-needed (side t) (t .pre) (i .before .loop .inv .0) (i .loop-test .taken) (b .before .before .read-entry .ensures) (b .before .work-of .ensures) (b .keys-around .ensures))
+    ∙ run-room (side t) (t .pre) (i .before .loop .inv .0) (i .loop-test .taken) (b .before .before .read-entry .ensures) (b .before .work-of .ensures) (b .keys-around .ensures) (c .before .due-work .ensures)
 
 inverted-requires : tie.Need-inverted-requires Inv-loop μ-loop
 inverted-requires c κs = c .before .before .before .before .before .before .before .before .pre .within .sides
@@ -69,84 +72,89 @@ keys-around-requires c κs =
     let t = begun i in
     (t .pre .within, run-inside (side t) (t .pre) (i .before .loop .inv .0) (i .loop-test .taken) (c .before .read-entry .ensures), i .before .before .inverted .ensures)
 
-has-room-requires : tie.Need-has-room-requires Inv-loop μ-loop
-has-room-requires c κs =
+due-work-requires : tie.Need-due-work-requires Inv-loop μ-loop
+due-work-requires c κs =
     let b = c .before .before in
     let i = looped b in
     let t = begun i in
     let r = i .before .loop .inv .0 in
-    (run-gridded (side t) (t .pre) r (i .loop-test .taken) (b .before .before .read-entry .ensures) (b .before .work-of .ensures) (b .keys-around .ensures), run-small (side t) (t .pre) r)
+    let lt = i .loop-test .taken in
+    let at = b .before .before .read-entry .ensures in
+    (run-gridded (side t) (t .pre) r lt at (b .before .work-of .ensures) (b .keys-around .ensures), run-sets (side t) (t .pre) r lt at (b .before .work-of .ensures) (b .keys-around .ensures))
+
+has-room-requires : tie.Need-has-room-requires Inv-loop μ-loop
+has-room-requires c κs = let i = looped (keyed c) in (c .due-work .ensures .few, run-small (side (begun i)) (begun i .pre) (i .before .loop .inv .0))
 
 returns : tie.Need-returns Inv-loop μ-loop
 returns c =
     let found = c .before in
-    let b = found .before .before .before in
+    let b = keyed (found .before) in
     let i = looped b in
     let t = begun i in
     let r = i .before .loop .inv .0 in
     let over = leb-false (needed (works b) (r .mesh)) (t .args .task .room) (sym (asked found) ∙ not-false _ (c .if1 .taken)) in
     run-ended (side t) (t .pre) r (run-full (side t) (t .pre) r (i .loop-test .taken) (b .before .before .read-entry .ensures) (omega arith))
 
-fits : (c : tie.Else1 Inv-loop μ-loop) → let b = c .before .before .before .before in needed (works b) (looped b .before .loop .inv .0 .mesh) ≤ begun (looped b) .args .task .room
+fits : (c : tie.Else1 Inv-loop μ-loop) → let b = keyed (c .before .before) in needed (works b) (looped b .before .loop .inv .0 .mesh) ≤ begun (looped b) .args .task .room
 fits c = leb-true _ _ (sym (asked (c .before)) ∙ not-true _ (c .if1 .left))
 
 slice-aggregate-index-work : tie.Need-slice-aggregate-index-work Inv-loop μ-loop
-slice-aggregate-index-work c = sym (looped (c .before .before .before .before .before .before .before) .before .loop .inv .4)
+slice-aggregate-index-work c = sym (looped (keyed (c .before .before .before .before .before)) .before .loop .inv .4)
 
 index-work-requires : tie.Need-index-work-requires Inv-loop μ-loop
 index-work-requires c κs =
     let test = c .before .before .before .before in
-    let b = test .before .before .before .before in
+    let b = keyed (test .before .before) in
     let i = looped b in
     let t = begun i in
     let l = i .before .loop in
     let lt = i .loop-test .taken in
     let at = b .before .before .read-entry .ensures in
-    (run-sets (side t) (t .pre) (l .inv .0) lt at (b .before .work-of .ensures) (b .keys-around .ensures), run-ready (side t) (t .pre) (l .inv .0) lt at (b .before .work-of .ensures) (b .keys-around .ensures) (fits test) (l .steps) (l .inv .4))
+    (test .before .before .due-work .ensures .few, run-ready (side t) (t .pre) (l .inv .0) lt at (b .before .work-of .ensures) (b .keys-around .ensures) (test .before .before .due-work .ensures) (fits test) (l .steps) (l .inv .4))
 
 slice-aggregate-replay : tie.Need-slice-aggregate-replay Inv-loop μ-loop
 slice-aggregate-replay c =
     let went = c .before .before .before .before .before .before .before in
-    sym (went .index-work .kept .1 .1 .0 ∙ looped (went .before .before .before .before .before .before .before .before .before) .before .loop .inv .4)
+    sym (went .index-work .kept .1 .1 .0 ∙ looped (keyed (went .before .before .before .before .before .before .before)) .before .loop .inv .4)
 
 replay-requires : tie.Need-replay-requires Inv-loop μ-loop
 replay-requires c κs =
     let went = c .before .before .before .before .before .before .before in
     let test = went .before .before .before .before .before in
-    let b = test .before .before .before .before in
+    let b = keyed (test .before .before) in
     let i = looped b in
     let t = begun i in
     let l = i .before .loop in
     let lt = i .loop-test .taken in
     let at = b .before .before .read-entry .ensures in
     let is = ap (λ (I : Index). I .steps) (went .index-work .ensures) in
-    let few = run-few (side t) (t .pre) (l .inv .0) lt at (b .before .work-of .ensures) (b .keys-around .ensures) (fits test) (l .steps) (l .inv .4) in
+    let few = run-few (side t) (t .pre) (l .inv .0) lt at (b .before .work-of .ensures) (b .keys-around .ensures) (test .before .before .due-work .ensures) (fits test) (l .steps) (l .inv .4) in
     let n = length-table (stepAt (went .index-work .last .1 .1 .0)) (went .index-work .result .steps) in
     let long = went .index-work .kept .1 .1 .0 in (
       omega (arith, ap length is, n, few, long),
       subst (λ (xs : List Step). Replaying (bare (scene-of t)) xs (shelf (l .vertices) (l .quads))) (sym is)
-          (run-replaying (side t) (t .pre) (l .inv .0) lt at (b .before .work-of .ensures) (b .keys-around .ensures) (fits test) (l .steps) (l .inv .4) (l .inv .1)),
+          (run-replaying (side t) (t .pre) (l .inv .0) lt at (b .before .work-of .ensures) (b .keys-around .ensures) (test .before .before .due-work .ensures) (fits test) (l .steps) (l .inv .4) (l .inv .1)),
       i .before .before .inverted .ensures,
     )
 
 add-k : tie.Need-add-k Inv-loop μ-loop
-add-k c = let i = looped (c .before .before .before .before .before .before .before .before .before .before .before .before .before .before .before .before .before .before .before) in let h = i .loop-test .taken in omega (arith, begun i .pre .few)
+add-k c = let i = looped (keyed (c .before .before .before .before .before .before .before .before .before .before .before .before .before .before .before .before .before)) in let h = i .loop-test .taken in omega (arith, begun i .pre .few)
 
 loop-less : tie.Need-loop-less Inv-loop μ-loop
-loop-less c = let i = looped (c .before .before .before .before .before .before .before .before .before .before .before .before .before .before .before .before .before .before .before) in let h = i .loop-test .taken in omega arith
+loop-less c = let i = looped (keyed (c .before .before .before .before .before .before .before .before .before .before .before .before .before .before .before .before .before)) in let h = i .loop-test .taken in omega arith
 
 loop-again : tie.Need-loop-again Inv-loop μ-loop
 loop-again c =
     let drew = c .before .before in
     let went = drew .before .before .before .before .before .before .before .before in
     let test = went .before .before .before .before .before in
-    let b = test .before .before .before .before in
+    let b = keyed (test .before .before) in
     let i = looped b in
     let t = begun i in
     let l = i .before .loop in
     let S = bare (scene-of t) in
     let is = ap (λ (I : Index). I .steps) (went .index-work .ensures) in (
-      run-on (side t) (t .pre) (l .inv .0) (i .loop-test .taken) (b .before .before .read-entry .ensures) (b .before .work-of .ensures) (b .keys-around .ensures) (fits test) (l .steps) (l .inv .4)
+      run-on (side t) (t .pre) (l .inv .0) (i .loop-test .taken) (b .before .before .read-entry .ensures) (b .before .work-of .ensures) (b .keys-around .ensures) (test .before .before .due-work .ensures) (fits test) (l .steps) (l .inv .4)
           (went .index-work .ensures)
           (drew .replay .ensures ∙ ap (λ (xs : List Step). replayed (span S) (wordsBy S) xs (shelf (l .vertices) (l .quads))) is),
       drew .replay .kept .0 ∙ l .inv .1,
@@ -164,7 +172,7 @@ returns-2 c =
 pub run-log-spec : {M : Type 1} → statement M
 run-log-spec =
     tie.close
-    (tie.spec Inv-loop μ-loop inverted-requires loop-holds read-entry-requires (λ c κs. search needs) keys-around-requires has-room-requires
-    (λ c. looped (c .before .before .before .before) .before .loop .inv .1) (λ c. looped (c .before .before .before .before) .before .loop .inv .2)
-    (λ c. looped (c .before .before .before .before) .before .loop .inv .3) returns slice-aggregate-index-work index-work-requires slice-aggregate-replay replay-requires
+    (tie.spec Inv-loop μ-loop inverted-requires loop-holds read-entry-requires (λ c κs. search needs) keys-around-requires due-work-requires has-room-requires
+    (λ c. looped (keyed (c .before .before)) .before .loop .inv .1) (λ c. looped (keyed (c .before .before)) .before .loop .inv .2)
+    (λ c. looped (keyed (c .before .before)) .before .loop .inv .3) returns slice-aggregate-index-work index-work-requires slice-aggregate-replay replay-requires
     add-k loop-less loop-again (λ c. c .before .loop .inv .1) (λ c. c .before .loop .inv .2) (λ c. c .before .loop .inv .3) returns-2)

@@ -1,0 +1,28 @@
+-- `indexing::bare_sides` meets its contract: side by side. Assumes nothing.
+use mathlib.Core.Path.{_∙_}
+use mathlib.Core.Bool.{cond}
+use Prim.Native.Nat.{_+_}
+use native.Mathlib.Omega.{arith}
+use borrow.Author.Needs.{needs}
+use Rattle.indexing.proofs.bare_sides.Statement.{statement}
+use Rattle.indexing.proofs.bare_sides.Tie as tie
+
+returns : tie.Need-returns
+returns c =
+    let f = c .before in
+    let e = f .before .before in
+    let d = e .before .before in
+    let b = d .before .before in
+    let a = b .before .before in
+    let z = a .before .before in
+    c .side-set .ensures
+    ∙ (λ i. cond (z .is-bare .ensures i) 1 0 + cond (a .is-bare2 .ensures i) 2 0 + cond (b .is-bare3 .ensures i) 4 0 + cond (d .is-bare4 .ensures i) 8 0 + cond (e .is-bare5 .ensures i) 16 0 + cond (f .is-bare6 .ensures i) 32 0)
+
+pub bare-sides-spec : {M : Type 1} → statement M
+bare-sides-spec =
+    tie.close
+    (tie.spec (λ c. search needs) (λ c κs. c .before .before .pre 0 (omega arith)) (λ c. search needs) (λ c κs. c .before .before .before .before .pre 1 (omega arith))
+    (λ c. search needs) (λ c κs. c .before .before .before .before .before .before .pre 2 (omega arith))
+    (λ c. search needs) (λ c κs. c .before .before .before .before .before .before .before .before .pre 3 (omega arith))
+    (λ c. search needs) (λ c κs. c .before .before .before .before .before .before .before .before .before .before .pre 4 (omega arith))
+    (λ c. search needs) (λ c κs. c .before .before .before .before .before .before .before .before .before .before .before .before .pre 5 (omega arith)) (λ c κs. search needs) returns)
