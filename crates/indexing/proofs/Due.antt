@@ -23,7 +23,7 @@ use Rattle.works.specs.Sets.{setIn, keysAround, spot, spotIn, cutting, typeAt, 
 use Rattle.works.proofs.Works.{own-spot, spot-all}
 use Rattle.works.proofs.Meant.{partOps, Means, own-cut, needed-parts}
 use Rattle.indexing.specs.Due.{isEmpty, isEmptyAt, Due, fitsIn}
-use Rattle.indexing.proofs.Sets.{few-deeds, on-spots, spots-inside}
+use Rattle.indexing.proofs.Sets.{few-deeds, on-spots}
 
 -- ---- g i, g (i + 1), .., n of them, summed
 unfoldable total : ℕ → ℕ → (ℕ → ℕ) → ℕ

@@ -15,6 +15,7 @@ use Rattle.rules.specs.Cells.{firstVertex}
 use Rattle.rules.specs.Mesh.{Quad, at, there, placeOf, NONE, slotOf}
 use Rattle.rules.specs.Update.{blank, shifts, removeAt}
 use Rattle.rules.proofs.ListLaws.{All, all-at, split, length-table, getD-table, table-is, all-kept}
+use Rattle.rules.proofs.Index.{count-le}
 use Rattle.rules.proofs.Quads.{Once, placed, absent, at-append, at-removeAt, length-removeAt}
 use Rattle.rules.proofs.Laying.{Fits, keyAt, is-there, distinct-of-once, place-is}
 use Rattle.rules.proofs.Index.{isFull, Named, no-other}
@@ -210,11 +211,6 @@ module _ (m : List Quad) (o : Once m) where
             (getD-set-other (table n (slotOf m)) (x .key) k (firstVertex (length m)) 0 d ∙ getD-table (slotOf m) n k 0 l)
 
 -- ---- how many quads there are
-
-count-le : (n : ℕ) (p : ℕ → Bool) → count n p ≤ n
-unfolding count
-count-le zero p = omega arith
-count-le (suc n) p = split (λ t. count n p + cond t 1 0 ≤ suc n) (p n) (λ e. omega (arith, count-le n p)) (λ e. omega (arith, count-le n p))
 
 -- LAW: no more quads than faces
 pub few : (n : ℕ) (m : List Quad) → Once m → All (λ x. x .key < n) m → length m ≤ n

@@ -4,10 +4,10 @@ use mathlib.Core.Logic.{inl, inr}
 use mathlib.Core.Bool.{Bool, true, false, false≢true, cond, not, _&&_, _||_}
 use mathlib.Core.List.{List}
 use mathlib.Core.Option.{Option, none, some}
-use Prim.Native.Nat.{ℕ, zero, suc, _+_, _-_, _*_, _/_, _%_, _^_, _≤_, _<_}
+use Prim.Native.Nat.{ℕ, zero, suc, _+_, _-_, _*_, _≤_, _<_}
 use native.Mathlib.Omega.{arith}
-use lib.Bits.{bitAnd, bitOr, and-shr, or-shr, and-mod, or-mod, and-lt, or-lt}
-use lib.Dec.{eqb, ltb, leb, eqb→eq}
+use lib.Bits.{bitAnd, bitOr, and-lt, or-lt}
+use lib.Dec.{eqb, ltb, leb}
 use lib.ListN.{length, getD, set, length-set}
 use mir.Val.{boolByte}
 use lib.Seq.{getD-set-same, getD-set-other}
@@ -17,7 +17,6 @@ use Rattle.rules.specs.Lists.{every, member}
 use Rattle.rules.specs.Cells.{Size, Triple, cells, coordinates, opposite, onlyIf, neighbour, has, setOf}
 use Rattle.rules.specs.Mesh.{typeAt, shown, drawn}
 use Rattle.rules.proofs.ListLaws.{within}
-use Rattle.rules.proofs.Searches.{every-at}
 use Rattle.rules.proofs.Sets.{setOf-lt, set-is, has-setOf, has-and, has-or, has-others}
 use Rattle.rules.proofs.Neighbours.{beside}
 use Rattle.util.specs.Grid.{sizeOf, cordsOf, Within, Starts}

@@ -1,5 +1,5 @@
 -- `indexing::due_work` meets its contract: face by face. Assumes nothing.
-use mathlib.Core.Path.{_≡_, sym, ap, _∙_}
+use mathlib.Core.Path.{_≡_, ap, _∙_}
 use mathlib.Core.Bool.{Bool, not, _&&_, _||_}
 use mathlib.Core.List.{List}
 use Prim.Native.Nat.{ℕ, zero, suc, _-_, _<_}
@@ -10,7 +10,6 @@ use Rattle.rules.proofs.Sets.{setOf-lt, has-setOf, has-and, has-or, has-others}
 use Rattle.works.specs.declared.Work.{Work}
 use Rattle.works.specs.Sets.{setIn, spotIn}
 use Rattle.indexing.specs.Due.{isEmpty, isEmptyAt, Due}
-use borrow.Author.Needs.{needs}
 use Rattle.indexing.proofs.due_work.Statement.{statement}
 use Rattle.indexing.proofs.due_work.Tie as tie
 

@@ -1,5 +1,4 @@
 -- `indexing::empty_sides` meets its contract: side by side. Assumes nothing.
-use native.Mathlib.Omega.{arith}
 use borrow.Author.Needs.{needs}
 use Rattle.indexing.proofs.empty_sides.Statement.{statement}
 use Rattle.indexing.proofs.empty_sides.Tie as tie
