@@ -10,15 +10,14 @@ use lib.ListN.{length, getD, set, take, drop, replicate, length-map, length-set,
 use lib.Seq.{getD-take, getD-drop, getD-append-add, getD-set-same, getD-set-other, length-take-le}
 use lib.Dec.{eqb}
 use borrow.Author.Tests.{le-leb, lt-leb, le-ltb, lt-ltb, eq-eqb, ne-eqb, leb-false, eqb-true}
-use Rattle.rules.specs.Lists.{table, only, isNil, count}
+use Rattle.rules.specs.Lists.{table, only, isNil}
 use Rattle.rules.specs.Cells.{firstVertex}
 use Rattle.rules.specs.Mesh.{Quad, at, there, placeOf, NONE, slotOf}
 use Rattle.rules.specs.Update.{blank, shifts, removeAt}
 use Rattle.rules.proofs.ListLaws.{All, all-at, split, length-table, getD-table, table-is, all-kept}
-use Rattle.rules.proofs.Index.{count-le}
 use Rattle.rules.proofs.Quads.{Once, placed, absent, at-append, at-removeAt, length-removeAt}
 use Rattle.rules.proofs.Laying.{Fits, keyAt, is-there, distinct-of-once, place-is}
-use Rattle.rules.proofs.Index.{isFull, Named, no-other}
+use Rattle.rules.proofs.Index.{isFull, Named, no-other, count-le}
 use Rattle.vav.specs.Rows.{sourceOf}
 use Rattle.vav.proofs.Laws.{source-bounds}
 use Rattle.mesh_metadata.specs.Index.{shifted, renum}
