@@ -15,17 +15,16 @@ use Rattle.rules.specs.Cells.{onlyIf}
 use Rattle.rules.specs.Mesh.{Quad, NONE, there, placeOf, slotOf, listsOf}
 use Rattle.rules.specs.Update.{step, movedIn}
 use Rattle.rules.proofs.ListLaws.{within, split, length-table, each-same, each-split}
-use Rattle.rules.proofs.Quads.{moved-le}
+use Rattle.rules.proofs.Quads.{placed, moved-le}
 use Rattle.rules.proofs.Laying.{length-links}
 use Rattle.mesh_metadata.specs.Index.{Linked, vertexOf}
 use Rattle.mesh_metadata.proofs.Layouts as layouts
-use Rattle.steps.specs.Steps.{Step, gone, came, CUT, stepIn, stepAt, stepsIn, Deed, show, hide, quadBy, opOf, opsOf, stepsOf}
+use Rattle.steps.specs.Steps.{Step, gone, came, CUT, stepIn, stepAt, stepsIn, Deed, show, hide, quadBy, opOf, opsOf, stepOf}
 use Rattle.steps.proofs.Replaying.{highest-ge}
 use Rattle.steps.proofs.Turning.{Piecewise}
-use Rattle.works.specs.Sets.{spot, deedBy}
 use Rattle.indexing.specs.declared.Tally.{Tally}
 use Rattle.indexing.specs.Index.{Index, indexOf, slotIn, goneAt, cameAt, indexOne, indexRun, bookOf, Good, Ready, Begun, Removable, Drawable}
-use Rattle.indexing.proofs.Booking.{sane-one, one-booked}
+use Rattle.indexing.proofs.Booking.{there-inside, slot-place, sane-one, one-booked}
 
 pub same-index : {l l′ s s′ : List ℕ} {q q′ v v′ h h′ : ℕ} {x x′ : List Step} → l ≡ l′ → s ≡ s′ → q ≡ q′ → v ≡ v′ → h ≡ h′ → x ≡ x′
     → _≡_ {A = Index} (record { links = l; slots = s; quads = q; moved = v; top = h; steps = x }) (record { links = l′; slots = s′; quads = q′; moved = v′; top = h′; steps = x′ })
@@ -78,9 +77,6 @@ module _ {space : ℕ} {ds : List Deed} {B : Index} (r : Ready space ds B) where
       subst (λ (I : Index). Linked (I .quads) (I .links) (I .slots)) (sym (r .is))
       (layouts.linked (r .ground .faces) (r .ground .span) (r .top) (r .mesh) (listsOf [] [] (r .ground .old) []) (r .sane .fits) (r .ground .small) (r .sane .once) (r .sane .reached) (omega arith))
 
-  pub inside : (k : ℕ) → k < r .ground .faces → k < length (B .slots)
-  inside k l = let z = long-slots in omega arith
-
 pub space-left : {space : ℕ} {d : Deed} {ds : List Deed} {links slots : List ℕ} (xs : List ℕ) (t : Tally) → Ready space (d ∷ ds) (indexOf links slots xs t) → 2 * t .steps + 2 ≤ space
 space-left xs t r = let n = length-table (stepAt xs) (t .steps) in let s = r .steps in omega arith
 
@@ -91,40 +87,21 @@ none-told w = split (λ b. onlyIf (not b) w ≡ none → b ≡ true) (eqb w NONE
 pub some-told : (w v : ℕ) → vertexOf w ≡ some v → (eqb w NONE ≡ false) × (w ≡ v)
 some-told w v = split (λ b. onlyIf (not b) w ≡ some v → (b ≡ false) × (w ≡ v)) (eqb w NONE) (λ t r. absurd (let z : _≡_ {A = ℕ} 0 1 = cc in omega arith)) (λ t r. (refl, cc))
 
-pub key-good : (cuts : Bool) (t k : ℕ) (words : ℕ → ℕ → List ℕ) (n s : ℕ) → Good words n s (deedBy cuts t k) → k < n
-key-good true t k words n s g = g
-key-good false t k words n s g = g .0
+pub slotted : {space k : ℕ} {ds : List Deed} {B : Index} → Ready space (hide k ∷ ds) B → k < length (B .slots)
+slotted {k = k} r = let b = there-inside (r .ground) (r .mesh) (r .top) (r .sane) k (r .acts .0) in let z = long-slots r in omega arith
 
-module _ (k : ℕ) (B : Index) {b : Bool} (e : eqb (slotIn B k) NONE ≡ b) where
-  pub shown : (t : ℕ) → cond b (cameAt k t B) B ≡ indexOne (show k t) B
-  unfolding indexOne
-  shown t = rw e
-
-  pub hidden : cond b B (goneAt (slotIn B k / 4) B) ≡ indexOne (hide k) B
-  unfolding indexOne
-  hidden = rw e
-
-pub removable : {space k : ℕ} {ds : List Deed} {B : Index} → Ready space (hide k ∷ ds) B → eqb (slotIn B k) NONE ≡ false → Removable (slotIn B k / 4) B
-removable {k = k} {B = B} r d =
+pub removable : {space k : ℕ} {ds : List Deed} {B : Index} → Ready space (hide k ∷ ds) B → Removable (slotIn B k / 4) B
+removable {k = k} {B = B} r =
     let l = linked r in
-    let b = r .good .0 in
-    let z = long-slots r in
-    let e = within (B .slots) k NONE 0 (omega arith) in
     let m = r .moves in
-    record {
-      within = ⊎-elim (λ n. absurd (eqb-false (slotIn B k) NONE d (e ∙ n))) (λ x. let i = x .1 in let j = x .2 in omega arith) (l .back k (omega arith));
-      linked = l;
-      moves = omega arith;
-    }
+    let b = there-inside (r .ground) (r .mesh) (r .top) (r .sane) k (r .acts .0) in
+    let s = ap (λ (I : Index). slotIn I k / 4) (r .is) ∙ slot-place (r .ground) (r .mesh) (r .top) (r .sane) k b (r .acts .0) in
+    let p = placed k (r .mesh) (r .acts .0) .within in
+    record { within = omega (arith, s, quads-are r); linked = l; moves = omega arith }
 
 moved-few : (words : ℕ → ℕ → List ℕ) (d : Deed) (m : List Quad) → movedIn (opOf (quadBy words) d) m ≤ 5
 moved-few words (show k t) m = omega arith
 moved-few words (hide k) m = moved-le k m
-
--- a deed takes a step or none
-one-step : (words : ℕ → ℕ → List ℕ) (d : Deed) (m : List Quad) → length (stepsOf (quadBy words) (d ∷ []) m) ≤ 1
-one-step words (show k t) m = split (λ b. length (only b (came k t) ++ []) ≤ 1) (not (there k m)) (λ _. omega arith) (λ _. omega arith)
-one-step words (hide k) m = split (λ b. length (only b (gone (placeOf k m)) ++ []) ≤ 1) (there k m) (λ _. omega arith) (λ _. omega arith)
 
 -- LAW: what is left can be done after the first
 pub ready-step : {space : ℕ} {d : Deed} {ds : List Deed} {B : Index} → Ready space (d ∷ ds) B → Ready space ds (indexOne d B)
@@ -136,31 +113,30 @@ ready-step {d = d} {ds} {B} r =
     let a = highest-ge (opsOf (quadBy (r .ground .words)) ds) h (step o m) in
     let fit : length (step o m) ≤ r .ground .room = omega arith in
     let e = ap (indexOne d) (r .is)
-    ∙ one-booked (r .ground) d (r .good .0) m (r .top) (B .moved) (B .steps) (r .sane) fit in
+    ∙ one-booked (r .ground) d m (r .top) (B .moved) (B .steps) (r .good .0) (r .acts .0) (r .sane) fit in
     let v : B .moved + movedIn o m ≡ (indexOne d B) .moved = sym (ap (λ (I : Index). I .moved) e) in
     let x = sym (ap (λ (I : Index). I .steps) e) in
     let few = moved-few (r .ground .words) d m in
     let most = r .moves in
-    let one = one-step (r .ground .words) d m in
-    let more = length-append (B .steps) (stepsOf (quadBy (r .ground .words)) (d ∷ []) m) in
+    let more = length-append (B .steps) (stepOf d m ∷ []) in
     let now = ap length x in
     let space = r .steps in
     record {
       ground = r .ground;
       top = h;
       mesh = step o m;
-      sane = sane-one (r .ground) d (r .good .0) m (r .top) (r .sane) fit;
+      sane = sane-one (r .ground) o (r .good .0) m (r .top) (r .sane) fit;
       is = e ∙ (λ i. bookOf (r .ground .faces) h (step o m) (r .ground .old) (v i) (x i));
       good = r .good .1;
+      acts = r .acts .1;
       fits = f;
       moves = omega arith;
       steps = omega arith;
     }
 
-pub drawable : {space k t : ℕ} {ds : List Deed} {B : Index} → Ready space (show k t ∷ ds) B → eqb (slotIn B k) NONE ≡ true → Drawable k B
-unfolding cameAt indexOne ready-step
-drawable {k = k} {t} {B = B} r e =
-    let q : (indexOne (show k t) B) .quads ≡ B .quads + 1 = rw e in
+pub drawable : {space k t : ℕ} {ds : List Deed} {B : Index} → Ready space (show k t ∷ ds) B → Drawable k B
+unfolding cameAt ready-step
+drawable {k = k} {t} {B = B} r =
     let y = quads-are (ready-step r) in
     let n = ready-step r .sane in
     let low = n .reached in
@@ -187,10 +163,3 @@ piecewise space = record { joined = run-append; front = λ a b B r. (b ++ r .0, 
   where
     parted : (a b : List Deed) {B : Index} (r : Begun space (a ++ b) B) → Ready space (a ++ (b ++ r .0)) B
     parted a b {B} r = subst (λ (ds : List Deed). Ready space ds B) (append-assoc a b (r .0)) (r .1)
-
--- ---- the faces that the code finds
-pub no-spot : (k : ℕ) → k ≡ NONE → spot k ≡ []
-no-spot k e = rw (eq-eqb k NONE e)
-
-pub one-spot : (k : ℕ) → (k ≡ NONE → ⊥) → spot k ≡ k ∷ []
-one-spot k d = rw (ne-eqb k NONE d)

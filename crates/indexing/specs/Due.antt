@@ -1,38 +1,42 @@
--- The faces at which a work changes something, by the slots. Definitions only.
-use Prim.Native.Nat.{ℕ, _+_, _*_, _≤_, _<_}
+-- What of a work changes something, by the slots. Definitions only.
+use Prim.Native.Nat.{ℕ, zero, suc, _+_, _*_, _≤_, _<_}
 use mathlib.Core.Path.{_≡_}
-use mathlib.Core.Bool.{Bool, false, not, _&&_, _||_}
-use mathlib.Core.List.{List, [], _∷_}
+use mathlib.Core.Bool.{Bool, not, _&&_, _||_}
+use mathlib.Core.List.{List}
 use lib.ListN.{length, getD}
 use lib.Dec.{eqb, leb}
-use Rattle.rules.specs.Cells.{UNIT, has, keyOf, quadsOf}
+use Rattle.rules.specs.Cells.{UNIT, has, setOf, keyOf, quadsOf}
 use Rattle.rules.specs.Mesh.{NONE}
-use Rattle.rules.proofs.ListLaws.{All}
 use Rattle.works.specs.declared.Work.{Work}
-use Rattle.works.specs.Sets.{setIn, spot, spotIn}
+use Rattle.works.specs.Sets.{sets, keyMet}
 
--- a face that has no quad, and a spot that is such a face
+-- a face that has no quad, as one that the grid does not have
 abbrev pub isEmpty : List ℕ → ℕ → Bool
 isEmpty slots k = eqb (getD slots k NONE) NONE
 
-abbrev pub isEmptyAt : List ℕ → List ℕ → Bool
-isEmptyAt slots [] = false
-isEmptyAt slots (k ∷ ks) = isEmpty slots k
+-- a facing side that the grid has
+abbrev pub isMet : List ℕ → ℕ → Bool
+isMet keys f = not (eqb (keyMet keys 1 f) NONE)
 
--- of a work w at cell c: an own quad that is there goes; a neighbour's side is drawn that is not there; an own one that is not, or has gone; a neighbour's goes that is there, or has come
-pub record Due (slots keys : List ℕ) (c : ℕ) (w d : Work) : Type 0 where
-  pub own : (f : ℕ) → f < 6 → has (d .own) f ≡ (has (w .own) f && not (isEmpty slots (keyOf c f)))
-  pub shown : (f : ℕ) → f < 6 → has (d .shown) f ≡ (has (w .shown) f && isEmptyAt slots (spotIn keys 1 f))
-  pub drawn : (f : ℕ) → f < 6 → has (d .drawn) f ≡ (has (w .drawn) f && (has (w .own) f || isEmpty slots (keyOf c f)))
-  pub hidden : (f : ℕ) → f < 6 → has (d .hidden) f ≡ (has (w .hidden) f && (not (isEmptyAt slots (spotIn keys 1 f)) || has (d .shown) f))
-  pub few : (j : ℕ) → setIn d j < 64
+-- a facing side that comes
+abbrev pub comes : List ℕ → List ℕ → Work → ℕ → Bool
+comes slots keys w f = has (w .shown) f && (isEmpty slots (keyMet keys 1 f) && isMet keys f)
+
+-- of a work w at cell c: an own quad that is there goes; a facing side is drawn that is not there; an own one that is not, or has gone; a facing one goes that is there, or has come
+abbrev pub dueAt : List ℕ → List ℕ → ℕ → Work → ℕ → ℕ → Bool
+dueAt slots keys c w zero f = has (w .own) f && not (isEmpty slots (keyOf c f))
+dueAt slots keys c w (suc zero) f = comes slots keys w f
+dueAt slots keys c w (suc (suc zero)) f = has (w .drawn) f && (has (w .own) f || isEmpty slots (keyOf c f))
+dueAt slots keys c w (suc (suc (suc j))) f = has (w .hidden) f && (not (isEmpty slots (keyMet keys 1 f)) || comes slots keys w f)
+
+abbrev pub dueOf : List ℕ → List ℕ → ℕ → Work → Work
+dueOf slots keys c w = let at = dueAt slots keys c w in sets (setOf (at 0)) (setOf (at 1)) (setOf (at 2)) (setOf (at 3))
 
 -- Q, less the own quads that go, plus those that come, is within the room
 abbrev pub fitsIn : Work → ℕ → ℕ → Bool
 fitsIn d Q room = leb (Q + quadsOf (d .shown) + quadsOf (d .drawn)) (room + quadsOf (d .own))
 
--- the keys around cell c have slots
-pub record Gridded (keys slots : List ℕ) (c : ℕ) : Type 0 where
+-- the facing sides that the grid has, have slots
+pub record Gridded (keys slots : List ℕ) : Type 0 where
   pub small : length slots ≤ 6 * UNIT
-  pub own : 6 * c + 6 ≤ length slots
-  pub all : (f : ℕ) → f < 6 → All (λ k. k < length slots) (spotIn keys 1 f)
+  pub near : (f : ℕ) → f < 6 → (keyMet keys 1 f ≡ NONE → ⊥) → keyMet keys 1 f < length slots

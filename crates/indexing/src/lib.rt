@@ -12,6 +12,7 @@ use mesh_metadata::QuadIndex;
 use mesh_metadata::get_quad_index;
 use mesh_metadata::insert;
 use mesh_metadata::quad_at;
+use mesh_metadata::quad_of;
 use mesh_metadata::renumber;
 use steps::CUT;
 use vav::free_row;
@@ -20,16 +21,16 @@ use works::Work;
 use works::does_cut;
 use works::type_of;
 ghost use mathlib.Core.Path.{_≡_};
-ghost use mathlib.Core.List.{map};
+ghost use mathlib.Core.List.{[], _∷_};
 ghost use Prim.Native.Nat.{ℕ, _+_, _*_, _^_, _≤_, _<_, max};
 ghost use lib.ListN.{length};
 ghost use Rattle.rules.specs.Lists.{each};
 ghost use Rattle.rules.specs.Cells.{UNIT, keyOf, setOf};
-ghost use Rattle.rules.proofs.ListLaws.{All};
+ghost use Rattle.rules.specs.Mesh.{NONE};
 ghost use Rattle.face.specs.Face.{number};
 ghost use Rattle.entries.specs.Log.{entryIn};
-ghost use Rattle.works.specs.Sets.{setIn, spot, spotIn, deedBy, deedAt, deeds};
-ghost use Rattle.indexing.specs.Due.{isEmpty, isEmptyAt, Due, fitsIn, Gridded};
+ghost use Rattle.works.specs.Sets.{setIn, keyMet, deedBy, deedAt, deeds};
+ghost use Rattle.indexing.specs.Due.{isEmpty, isMet, dueOf, fitsIn, Gridded};
 ghost use Rattle.indexing.specs.Index.{indexOf, goneAt, cameAt, indexRun, Begun, Removable, Drawable};
 
 // The number of quads, how many have changed their place, the highest number of quads on the way, and the number of steps.
@@ -106,7 +107,7 @@ fn append_quad(
     }
 }
 
-// Draws the quad of the face of a key for a type, unless it is there; or, where `cuts`, removes it, if it is there. NONE is no face.
+// Removes the quad of the face of a key, where `cuts`, which is there; or draws it for a type, where it is not.
 fn do_face(
     links: &mut [u32],
     slots: &mut [u32],
@@ -116,29 +117,15 @@ fn do_face(
     voxel: u8,
     tally: Tally,
 ) -> Tally
-    requires { ⌜ Begun (length (now steps)) (map (deedBy cuts voxel) (spot key)) (indexOf (now links) (now slots) (now steps) tally) ⌝ }
+    requires { ⌜ Begun (length (now steps)) (deedBy cuts voxel key ∷ []) (indexOf (now links) (now slots) (now steps) tally) ⌝ }
     ensures { λ r. ⌜ indexOf (now (links .exit)) (now (slots .exit)) (now (steps .exit)) r
-        ≡ indexRun (map (deedBy cuts voxel) (spot key)) (indexOf (now (links .entry)) (now (slots .entry)) (now (steps .entry)) tally) ⌝ }
+        ≡ indexRun (deedBy cuts voxel key ∷ []) (indexOf (now (links .entry)) (now (slots .entry)) (now (steps .entry)) tally) ⌝ }
 {
-    if key == NONE {
-        return tally;
+    if cuts {
+        let quad = quad_of(slots, key);
+        return remove_quad(links, slots, steps, quad, tally);
     }
-    match quad_at(slots, key) {
-        QuadIndex::Nothing => {
-            if cuts {
-                tally
-            } else {
-                append_quad(links, slots, steps, key, voxel, tally)
-            }
-        }
-        QuadIndex::At(vertex) => {
-            if cuts {
-                remove_quad(links, slots, steps, vertex.quad(), tally)
-            } else {
-                tally
-            }
-        }
-    }
+    append_quad(links, slots, steps, key, voxel, tally)
 }
 
 // Does one of the four parts of a work, at the faces of its set.
@@ -205,13 +192,13 @@ fn lacks(slots: &[u32], cell: Cell, face: Face) -> bool
     }
 }
 
-// Whether the face of a key has none. NONE is no face.
+// Whether the face of a key has none. NONE is no face, so it has none.
 fn is_bare(slots: &[u32], key: u32) -> bool
-    requires { ⌜ All (λ k. k < length (now slots)) (spot key) ⌝ }
-    ensures { λ r. ⌜ r ≡ isEmptyAt (now (slots .entry)) (spot key) ⌝ }
+    requires { ⌜ ((key ≡ NONE → ⊥) → key < length (now slots)) × (length (now slots) ≤ NONE) ⌝ }
+    ensures { λ r. ⌜ r ≡ isEmpty (now (slots .entry)) key ⌝ }
 {
     if key == NONE {
-        return false;
+        return true;
     }
     match quad_at(slots, key) {
         QuadIndex::Nothing => true,
@@ -234,8 +221,8 @@ fn empty_sides(slots: &[u32], cell: Cell) -> u8
 }
 
 fn bare_sides(slots: &[u32], keys: &[u32; 12]) -> u8
-    requires { ⌜ ((f : ℕ) → f < 6 → All (λ k. k < length (now slots)) (spotIn (now keys) 1 f)) ⌝ }
-    ensures { λ r. ⌜ r ≡ setOf (λ f. isEmptyAt (now (slots .entry)) (spotIn (now (keys .entry)) 1 f)) ⌝ }
+    requires { ⌜ Gridded (now keys) (now slots) ⌝ }
+    ensures { λ r. ⌜ r ≡ setOf (λ f. isEmpty (now (slots .entry)) (keyMet (now (keys .entry)) 1 f)) ⌝ }
 {
     side_set(
         is_bare(slots, keys[6]),
@@ -247,14 +234,28 @@ fn bare_sides(slots: &[u32], keys: &[u32; 12]) -> u8
     )
 }
 
-// What of a work changes something. The slots are looked at once, so that its parts need not guess.
+// The sides at which the grid has a neighbour.
+fn met_sides(keys: &[u32; 12]) -> u8
+    ensures { λ r. ⌜ r ≡ setOf (isMet (now (keys .entry))) ⌝ }
+{
+    side_set(
+        keys[6] != NONE,
+        keys[7] != NONE,
+        keys[8] != NONE,
+        keys[9] != NONE,
+        keys[10] != NONE,
+        keys[11] != NONE,
+    )
+}
+
+// What of a work changes something. The slots are looked at once, so that its parts need not ask.
 pub fn due_work(slots: &[u32], keys: &[u32; 12], cell: Cell, work: Work) -> Work
-    requires { ⌜ Gridded (now keys) (now slots) (cell .0) × ((j : ℕ) → setIn work j < 64) ⌝ }
-    ensures { λ r. ⌜ Due (now (slots .entry)) (now (keys .entry)) (cell .0) work r ⌝ }
+    requires { ⌜ Gridded (now keys) (now slots) × (6 * cell .0 + 6 ≤ length (now slots)) × ((j : ℕ) → setIn work j < 64) ⌝ }
+    ensures { λ r. ⌜ r ≡ dueOf (now (slots .entry)) (now (keys .entry)) (cell .0) work ⌝ }
 {
     let empty = empty_sides(slots, cell);
     let bare = bare_sides(slots, keys);
-    let shown = work.shown & bare;
+    let shown = work.shown & bare & met_sides(keys);
     Work {
         own: work.own & (63 - empty),
         shown: shown,

@@ -1,36 +1,22 @@
 -- The faces that side sets draw, by their keys: how many, some cells and then others, and what holds of each. Assumes nothing.
 use mathlib.Core.Path.{_≡_, refl, sym, ap, _∙_}
-use mathlib.Core.Bool.{Bool, true, false, cond}
+use mathlib.Core.Bool.{true}
 use mathlib.Core.List.{List, [], _∷_, _++_, map, append-nil}
 use Prim.Native.Nat.{ℕ, zero, suc, _+_, _-_, _≤_, _<_}
 use native.Mathlib.Omega.{arith}
 use lib.ListN.{length, take, length-append}
 use lib.Seq.{getD-take, length-take-le}
 use Rattle.rules.specs.Lists.{each, only, count}
-use Rattle.rules.specs.Cells.{keyOf, has, rank, quadsOf}
-use Rattle.rules.proofs.ListLaws.{All, all-append, each-same, each-split}
+use Rattle.rules.specs.Cells.{keyOf, has, quadsOf}
+use Rattle.rules.proofs.ListLaws.{All, all-each, all-if, each-same, each-split, count-each}
 use Rattle.listing.specs.Fresh.{RowOf, setsFrom, asked, cellKeys, keysOf}
 use Rattle.listing.proofs.Rows.{asked-split, asked-moved}
 
 -- ---- how many
-pub count-keys : (set c k f : ℕ) → length (each k f (λ i. only (has set i) (keyOf c i))) + rank set f ≡ rank set (f + k)
-unfolding each count
-count-keys set c zero f = let e : f + 0 ≡ f = omega arith in rw e (omega arith)
-count-keys set c (suc k) f =
-    let e : f + suc k ≡ suc f + k = omega arith in
-    let r = count-keys set c k (suc f) in
-    let l = length-append (only (has set f) (keyOf c f)) (each k (suc f) (λ i. only (has set i) (keyOf c i))) in
-    rw (e, ← r, l) (one (has set f))
-  where
-    one : (b : Bool) → length (only b (keyOf c f)) + length (each k (suc f) (λ i. only (has set i) (keyOf c i))) + rank set f
-        ≡ length (each k (suc f) (λ i. only (has set i) (keyOf c i))) + (rank set f + cond b 1 0)
-    one true = omega arith
-    one false = omega arith
-
 pub length-cell : (set c : ℕ) → length (cellKeys set c) ≡ quadsOf set
 unfolding count
 length-cell set c =
-    let r = count-keys set c 6 0 in let z : length (cellKeys set c) + 0 ≡ length (cellKeys set c) = omega arith in sym z ∙ r
+    let r = count-each (has set) (keyOf c) 6 0 in let z : length (cellKeys set c) + 0 ≡ length (cellKeys set c) = omega arith in sym z ∙ r
 
 pub length-keys : (sets : ℕ → ℕ) (n c : ℕ) → length (keysOf sets c n) ≡ asked sets c n
 unfolding keysOf asked each
@@ -85,22 +71,12 @@ module _ (sets : ℕ → ℕ) (c n : ℕ) (list : List ℕ) (h : n ≤ length li
 
 -- ---- what holds of each face that is drawn
 module _ (P : ℕ → Type 0) where
-  all-if : (b : Bool) (k : ℕ) → (b ≡ true → P k) → All P (only b k)
-  all-if true k h = (h refl, tt)
-  all-if false k h = tt
-
-  all-each : (n i : ℕ) (p : ℕ → List ℕ) → ((k : ℕ) → i ≤ k → k < i + n → All P (p k)) → All P (each n i p)
-  unfolding each
-  all-each zero i p h = tt
-  all-each (suc n) i p h =
-      all-append P (p i) (each n (suc i) p) (h i (omega arith) (omega arith)) (all-each n (suc i) p (λ k a b. h k (omega arith) (omega arith)))
-
   all-cell : (set c : ℕ) → ((f : ℕ) → f < 6 → has set f ≡ true → P (keyOf c f)) → All P (cellKeys set c)
-  all-cell set c h = all-each 6 0 (λ f. only (has set f) (keyOf c f)) (λ f u v. all-if (has set f) (keyOf c f) (h f (omega arith)))
+  all-cell set c h = all-each P 6 0 (λ f. only (has set f) (keyOf c f)) (λ f u v. all-if P (has set f) (keyOf c f) (h f (omega arith)))
 
   pub all-keys : (sets : ℕ → ℕ) (n c : ℕ) → ((k f : ℕ) → c ≤ k → k < c + n → f < 6 → has (sets k) f ≡ true → P (keyOf k f)) → All P (keysOf sets c n)
   unfolding keysOf
-  all-keys sets n c h = all-each n c (λ k. cellKeys (sets k) k) (λ k a b. all-cell (sets k) k (λ f. h k f a b))
+  all-keys sets n c h = all-each P n c (λ k. cellKeys (sets k) k) (λ k a b. all-cell (sets k) k (λ f. h k f a b))
 
 map-like : (f g : ℕ → ℕ) (ks : List ℕ) → All (λ k. f k ≡ g k) ks → map f ks ≡ map g ks
 map-like f g [] h = refl

@@ -13,7 +13,7 @@ use lib.ListN as list
 use lib.Seq.{take-suc-set}
 use Rattle.rules.specs.Lists.{each, only, count}
 use Rattle.rules.specs.Cells.{keyOf, linkWord, firstVertex, has, rank, quadsOf}
-use Rattle.rules.proofs.ListLaws.{each-split}
+use Rattle.rules.proofs.ListLaws.{each-split, count-each}
 use Rattle.rules.proofs.Rows.{each-more}
 use Rattle.face.proofs.Lowest.{Rest, rest-start, rest-none, rest-below, rest-from, rest-at, rest-skip, rest-next}
 use Rattle.vav.specs.Rows.{put}
@@ -23,7 +23,7 @@ use Rattle.drawing.proofs.Turns.{rows-then, kept-rows, named-then, kept-named}
 use Rattle.listing.specs.Fresh.{setsFrom, asked, cellKeys, keysOf, Entered}
 use Rattle.listing.proofs.Sets.{count-next, rank-most, rank-below}
 use Rattle.listing.proofs.Rows.{asked-step, asked-le, asked-few}
-use Rattle.listing.proofs.Keys.{count-keys, length-keys, keys-none, keys-more, map-cell}
+use Rattle.listing.proofs.Keys.{length-keys, keys-none, keys-more, map-cell}
 
 -- ---- faces after those that are there
 pub none-after : (base : ℕ) (word : ℕ → ℕ) (ls ss ts : List ℕ) (m : ℕ) → Entered base word [] ls ss ts ls ss ts m m
@@ -65,7 +65,7 @@ module _ (cell set : ℕ) where
   unfolding count
   length-below f =
       let z : 0 + f ≡ f = omega arith in
-      omega (arith, count-keys set cell f 0, ap (rank set) z)
+      omega (arith, count-each (has set) (keyOf cell) f 0, ap (rank set) z)
 
   skipped : (f z : ℕ) → f ≤ z → ((k : ℕ) → f ≤ k → k < z → has set k ≡ false) → below z ≡ below f
   skipped f z h none =

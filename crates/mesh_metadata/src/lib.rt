@@ -6,7 +6,7 @@ use face::Quad;
 use face::Vertex;
 ghost use mathlib.Core.Path.{_≡_};
 ghost use mathlib.Core.List.{map};
-ghost use Prim.Native.Nat.{_+_, _-_, _^_, _≤_, _<_};
+ghost use Prim.Native.Nat.{_+_, _-_, _/_, _^_, _≤_, _<_};
 ghost use lib.ListN.{length, getD, set, replicate};
 ghost use Rattle.rules.specs.Cells.{UNIT, linkWord, codeIn, keyOf, keyIn, firstVertex};
 ghost use Rattle.rules.specs.Mesh.{NONE};
@@ -78,6 +78,16 @@ pub fn quad_at(slots: &[u32], key: u32) -> QuadIndex
     } else {
         QuadIndex::At(Vertex(vertex))
     }
+}
+
+// The same, where there is one.
+pub fn quad_of(slots: &[u32], key: u32) -> Quad
+    requires { ⌜ key < length (now slots) ⌝ }
+    ensures { λ r. ⌜ r .0 ≡ getD (now (slots .entry)) key NONE / 4 ⌝ }
+{
+    let slot = wide(key);
+    let vertex = Vertex(slots[slot]);
+    vertex.quad()
 }
 
 pub fn get_quad_index(slots: &[u32], face: Face, cell: Cell) -> QuadIndex

@@ -14,7 +14,7 @@ use Rattle.rules.specs.Lists.{each, only}
 use Rattle.rules.specs.Cells.{cells, opposite, neighbour, keyOf}
 use Rattle.rules.specs.Mesh.{Quad, World, isNormalCube, covering, meshBy, quadsBy, typeAt, there, placeOf, quadOf}
 use Rattle.rules.specs.Update.{Change, Broken, Added, CullFaces, AddFaces, Entry, givenAt, blank, draw, shifts, removeAt, remove, moved, Op, step, run, moves, highest, Work, Tested, quads, hide, reveal, all, isOpen, withGiven, nothing, added, workBy, work, cuts, puts, ops, needed, Course, courseFrom, meshAfter, emptyType, gridBy, gridAfter, gridLog, Honest, Mends, AddsAlike}
-use Rattle.rules.proofs.ListLaws.{All, all-append, all-take, all-drop, all-at, all-each, all-only, split}
+use Rattle.rules.proofs.ListLaws.{All, all-append, all-take, all-drop, all-at, all-each, all-only, split, each-few}
 use Rattle.rules.proofs.Neighbours.{beside, opposite-lt}
 use Rattle.rules.proofs.Quads.{Once, placed, moved-le, length-removeAt, run-append, run-once}
 use Rattle.rules.proofs.Laying.{Fits}
@@ -43,21 +43,16 @@ moves-ops w m =
     let e = moves-cuts (w .facing) (run (puts (w .new)) (run (cuts (w .own)) m)) in
     omega arith
 
-few {ℓ} : {A : Type ℓ} (n i : ℕ) (p : ℕ → List A) → ((k : ℕ) → length (p k) ≤ 1) → length (each n i p) ≤ n
-unfolding each
-few zero i p h = omega arith
-few (suc n) i p h = omega (arith, length-append (p i) (each n (suc i) p), few n (suc i) p h, h i)
-
 only-few {ℓ} : {A : Type ℓ} (b : Bool) (x : A) → length (only b x) ≤ 1
 only-few true x = omega arith
 only-few false x = omega arith
 
 pub few-own : (tested : Tested) (W : World) (e : Entry) (k : Change) → length ((workBy tested W e k) .own) ≤ 6
-few-own tested W e Broken = few 6 0 (λ f. only (all f) (keyOf (e .cell) f)) (λ f. only-few (all f) (keyOf (e .cell) f))
+few-own tested W e Broken = each-few 1 6 0 (λ f. only (all f) (keyOf (e .cell) f)) (λ f. only-few (all f) (keyOf (e .cell) f))
 few-own tested W e Added =
     split (λ t. length ((cond t (added tested W e) nothing) .own) ≤ 6) (isNormalCube W (e .type))
-    (λ s. few 6 0 (λ f. only (all f) (keyOf (e .cell) f)) (λ f. only-few (all f) (keyOf (e .cell) f))) (λ s. omega arith)
-few-own tested W e CullFaces = few 6 0 (λ f. only (withGiven e f) (keyOf (e .cell) f)) (λ f. only-few (withGiven e f) (keyOf (e .cell) f))
+    (λ s. each-few 1 6 0 (λ f. only (all f) (keyOf (e .cell) f)) (λ f. only-few (all f) (keyOf (e .cell) f))) (λ s. omega arith)
+few-own tested W e CullFaces = each-few 1 6 0 (λ f. only (withGiven e f) (keyOf (e .cell) f)) (λ f. only-few (withGiven e f) (keyOf (e .cell) f))
 few-own tested W e AddFaces =
     split (λ t. length ((cond t (record { own = []; new = quads W (e .type) (e .cell) (withGiven e); facing = [] }) nothing) .own) ≤ 6)
     (isNormalCube W (e .type)) (λ s. omega arith) (λ s. omega arith)
@@ -66,7 +61,7 @@ pub few-facing : (tested : Tested) (W : World) (e : Entry) (k : Change) → leng
 few-facing tested W e Broken = omega arith
 few-facing tested W e Added =
     split (λ t. length ((cond t (added tested W e) nothing) .facing) ≤ 6) (isNormalCube W (e .type))
-    (λ s. few 6 0 (λ i. hide tested W (e .type) i (neighbour (W .size) (e .cell) i)) (λ i. one i (neighbour (W .size) (e .cell) i))) (λ s. omega arith)
+    (λ s. each-few 1 6 0 (λ i. hide tested W (e .type) i (neighbour (W .size) (e .cell) i)) (λ i. one i (neighbour (W .size) (e .cell) i))) (λ s. omega arith)
   where
     one : (i : ℕ) (o : Option ℕ) → length (hide tested W (e .type) i o) ≤ 1
     one i none = omega arith

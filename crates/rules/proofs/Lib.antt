@@ -11,6 +11,7 @@ pub mod Ordered
 pub mod Laying
 pub mod Index
 pub mod Checking
+pub mod Acting
 pub mod Courses
 pub mod Modes
 pub mod Refusals

@@ -10,7 +10,7 @@ use lib.Dec.{eqb}
 use lib.ListN.{length, getD, take, drop, length-append}
 use lib.Seq.{ext-getD}
 use borrow.Author.Tests.{eqb-true, eq-eqb}
-use Rattle.rules.specs.Lists.{each, only, table, every, lowestFrom, lowest, same, member}
+use Rattle.rules.specs.Lists.{each, only, table, every, count, lowestFrom, lowest, same, member}
 
 -- ---- a Bool is one of two
 pub split : (P : Bool → Type 0) (b : Bool) → (b ≡ true → P true) → (b ≡ false → P false) → P b
@@ -118,6 +118,21 @@ pub length-each : (s n i : ℕ) (p : ℕ → List ℕ) → ((k : ℕ) → length
 unfolding each
 length-each s zero i p h = omega arith
 length-each s (suc n) i p h = length-append (p i) (each n (suc i) p) ∙ omega (arith, h i, length-each s n (suc i) p h)
+
+-- at most m in each piece
+pub each-few {ℓ} : {A : Type ℓ} (m n i : ℕ) (p : ℕ → List A) → ((k : ℕ) → length (p k) ≤ m) → length (each n i p) ≤ m * n
+unfolding each
+each-few m zero i p h = omega arith
+each-few m (suc n) i p h = omega (arith, length-append (p i) (each n (suc i) p), each-few m n (suc i) p h, h i)
+
+-- one for each number of which p holds
+pub count-each {ℓ} : {A : Type ℓ} (p : ℕ → Bool) (x : ℕ → A) (n i : ℕ) → length (each n i (λ k. only (p k) (x k))) + count i p ≡ count (i + n) p
+unfolding each count
+count-each p x zero i = let e : i + 0 ≡ i = omega arith in rw e (omega arith)
+count-each p x (suc n) i =
+    let e : i + suc n ≡ suc i + n = omega arith in
+    let one : length (only (p i) (x i)) ≡ cond (p i) 1 0 = split (λ b. length (only b (x i)) ≡ cond b 1 0) (p i) (λ _. refl) (λ _. refl) in
+    rw e (omega (arith, count-each p x n (suc i), length-append (only (p i) (x i)) (each n (suc i) (λ k. only (p k) (x k))), one))
 
 -- ---- searches
 pub below-none : (n i : ℕ) (bad : ℕ → Bool) → ((k : ℕ) → i ≤ k → k < i + n → bad k ≡ false) → lowestFrom i n bad ≡ i + n
@@ -255,6 +270,9 @@ module _ {ℓ} {A : Type ℓ} (P : A → Type 0) where
   all-each (suc n) i p h =
       all-append (p i) (each n (suc i) p) (h i (omega arith) (omega arith)) (all-each n (suc i) p (λ k a b. h k (omega arith) (omega arith)))
 
+  pub all-if : (b : Bool) (x : A) → (b ≡ true → P x) → All P (only b x)
+  all-if true x v = (v refl, tt)
+  all-if false x v = tt
+
   pub all-only : (b : Bool) (x : A) → P x → All P (only b x)
-  all-only true x v = (v, tt)
-  all-only false x v = tt
+  all-only b x v = all-if b x (λ _. v)

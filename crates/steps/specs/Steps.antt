@@ -1,12 +1,12 @@
 -- The steps of an update, and what each does to one list. Definitions only.
 use Prim.Native.Nat.{ℕ, _+_, _-_, _*_, _<_}
-use mathlib.Core.Bool.{cond, not}
-use mathlib.Core.List.{List, [], _∷_, _++_, map}
+use mathlib.Core.Bool.{cond}
+use mathlib.Core.List.{List, [], _∷_, map}
 use lib.ListN.{getD}
 use lib.Dec.{ltb}
-use Rattle.rules.specs.Lists.{table, only}
-use Rattle.rules.specs.Mesh.{Quad, there, placeOf}
-use Rattle.rules.specs.Update.{remove, draw, Op, put, cut}
+use Rattle.rules.specs.Lists.{table}
+use Rattle.rules.specs.Mesh.{Quad, placeOf}
+use Rattle.rules.specs.Update.{Op, put, cut, step}
 use Rattle.vav.specs.Rows as rows
 use Rattle.vav.specs.Rows.{freed}
 
@@ -69,10 +69,14 @@ opOf quad (hide k) = cut k
 abbrev pub opsOf : (ℕ → ℕ → Quad) → List Deed → List Op
 opsOf quad ds = map (opOf quad) ds
 
+-- each on a mesh on which it changes something
+abbrev pub stepOf : Deed → List Quad → Step
+stepOf (show k t) m = came k t
+stepOf (hide k) m = gone (placeOf k m)
+
 abbrev pub stepsOf : (ℕ → ℕ → Quad) → List Deed → List Quad → List Step
 stepsOf quad [] m = []
-stepsOf quad (show k t ∷ ds) m = only (not (there k m)) (came k t) ++ stepsOf quad ds (draw (quad k t) m)
-stepsOf quad (hide k ∷ ds) m = only (there k m) (gone (placeOf k m)) ++ stepsOf quad ds (remove k m)
+stepsOf quad (d ∷ ds) m = stepOf d m ∷ stepsOf quad ds (step (opOf quad d) m)
 
 -- a face that is drawn can be
 abbrev pub Able : (ℕ → ℕ → Type 0) → Deed → Type 0

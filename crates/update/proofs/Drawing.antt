@@ -1,8 +1,8 @@
 -- What an entry draws are cubes of the registry, on faces of the grid. Assumes nothing.
 use mathlib.Core.Path.{_≡_, sym, subst}
 use mathlib.Core.Logic.{⊎-elim}
-use mathlib.Core.Bool.{Bool, true, false}
-use mathlib.Core.List.{List, []}
+use mathlib.Core.Bool.{true}
+use mathlib.Core.List.{List, [], _∷_}
 use Prim.Native.Nat.{ℕ, zero, suc, _*_, _/_, _%_, _<_}
 use native.Mathlib.Omega.{arith}
 use lib.Dec.{T, eqb}
@@ -10,22 +10,20 @@ use lib.Ieee.Fits.{and-l}
 use lib.ListN.{length, getD, List·getD-eq-default}
 use borrow.Author.Tests.{eqb-true}
 use Rattle.rules.specs.Lists.{every}
-use Rattle.rules.specs.Cells.{cells, has}
+use Rattle.rules.specs.Cells.{has}
 use Rattle.rules.specs.Floats.{finite}
 use Rattle.rules.specs.Types.{floats, cubeOf, isCube, positionOf}
 use Rattle.rules.specs.Update.{Entry, givenAt}
 use Rattle.rules.specs.Calls.{Scene, span, faces}
 use Rattle.rules.proofs.ListLaws.{All}
-use Rattle.rules.proofs.Demands.{words-sized}
 use Rattle.mesh_metadata.proofs.Slots.{order}
-use Rattle.util.specs.Grid.{Within}
 use Rattle.types.proofs.Known.{placed}
 use Rattle.voxel_mesh.proofs.Shapes.{row-within}
 use Rattle.lent.specs.Scenes.{Typed}
-use Rattle.steps.specs.Steps.{Able}
+use Rattle.steps.specs.Steps.{Deed, show, hide, quadBy, opsOf, Able}
 use Rattle.steps.specs.Rows.{wordsBy, Shaped, Drawn}
 use Rattle.works.specs.declared.Work.{Work}
-use Rattle.works.specs.Sets.{setIn, keysAround, cutting, typeAt, deedBy, deeds, Cubes}
+use Rattle.works.specs.Sets.{setIn, keyMet, cutting, typeAt, deedBy, deeds, Cubes}
 use Rattle.indexing.specs.Index.{Good}
 use Rattle.indexing.proofs.Sets.{all-deeds}
 
@@ -59,22 +57,18 @@ module _ (S : Scene) (k : Typed S) where
         finite = k .d;
       }
 
-  module _ (w : Within (S .size)) (e : Entry) (h : e .cell < cells (S .size)) (v : Work) where
-    -- LAW: every deed is on a face of the grid, and its words are as long as a quad's
-    pub deeds-good : All (Good (wordsBy (bare S)) (faces S) (span S)) (deeds (keysAround (S .size) (e .cell)) e v)
-    deeds-good = all-deeds (S .size) e w h (Good (wordsBy (bare S)) (faces S) (span S)) v (λ j f k _ _ _ i. good (cutting j) (typeAt e j f) k i)
-      where
-        good : (cuts : Bool) (t k : ℕ) → k < 6 * cells (S .size) → Good (wordsBy (bare S)) (faces S) (span S) (deedBy cuts t k)
-        good true t k i = i
-        good false t k i = (i, words-sized S t (k % 6) (k / 6))
+  -- LAW: deeds that fit, of cubes, can be drawn
+  pub deeds-able : (keys : List ℕ) (e : Entry) (v : Work) → Cubes (S .types .kinds) e v → All (Good (faces S) (span S)) (opsOf (quadBy (wordsBy (bare S))) (deeds keys e v)) → All (Able (Drawn (bare S))) (deeds keys e v)
+  deeds-able keys e v c good = both (deeds keys e v) good (all-deeds keys e v (Able (λ k t. Shaped (bare S) t)) made)
+    where
+      made : (j f : ℕ) → j < 4 → f < 6 → has (setIn v j) f ≡ true → Able (λ k t. Shaped (bare S) t) (deedBy (cutting j) (typeAt e j f) (keyMet keys j f))
+      made zero f _ l on = tt
+      made (suc zero) f _ l on = shaped (givenAt e f) (c .shown f l on)
+      made (suc (suc zero)) f _ l on = shaped (e .type) (c .drawn f l on)
+      made (suc (suc (suc zero))) f _ l on = tt
+      made (suc (suc (suc (suc j)))) f b l on = absurd (omega arith)
 
-    -- LAW: what is drawn can be
-    pub deeds-able : Cubes (S .types .kinds) e v → All (Able (Drawn (bare S))) (deeds (keysAround (S .size) (e .cell)) e v)
-    deeds-able c = all-deeds (S .size) e w h (Able (Drawn (bare S))) v able
-      where
-        able : (j f k : ℕ) → j < 4 → f < 6 → has (setIn v j) f ≡ true → k < 6 * cells (S .size) → Able (Drawn (bare S)) (deedBy (cutting j) (typeAt e j f) k)
-        able zero f k _ l on i = tt
-        able (suc zero) f k _ l on i = (omega arith, shaped (givenAt e f) (c .shown f l on))
-        able (suc (suc zero)) f k _ l on i = (omega arith, shaped (e .type) (c .drawn f l on))
-        able (suc (suc (suc zero))) f k _ l on i = tt
-        able (suc (suc (suc (suc j)))) f k b l on i = absurd (omega arith)
+      both : (ds : List Deed) → All (Good (faces S) (span S)) (opsOf (quadBy (wordsBy (bare S))) ds) → All (Able (λ k t. Shaped (bare S) t)) ds → All (Able (Drawn (bare S))) ds
+      both [] g a = tt
+      both (show k t ∷ ds) g a = ((omega (arith, g .0 .0), a .0), both ds (g .1) (a .1))
+      both (hide k ∷ ds) g a = (tt, both ds (g .1) (a .1))

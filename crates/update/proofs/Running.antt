@@ -1,20 +1,22 @@
 -- A log on the index and the vertices, entry by entry: the lists stay the layout of the rule's mesh. Assumes nothing.
 use mathlib.Core.Path.{_≡_, refl, sym, ap, _∙_, subst}
-use mathlib.Core.Bool.{cond, not}
-use mathlib.Core.List.{List, [], append-nil}
+use mathlib.Core.Bool.{true, cond, not}
+use mathlib.Core.List.{List, [], _∷_, append-nil}
 use mathlib.Core.Option.{Option, none, some}
 use Prim.Native.Nat.{ℕ, zero, suc, _+_, _-_, _*_, _/_, _%_, _^_, _≤_, _<_}
 use native.Mathlib.Omega.{arith}
 use lib.Dec.{leb}
-use lib.ListN.{length}
-use borrow.Author.Tests.{le-leb, lt-leb}
+use lib.ListN.{length, getD, List·getD-eq-default}
+use borrow.Author.Tests.{eq-eqb, le-leb, lt-leb}
 use Rattle.rules.specs.Lists.{each}
-use Rattle.rules.specs.Cells.{cells}
-use Rattle.rules.specs.Mesh.{Quad, there, laid, slotOf}
+use Rattle.rules.specs.Cells.{cells, neighbour}
+use Rattle.rules.specs.Mesh.{Quad, NONE, there, laid, slotOf}
 use Rattle.rules.specs.Update as rule
-use Rattle.rules.specs.Update.{Tested, Entry, Op, run, moves, highest, ops, needed, work, entryAt, courseFrom}
+use Rattle.rules.specs.Update.{Tested, Entry, Op, run, moves, highest, cuts, puts, ops, needed, work, entryAt, courseFrom}
 use Rattle.rules.specs.Calls.{Scene, world, span, faces}
-use Rattle.rules.proofs.ListLaws.{All, split, and-true, length-table, all-kept}
+use Rattle.rules.proofs.ListLaws.{All, all-append, all-kept, split, length-table}
+use Rattle.rules.proofs.Neighbours.{beside, opposite-lt}
+use Rattle.rules.proofs.Acting.{acting, Acts, after, acting-same, acting-acts, acting-all}
 use Rattle.rules.proofs.Laying.{Fits}
 use Rattle.rules.proofs.Mending.{Sound}
 use Rattle.rules.proofs.Courses.{Sane, sane-step, highest-needed, run-le, fits-new, entry-moves}
@@ -24,16 +26,17 @@ use Rattle.steps.specs.Steps.{Step, Deed, stepsIn, Shelf, shelf, replayed, quad
 use Rattle.steps.proofs.Replaying.{replay-run}
 use Rattle.steps.specs.Rows.{wordsBy, Drawn, Replaying}
 use Rattle.works.specs.declared.Work.{Work}
-use Rattle.works.specs.Sets.{meant, setIn, keysAround, spotIn, deeds, Cubes}
-use Rattle.works.proofs.Meant.{Means, meant-work, meant-cubes, meant-few, deeds-ops}
+use Rattle.works.specs.Sets.{meant, setIn, keyOr, keysAround, keyMet, deeds, Cubes}
+use Rattle.works.proofs.Works.{near-key}
+use Rattle.works.proofs.Meant.{Means, meant-work, meant-cubes, meant-few}
 use Rattle.indexing.specs.Index.{Index, indexRun, bookOf, Good, Ground, Ready, Begun}
-use Rattle.indexing.specs.Due.{isEmpty, Due, fitsIn, Gridded}
-use Rattle.indexing.proofs.Sets.{all-few, spots-inside}
+use Rattle.indexing.specs.Due.{isEmpty, dueOf, fitsIn, Gridded}
+use Rattle.indexing.proofs.Sets.{all-few, due-few, due-cubes}
 use Rattle.indexing.proofs.Booking.{slot-none, run-booked}
 use Rattle.indexing.proofs.Doing.{ready-rest}
-use Rattle.indexing.proofs.Due.{due-same, room-told}
+use Rattle.indexing.proofs.Due.{due-ops, room-told}
 use Rattle.update.specs.Runs.{Ended, laidOut, meshIn, courseIn, Holds, Logging}
-use Rattle.update.proofs.Drawing.{bare, deeds-good, deeds-able}
+use Rattle.update.proofs.Drawing.{bare, deeds-able}
 
 -- LAW: the highest count is past the first
 pub course-past : (room : ℕ) (works : ℕ → rule.Work) (i k : ℕ) (m : List Quad) (v p : ℕ) → length m ≤ p → p ≤ (courseFrom room works i k m v p) .highest
@@ -126,57 +129,76 @@ module _ (tested : Tested) {S : Scene} {room : ℕ} {log vs₀ ls₀ ss₀ : Lis
       -- ---- the entry's sets, and the keys around its cell
       module _ {w : Work} {ks : List ℕ} (w-is : w ≡ meant tested (world S) e) (ks-are : ks ≡ keysAround (S .size) (e .cell)) where
         means : Means (world S) e w (works k)
-        means = subst (λ (x : Work × Entry). Means (world S) e (x .0) (work tested (world S) (x .1))) (λ i. (sym w-is i, at i)) (meant-work (world S) e (g .within) run-inside tested)
+        means = subst (λ (x : Work × Entry). Means (world S) e (x .0) (work tested (world S) (x .1))) (λ i. (sym w-is i, at i)) (meant-work (world S) e tested)
 
         pub run-sets : (j : ℕ) → setIn w j < 64
         run-sets j = subst (λ (x : Work). setIn x j < 64) (sym w-is) (meant-few (world S) e tested j)
 
-        pub run-gridded : Gridded ks ss (e .cell)
+        pub run-gridded : Gridded ks ss × (6 * e .cell + 6 ≤ length ss)
         run-gridded =
             let z = length-slots in
             let s = grid-small in
             let c = run-inside in
-            let n = sym length-slots in
-            record {
-              small = omega arith;
-              own = omega arith;
-              all = λ f l. subst (λ (x : ℕ × List ℕ). All (λ k. k < x .0) (spotIn (x .1) 1 f)) (λ i. (n i, sym ks-are i)) (spots-inside (S .size) e (g .within) run-inside 1 f l);
-            }
+            let most = g .within .most in (
+              record { small = omega arith; near = λ f l. subst (λ (k : ℕ). (k ≡ NONE → ⊥) → k < length ss) (sym (ap (λ (x : List ℕ). keyMet x 1 f) ks-are ∙ near-key (S .size) (e .cell) 1 f refl l)) (near f l (neighbour (S .size) (e .cell) f) refl) },
+              omega arith,
+            )
+          where
+            near : (f : ℕ) → f < 6 → (o : Option ℕ) → neighbour (S .size) (e .cell) f ≡ o → (keyOr f o ≡ NONE → ⊥) → keyOr f o < length ss
+            near f l none q d = absurd (d refl)
+            near f l (some n) q d = let i = beside (S .size) (g .within .sides .wide) (g .within .sides .long) (e .cell) run-inside f n q .inside in omega (arith, length-slots, opposite-lt f l)
 
         -- ---- what of it changes something
-        module _ {d : Work} (due : Due ss ks (e .cell) w d) where
-          due-around : Due ss (keysAround (S .size) (e .cell)) (e .cell) w d
-          due-around = subst (λ (x : List ℕ). Due ss x (e .cell) w d) ks-are due
+        module _ {d : Work} (d-is : d ≡ dueOf ss ks (e .cell) w) where
+          around : d ≡ dueOf ss (keysAround (S .size) (e .cell)) (e .cell) w
+          around = d-is ∙ ap (λ (x : List ℕ). dueOf ss x (e .cell) w) ks-are
+
+          no-face : isEmpty ss NONE ≡ true
+          no-face = eq-eqb (getD ss NONE NONE) NONE (List·getD-eq-default ss NONE (omega (arith, length-slots, grid-small)))
+
+          pub run-dues : (j : ℕ) → setIn d j < 64
+          run-dues j = subst (λ (x : Work). setIn x j < 64) (sym d-is) (due-few ss ks (e .cell) w j)
 
           pub run-room : fitsIn d q room ≡ leb (needed (works k) m) room
-          run-room = ap (λ (n : ℕ). fitsIn d n room) (r .holds .count) ∙ room-told m (sane .once) (world S) e w ss told (g .within) run-inside due-around means room
+          run-room = let n = r .holds .count in (λ i. fitsIn (around i) (n i) room) ∙ room-told (world S) e (g .within) run-inside m (sane .once) w ss told no-face means room
 
           -- ---- an entry that finds its room
           module _ (fit : needed (works k) m ≤ room) (xs : List ℕ) (long : length xs ≡ 48) where
             abbrev ds : List Deed
             ds = deeds ks e d
 
-            good : All (Good (wordsBy (bare S)) (faces S) (span S)) ds
-            good = subst (λ (x : List ℕ). All (Good (wordsBy (bare S)) (faces S) (span S)) (deeds x e d)) (sym ks-are) (deeds-good S (g .typed) (g .within) e run-inside d)
+            abbrev os : List Op
+            os = opsOf (quadBy (wordsBy (bare S))) ds
 
-            cubes : Cubes (S .types .kinds) e d
-            cubes =
-                let c = subst (Cubes (S .types .kinds) e) (sym w-is) (meant-cubes (world S) e tested) in
-                record { shown = λ i l h. c .shown i l (and-true _ _ (sym (due .shown i l) ∙ h) .0); drawn = λ i l h. c .drawn i l (and-true _ _ (sym (due .drawn i l) ∙ h) .0) }
+            acting-now : os ≡ acting (ops (works k)) m
+            acting-now = (λ i. opsOf (quadBy (wordsBy (bare S))) (deeds (ks-are i) e (around i))) ∙ due-ops (world S) e (g .within) run-inside m (sane .once) w ss told no-face means
+
+            good : All (Good (faces S) (span S)) os
+            unfolding ops
+            good =
+                subst (All (Good (faces S) (span S))) (sym acting-now) (acting-all (Good (faces S) (span S)) (ops (works k)) m
+                (all-append (Good (faces S) (span S)) (cuts ((works k) .own)) _ (all-cuts ((works k) .own)) (all-append (Good (faces S) (span S)) (puts ((works k) .new)) (cuts ((works k) .facing)) (all-puts ((works k) .new) fits) (all-cuts ((works k) .facing)))))
+              where
+                all-cuts : (js : List ℕ) → All (Good (faces S) (span S)) (cuts js)
+                all-cuts [] = tt
+                all-cuts (j ∷ js) = (tt, all-cuts js)
+
+                all-puts : (qs : List Quad) → All (Fits (faces S) (span S)) qs → All (Good (faces S) (span S)) (puts qs)
+                all-puts [] a = tt
+                all-puts (x ∷ qs) a = (a .0, all-puts qs (a .1))
+
+            acts-now : Acts os m
+            acts-now = subst (λ (x : List Op). Acts x m) (sym acting-now) (acting-acts (ops (works k)) m)
 
             able : All (Able (Drawn (bare S))) ds
-            able = subst (λ (x : List ℕ). All (Able (Drawn (bare S))) (deeds x e d)) (sym ks-are) (deeds-able S (g .typed) (g .within) e run-inside d cubes)
+            able =
+                let c = subst (Cubes (S .types .kinds) e) (sym w-is) (meant-cubes (world S) e tested) in
+                deeds-able S (g .typed) ks e d (subst (Cubes (S .types .kinds) e) (sym d-is) (due-cubes (S .types .kinds) ss ks (e .cell) e w c)) good
 
-            -- the highest count, how many have moved, and the mesh
-            abbrev after : List Op → ℕ × ℕ × List Quad
-            after os = (highest h os m, v + moves os m, run os m)
+            same : after h m os ≡ after h m (ops (works k))
+            same = ap (after h m) acting-now ∙ acting-same (ops (works k)) h m (sane .reached)
 
-            same : after (opsOf (quadBy (wordsBy (bare S))) ds) ≡ after (ops (works k))
-            same =
-                ap (λ (x : List ℕ). after (opsOf (quadBy (wordsBy (bare S))) (deeds x e d))) ks-are
-                ∙ due-same m (sane .once) (world S) e w ss told (g .within) run-inside due-around h v (sane .reached) ∙ ap after (deeds-ops means)
-
-            fits-deeds : highest h (opsOf (quadBy (wordsBy (bare S))) ds) m ≤ room
+            fits-deeds : highest h os m ≤ room
             fits-deeds = let e = ap (λ (x : ℕ × ℕ × List Quad). x .0) same in let t = highest-needed (works k) h m (sane .reached) in let b = sane .within in omega arith
 
             index : indexAt ls ss q v h xs ≡ bookOf (faces S) h m ls₀ v (stepsIn 0 xs)
@@ -195,6 +217,7 @@ module _ (tested : Tested) {S : Scene} {room : ℕ} {log vs₀ ls₀ ss₀ : Lis
                   sane = sane;
                   is = index;
                   good = good;
+                  acts = acts-now;
                   fits = fits-deeds;
                   moves = omega arith;
                   steps = omega arith;
@@ -213,8 +236,8 @@ module _ (tested : Tested) {S : Scene} {room : ℕ} {log vs₀ ls₀ ss₀ : Lis
             unfolding each
             ran =
                 ap (indexRun ds) index
-                ∙ run-booked ground ds m h v [] good sane fits-deeds
-                ∙ ap (λ (x : ℕ × ℕ × List Quad). bookOf (faces S) (x .0) (x .2) ls₀ (x .1) steps) same
+                ∙ run-booked ground ds m h v [] good acts-now sane fits-deeds
+                ∙ ap (λ (x : ℕ × ℕ × List Quad). bookOf (faces S) (x .0) (x .2) ls₀ (v + x .1) steps) same
 
             steps-are : done .steps ≡ steps
             steps-are = ap (λ (I : Index). I .steps) ran
@@ -223,10 +246,10 @@ module _ (tested : Tested) {S : Scene} {room : ℕ} {log vs₀ ls₀ ss₀ : Lis
             run-few = let z = ready-rest ds (run-ready .0) _ (run-ready .1) .steps in omega arith
 
             replayed-now : Can (Drawn (bare S)) room steps (length m) × (replayed (span S) (wordsBy (bare S)) steps (shelf (laid (span S) (λ q x. x .words) h m vs₀) (length m))
-                ≡ shelf (laid (span S) (λ q x. x .words) (highest h (opsOf (quadBy (wordsBy (bare S))) ds) m) (run (opsOf (quadBy (wordsBy (bare S))) ds) m) vs₀) (length (run (opsOf (quadBy (wordsBy (bare S))) ds) m)))
+                ≡ shelf (laid (span S) (λ q x. x .words) (highest h os m) (run os m) vs₀) (length (run os m)))
             replayed-now =
                 replay-run (span S) (λ x. x .words) (wordsBy (bare S)) (Drawn (bare S)) (λ n t d. words-sized S t (n % 6) (n / 6)) room vs₀ (g .rows) ds m h
-                (all-kept (λ x f i. f .1) m (sane .fits)) able (sane .reached) fits-deeds
+                (all-kept (λ x f i. f .1) m (sane .fits)) able (sane .reached) acts-now fits-deeds
 
             pub run-replaying : length vs ≡ length vs₀ → Replaying (bare S) (done .steps) (shelf vs q)
             run-replaying kept =

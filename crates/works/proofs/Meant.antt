@@ -8,7 +8,7 @@ use native.Mathlib.Nat.{zero-div}
 use native.Mathlib.Omega.{arith}
 use lib.ListN.{length, getD}
 use Rattle.rules.specs.Lists.{each, only}
-use Rattle.rules.specs.Cells.{cells, opposite, neighbour, keyOf, has, setOf}
+use Rattle.rules.specs.Cells.{Size, opposite, neighbour, keyOf, has, setOf}
 use Rattle.rules.specs.Mesh.{Quad, World, isNormalCube, covering, quadOf}
 use Rattle.rules.specs.Update as rule
 use Rattle.rules.specs.Update.{Entry, Change, Tested, Broken, Added, CullFaces, AddFaces, Op, put, cut, run, cuts, puts, ops, needed, givenAt, sides, quads, all, isOpen, withGiven, reveal, nothing, added, workBy, work}
@@ -16,11 +16,10 @@ use Rattle.rules.proofs.Sets.{has-setOf, setOf-lt}
 use Rattle.rules.proofs.Neighbours.{opposite-lt}
 use Rattle.rules.proofs.ListLaws.{split, and-true, each-same}
 use Rattle.rules.proofs.Quads.{run-append}
-use Rattle.util.specs.Grid.{Within}
-use Rattle.steps.specs.Steps.{opOf, opsOf}
+use Rattle.steps.specs.Steps.{opOf}
 use Rattle.works.specs.declared.Work.{Work}
-use Rattle.works.specs.Sets.{typesBy, sets, noWork, isShown, meantBy, meant, setIn, keysAround, spotIn, cutting, typeAt, deedBy, deedAt, deeds, quadIn, Cubes}
-use Rattle.works.proofs.Works.{facing, own-spot, near-spot}
+use Rattle.works.specs.Sets.{typesBy, sets, noWork, isShown, meantBy, meant, setIn, cutting, typeAt, deedBy, quadIn, Cubes}
+use Rattle.works.proofs.Works.{facing}
 
 -- ---- lists made face by face
 pub map-each : {A B : Type 0} (g : A → B) (n i : ℕ) (p : ℕ → List A) → map g (each n i p) ≡ each n i (λ k. map g (p k))
@@ -32,9 +31,21 @@ map-each {B = B} g (suc n) i p = map-append g (p i) (each n (suc i) p) ∙ ap (�
 zero-has : (f : ℕ) → has 0 f ≡ false
 zero-has f = rw (zero-div (2 ^ f))
 
+-- the faces that a part is about at side f, if the grid has them
+abbrev pub spotIn : Size → ℕ → ℕ → ℕ → List ℕ
+spotIn s c zero f = keyOf c f ∷ []
+spotIn s c (suc zero) f = facing f (neighbour s c f)
+spotIn s c (suc (suc j)) f = spotIn s c j f
+
+abbrev pub opAt : World → Entry → ℕ → ℕ → ℕ → Op
+opAt W e j f k = opOf (quadIn W) (deedBy (cutting j) (typeAt e j f) k)
+
 -- a part with its set, as operations
+abbrev pub opsAt : World → Entry → ℕ → ℕ → ℕ → List Op
+opsAt W e set j f = cond (has set f) (map (opAt W e j f) (spotIn (W .size) (e .cell) j f)) []
+
 abbrev pub partOps : World → Entry → ℕ → ℕ → List Op
-partOps W e set j = opsOf (quadIn W) (each 6 0 (deedAt (keysAround (W .size) (e .cell)) e set j))
+partOps W e set j = each 6 0 (opsAt W e set j)
 
 -- what the parts of a work do is the rule's work
 pub record Means (W : World) (e : Entry) (w : Work) (R : rule.Work) : Type 0 where
@@ -42,70 +53,54 @@ pub record Means (W : World) (e : Entry) (w : Work) (R : rule.Work) : Type 0 whe
   pub new : partOps W e (w .shown) 1 ++ partOps W e (w .drawn) 2 ≡ puts (R .new)
   pub facing : partOps W e (w .hidden) 3 ≡ cuts (R .facing)
 
-module _ (W : World) (e : Entry) (grid : Within (W .size)) (inside : e .cell < cells (W .size)) where
-  abbrev spots : ℕ → ℕ → List ℕ
-  spots = spotIn (keysAround (W .size) (e .cell))
-
+module _ (W : World) (e : Entry) where
   abbrev beyond : ℕ → Option ℕ
   beyond f = neighbour (W .size) (e .cell) f
-
-  abbrev on : ℕ → ℕ → Bool → List ℕ → List Op
-  on j f b ks = cond b (opsOf (quadIn W) (map (deedBy (cutting j) (typeAt e j f)) ks)) []
-
-  -- a part whose sides are those of which p holds, face by face
-  part-is : (j set : ℕ) (p : ℕ → Bool) (os : ℕ → List Op) → ((f : ℕ) → f < 6 → has set f ≡ p f) → ((f : ℕ) → f < 6 → (b : Bool) → p f ≡ b → on j f b (spots j f) ≡ os f) → partOps W e set j ≡ each 6 0 os
-  part-is j set p os h is =
-      map-each (opOf (quadIn W)) 6 0 (deedAt (keysAround (W .size) (e .cell)) e set j)
-      ∙ each-same 6 0 (λ f. opsOf (quadIn W) (deedAt (keysAround (W .size) (e .cell)) e set j f)) os (λ f _ l. within f (has set f) ∙ is f (omega arith) (has set f) (sym (h f (omega arith))))
-    where
-      within : (f : ℕ) (b : Bool) → opsOf (quadIn W) (cond b (map (deedBy (cutting j) (typeAt e j f)) (spots j f)) []) ≡ on j f b (spots j f)
-      within f true = refl
-      within f false = refl
 
   quad-at : (t c f : ℕ) → f < 6 → quadIn W (keyOf c f) t ≡ quadOf W t c f
   quad-at t c f h = let a : keyOf c f % 6 ≡ f = omega arith in let b : keyOf c f / 6 ≡ c = omega arith in rw (a, b)
 
   -- LAW: a part about own sides, as the rule lists them
-  own-part : {A : Type 0} (g : A → Op) (x : ℕ → A) (j set : ℕ) (p : ℕ → Bool) → j % 2 ≡ 0 → ((f : ℕ) → f < 6 → has set f ≡ p f)
-      → ((f : ℕ) → f < 6 → opOf (quadIn W) (deedBy (cutting j) (typeAt e j f) (keyOf (e .cell) f)) ≡ g (x f)) → partOps W e set j ≡ map g (each 6 0 (λ f. only (p f) (x f)))
-  own-part g x j set p even h is =
-      part-is j set p (λ f. map g (only (p f) (x f))) h (λ f l b q. ap (on j f b) (own-spot (W .size) (e .cell) grid inside j f even l) ∙ one f l b ∙ ap (λ (b : Bool). map g (only b (x f))) (sym q))
+  own-part : {A : Type 0} (g : A → Op) (x : ℕ → A) (j set : ℕ) (p : ℕ → Bool) → ((f : ℕ) → spotIn (W .size) (e .cell) j f ≡ keyOf (e .cell) f ∷ []) → ((f : ℕ) → f < 6 → has set f ≡ p f)
+      → ((f : ℕ) → f < 6 → opAt W e j f (keyOf (e .cell) f) ≡ g (x f)) → partOps W e set j ≡ map g (each 6 0 (λ f. only (p f) (x f)))
+  own-part g x j set p own h is =
+      each-same 6 0 (opsAt W e set j) (λ f. map g (only (p f) (x f))) (λ f _ l. (λ i. cond (h f (omega arith) i) (map (opAt W e j f) (own f i)) []) ∙ one f (omega arith) (p f))
       ∙ sym (map-each g 6 0 (λ f. only (p f) (x f)))
     where
-      one : (f : ℕ) → f < 6 → (b : Bool) → on j f b (keyOf (e .cell) f ∷ []) ≡ map g (only b (x f))
+      one : (f : ℕ) → f < 6 → (b : Bool) → cond b (opAt W e j f (keyOf (e .cell) f) ∷ []) [] ≡ map g (only b (x f))
       one f l true = ap (λ (o : Op). o ∷ []) (is f l)
       one f l false = refl
 
   -- LAW: one about facing sides, of the neighbours that the grid has
-  near-part : {A : Type 0} (g : A → Op) (r : ℕ → Option ℕ → List A) (x : ℕ → ℕ → A) (j : ℕ) (p : ℕ → Bool) → j % 2 ≡ 1 → ((f : ℕ) → r f none ≡ []) → ((f n : ℕ) → r f (some n) ≡ only (p f) (x f n))
-      → ((f n : ℕ) → f < 6 → opOf (quadIn W) (deedBy (cutting j) (typeAt e j f) (keyOf n (opposite f))) ≡ g (x f n)) → partOps W e (setOf p) j ≡ map g (each 6 0 (λ f. r f (beyond f)))
-  near-part g r x j p odd bare met is =
-      part-is j (setOf p) p (λ f. map g (r f (beyond f))) (has-setOf p) (λ f l b q. ap (on j f b) (near-spot (W .size) (e .cell) grid inside j f odd l) ∙ one f l b q (beyond f))
-      ∙ sym (map-each g 6 0 (λ f. r f (beyond f)))
+  near-part : {A : Type 0} (g : A → Op) (r : ℕ → Option ℕ → List A) (x : ℕ → ℕ → A) (j : ℕ) (p : ℕ → Bool) → ((f : ℕ) → spotIn (W .size) (e .cell) j f ≡ facing f (beyond f)) → ((f : ℕ) → r f none ≡ [])
+      → ((f n : ℕ) → r f (some n) ≡ only (p f) (x f n)) → ((f n : ℕ) → f < 6 → opAt W e j f (keyOf n (opposite f)) ≡ g (x f n)) → partOps W e (setOf p) j ≡ map g (each 6 0 (λ f. r f (beyond f)))
+  near-part g r x j p near bare met is =
+      each-same 6 0 (opsAt W e (setOf p) j) (λ f. map g (r f (beyond f)))
+      (λ f _ l. (λ i. cond (has-setOf p f (omega arith) i) (map (opAt W e j f) (near f i)) []) ∙ one f (omega arith) (p f) refl (beyond f)) ∙ sym (map-each g 6 0 (λ f. r f (beyond f)))
     where
-      one : (f : ℕ) → f < 6 → (b : Bool) → p f ≡ b → (o : Option ℕ) → on j f b (facing f o) ≡ map g (r f o)
+      one : (f : ℕ) → f < 6 → (b : Bool) → p f ≡ b → (o : Option ℕ) → cond b (map (opAt W e j f) (facing f o)) [] ≡ map g (r f o)
       one f l true q none = sym (ap (map g) (bare f))
       one f l false q none = sym (ap (map g) (bare f))
       one f l true q (some n) = ap (λ (o : Op). o ∷ []) (is f n l) ∙ sym (ap (map g) (met f n ∙ ap (λ (b : Bool). only b (x f n)) q))
       one f l false q (some n) = sym (ap (map g) (met f n ∙ ap (λ (b : Bool). only b (x f n)) q))
 
   pub own-cut : (set : ℕ) (p : ℕ → Bool) → ((f : ℕ) → f < 6 → has set f ≡ p f) → partOps W e set 0 ≡ cuts (sides (e .cell) p)
-  own-cut set p h = own-part cut (keyOf (e .cell)) 0 set p refl h (λ f l. refl)
+  own-cut set p h = own-part cut (keyOf (e .cell)) 0 set p (λ f. refl) h (λ f l. refl)
 
   own-put : (p : ℕ → Bool) → partOps W e (setOf p) 2 ≡ puts (quads W (e .type) (e .cell) p)
-  own-put p = own-part put (quadOf W (e .type) (e .cell)) 2 (setOf p) p refl (has-setOf p) (λ f l. ap put (quad-at (e .type) (e .cell) f l))
+  own-put p = own-part put (quadOf W (e .type) (e .cell)) 2 (setOf p) p (λ f. refl) (has-setOf p) (λ f l. ap put (quad-at (e .type) (e .cell) f l))
 
   near-put : partOps W e (setOf (λ i. covering W (e .type) i && isNormalCube W (givenAt e i))) 1 ≡ puts (each 6 0 (λ i. reveal W (e .type) (givenAt e i) i (beyond i)))
   near-put =
-      near-part put (λ i. reveal W (e .type) (givenAt e i) i) (λ f n. quadOf W (givenAt e f) n (opposite f)) 1 (λ i. covering W (e .type) i && isNormalCube W (givenAt e i)) refl
+      near-part put (λ i. reveal W (e .type) (givenAt e i) i) (λ f n. quadOf W (givenAt e f) n (opposite f)) 1 (λ i. covering W (e .type) i && isNormalCube W (givenAt e i)) (λ f. refl)
       (λ f. refl) (λ f n. refl) (λ f n l. ap put (quad-at (givenAt e f) n (opposite f) (opposite-lt f l)))
 
   near-cut : (tested : Tested) → partOps W e (setOf (λ i. covering W (e .type) (tested i))) 3 ≡ cuts (each 6 0 (λ i. rule.hide tested W (e .type) i (beyond i)))
-  near-cut tested = near-part cut (rule.hide tested W (e .type)) (λ f n. keyOf n (opposite f)) 3 (λ i. covering W (e .type) (tested i)) refl (λ f. refl) (λ f n. refl) (λ f n l. refl)
+  near-cut tested = near-part cut (rule.hide tested W (e .type)) (λ f n. keyOf n (opposite f)) 3 (λ i. covering W (e .type) (tested i)) (λ f. refl) (λ f. refl) (λ f n. refl) (λ f n l. refl)
 
   idle : (j : ℕ) → partOps W e 0 j ≡ []
   unfolding each
-  idle j = part-is j 0 (λ f. false) (λ f. []) (λ f l. zero-has f) (λ f l b q. ap (λ (b : Bool). on j f b (spots j f)) (sym q))
+  idle j = each-same 6 0 (opsAt W e 0 j) (λ f. []) (λ f _ l. ap (λ (b : Bool). cond b (map (opAt W e j f) (spotIn (W .size) (e .cell) j f)) []) (zero-has f))
 
   idle-means : Means W e noWork nothing
   idle-means = record { own = idle 0; new = (λ i. idle 1 i ++ idle 2 i); facing = idle 3 }
@@ -129,13 +124,12 @@ module _ (W : World) (e : Entry) (grid : Within (W .size)) (inside : e .cell < c
   meant-work tested = by-change tested (e .change)
 
 module _ {W : World} {e : Entry} {w : Work} {R : rule.Work} (r : Means W e w R) where
-  -- LAW: the deeds are its operations
-  pub deeds-ops : opsOf (quadIn W) (deeds (keysAround (W .size) (e .cell)) e w) ≡ ops R
-  unfolding ops each
-  deeds-ops =
-      let flat : opsOf (quadIn W) (deeds (keysAround (W .size) (e .cell)) e w) ≡ partOps W e (w .own) 0 ++ ((partOps W e (w .shown) 1 ++ partOps W e (w .drawn) 2) ++ partOps W e (w .hidden) 3) =
-      simp (map-append, append-assoc, append-nil) in
-      flat ∙ (λ i. r .own i ++ (r .new i ++ r .facing i))
+  -- LAW: the four parts, one after the other, are its operations
+  pub parts-ops : partOps W e (w .own) 0 ++ (partOps W e (w .shown) 1 ++ (partOps W e (w .drawn) 2 ++ partOps W e (w .hidden) 3)) ≡ ops R
+  unfolding ops
+  parts-ops =
+      ap (λ (os : List Op). partOps W e (w .own) 0 ++ os) (sym (append-assoc (partOps W e (w .shown) 1) (partOps W e (w .drawn) 2) (partOps W e (w .hidden) 3)))
+      ∙ (λ i. r .own i ++ (r .new i ++ r .facing i))
 
   -- LAW: the room that it asks for is that of its first three parts
   pub needed-parts : (m : List Quad) → needed R m ≡ length (run (partOps W e (w .drawn) 2) (run (partOps W e (w .shown) 1) (run (partOps W e (w .own) 0) m)))

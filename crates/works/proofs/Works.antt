@@ -1,24 +1,23 @@
 -- What an entry tells of a side, and the keys around its cell. Assumes nothing.
-use mathlib.Core.Path.{_≡_, refl, sym, ap, _∙_, subst}
+use mathlib.Core.Path.{_≡_, refl, ap, _∙_}
 use mathlib.Core.Bool.{Bool, true, false, cond, not}
 use mathlib.Core.List.{List, [], _∷_}
 use mathlib.Core.Option.{Option, none, some}
-use Prim.Native.Nat.{ℕ, zero, suc, _+_, _-_, _*_, _%_, _<_}
+use Prim.Native.Nat.{ℕ, zero, suc, _+_, _-_, _*_, _/_, _%_, _<_}
 use native.Mathlib.Omega.{arith}
 use lib.Dec.{eqb}
 use lib.ListN.{getD}
-use Rattle.rules.specs.Lists.{each}
 use Rattle.rules.specs.Cells.{Size, cells, opposite, neighbour, keyOf, has}
-use Rattle.rules.specs.Mesh.{World, NONE}
+use Rattle.rules.specs.Mesh.{World}
 use Rattle.rules.specs.Update.{Entry, givenAt, outside, isOpen}
 use Rattle.rules.proofs.ListLaws.{All, split, getD-table}
-use Rattle.rules.proofs.Neighbours.{beside, opposite-lt}
+use Rattle.rules.proofs.Neighbours.{beside, opposite-lt, opposite-twice}
 use Rattle.util.specs.Grid.{Within}
-use borrow.Author.Tests.{ne-eqb}
+use borrow.Author.Tests.{lt-ltb, le-ltb}
 use Rattle.entries.specs.Log.{neighbourOf}
 use Rattle.entries.specs.declared.Neighbour.the-variants.{Outside, Voxel}
 use Rattle.works.specs.declared.Work.{Work}
-use Rattle.works.specs.Sets.{setIn, keyOr, keysAround, spot, spotIn}
+use Rattle.works.specs.Sets.{setIn, keyOr, keyAt, keysAround, keyMet}
 
 -- ---- types and neighbours
 given-outside : (g : ℕ) → neighbourOf g ≡ Outside → outside g ≡ true
@@ -49,46 +48,27 @@ abbrev pub facing : ℕ → Option ℕ → List ℕ
 facing f none = []
 facing f (some n) = keyOf n (opposite f) ∷ []
 
-module _ (s : Size) (c : ℕ) (w : Within s) (h : c < cells s) where
-  some-spot : (k : ℕ) → k < 6 * cells s → spot k ≡ k ∷ []
-  some-spot k b = let m = w .most in rw (ne-eqb k NONE (λ z. omega arith))
+module _ (s : Size) (c : ℕ) where
+  -- LAW: a part meets the cell's own sides, or its neighbours' facing ones
+  pub own-key : (j f : ℕ) → j % 2 ≡ 0 → f < 6 → keyMet (keysAround s c) j f ≡ keyOf c f
+  own-key j f e l =
+      let z : 6 * (j % 2) + f ≡ f = omega arith in
+      getD-table (keyAt s c) 12 (6 * (j % 2) + f) 0 (omega arith) ∙ rw (z, lt-ltb f 6 l)
 
-  -- LAW: a part is about the cell's own sides, or about its neighbours' facing ones
-  pub own-spot : (j f : ℕ) → j % 2 ≡ 0 → f < 6 → spotIn (keysAround s c) j f ≡ keyOf c f ∷ []
-  own-spot j f e l = let z : 6 * (j % 2) + f ≡ f = omega arith in ap (λ (n : ℕ). spot (getD (keysAround s c) n 0)) z ∙ at f l
-    where
-      at : (f : ℕ) → f < 6 → spot (getD (keysAround s c) f 0) ≡ keyOf c f ∷ []
-      at zero b = some-spot (keyOf c 0) (omega arith)
-      at (suc zero) b = some-spot (keyOf c 1) (omega arith)
-      at (suc (suc zero)) b = some-spot (keyOf c 2) (omega arith)
-      at (suc (suc (suc zero))) b = some-spot (keyOf c 3) (omega arith)
-      at (suc (suc (suc (suc zero)))) b = some-spot (keyOf c 4) (omega arith)
-      at (suc (suc (suc (suc (suc zero))))) b = some-spot (keyOf c 5) (omega arith)
-      at (suc (suc (suc (suc (suc (suc f)))))) b = absurd (omega arith)
+  pub near-key : (j f : ℕ) → j % 2 ≡ 1 → f < 6 → keyMet (keysAround s c) j f ≡ keyOr f (neighbour s c f)
+  near-key j f e l =
+      let z : 6 * (j % 2) + f - 6 ≡ f = omega arith in
+      getD-table (keyAt s c) 12 (6 * (j % 2) + f) 0 (omega arith) ∙ rw (le-ltb (6 * (j % 2) + f) 6 (omega arith), z)
 
-  pub near-spot : (j f : ℕ) → j % 2 ≡ 1 → f < 6 → spotIn (keysAround s c) j f ≡ facing f (neighbour s c f)
-  unfolding each
-  near-spot j f e l =
-      let z : 6 * (j % 2) + f ≡ suc (suc (suc (suc (suc (suc f))))) = omega arith in
-      ap (λ (n : ℕ). spot (getD (keysAround s c) n 0)) z ∙ ap spot (getD-table (λ f. keyOr f (neighbour s c f)) 6 f 0 l) ∙ near (neighbour s c f) refl
+  -- LAW: a facing side is another cell's, within the grid
+  pub near-all : Within s → c < cells s → (P : ℕ → Type 0) (f : ℕ) → f < 6 → ((k : ℕ) → k < 6 * cells s → (k / 6 ≡ c → ⊥) → opposite (k % 6) ≡ f → P k) → All P (facing f (neighbour s c f))
+  near-all w h P f l holds = go (neighbour s c f) refl
     where
-      near : (o : Option ℕ) → neighbour s c f ≡ o → spot (keyOr f o) ≡ facing f o
-      near none q = refl
-      near (some n) q =
-          let i = beside s (w .sides .wide) (w .sides .long) c h f n q .inside in
+      go : (o : Option ℕ) → neighbour s c f ≡ o → All P (facing f o)
+      go none q = tt
+      go (some n) q =
+          let x = beside s (w .sides .wide) (w .sides .long) c h f n q in
+          let i = x .inside in
           let b = opposite-lt f l in
-          some-spot (keyOf n (opposite f)) (omega arith)
-
-  -- LAW: what holds of the one key or of the other holds of what a part is about
-  pub spot-all : (P : ℕ → Type 0) (j f : ℕ) → f < 6 → (j % 2 ≡ 0 → P (keyOf c f)) → (j % 2 ≡ 1 → (n : ℕ) → neighbour s c f ≡ some n → P (keyOf n (opposite f)))
-      → All P (spotIn (keysAround s c) j f)
-  spot-all P j f l own near = by (j % 2) refl (omega arith)
-    where
-      beyond : (j % 2 ≡ 1) → (o : Option ℕ) → neighbour s c f ≡ o → All P (facing f o)
-      beyond e none q = tt
-      beyond e (some n) q = (near e n q, tt)
-
-      by : (odd : ℕ) → j % 2 ≡ odd → odd < 2 → All P (spotIn (keysAround s c) j f)
-      by zero e b = subst (All P) (sym (own-spot j f e l)) (own e, tt)
-      by (suc zero) e b = subst (All P) (sym (near-spot j f e l)) (beyond e (neighbour s c f) refl)
-      by (suc (suc odd)) e b = absurd (omega arith)
+          let z : keyOf n (opposite f) % 6 ≡ opposite f = omega arith in
+          (holds (keyOf n (opposite f)) (omega arith) (λ y. x .other (omega arith)) (ap opposite z ∙ opposite-twice f), tt)

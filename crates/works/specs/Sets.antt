@@ -1,12 +1,12 @@
 -- What an entry means, as four side sets, and face by face. Definitions only.
-use Prim.Native.Nat.{ℕ, zero, suc, _+_, _*_, _/_, _%_, _<_}
+use Prim.Native.Nat.{ℕ, zero, suc, _+_, _-_, _*_, _/_, _%_, _<_}
 use mathlib.Core.Path.{_≡_}
 use mathlib.Core.Bool.{Bool, true, cond, not, _&&_}
-use mathlib.Core.List.{List, [], _∷_, map}
+use mathlib.Core.List.{List, []}
 use mathlib.Core.Option.{Option, none, some}
 use lib.ListN.{getD}
-use lib.Dec.{eqb}
-use Rattle.rules.specs.Lists.{each, table}
+use lib.Dec.{eqb, ltb}
+use Rattle.rules.specs.Lists.{each, only, table}
 use Rattle.rules.specs.Cells.{Size, opposite, neighbour, keyOf, has, setOf}
 use Rattle.rules.specs.Mesh.{Quad, World, NONE, isNormalCube, covering}
 use Rattle.rules.specs.Update.{Entry, Change, Broken, Added, CullFaces, AddFaces, Tested, givenAt, withGiven, isOpen}
@@ -51,16 +51,15 @@ keyOr f none = NONE
 keyOr f (some n) = keyOf n (opposite f)
 
 -- the keys of a cell's own sides, then of those facing them
-abbrev pub keysAround : Size → ℕ → List ℕ
-keysAround s c = keyOf c 0 ∷ keyOf c 1 ∷ keyOf c 2 ∷ keyOf c 3 ∷ keyOf c 4 ∷ keyOf c 5 ∷ table 6 (λ f. keyOr f (neighbour s c f))
+abbrev pub keyAt : Size → ℕ → ℕ → ℕ
+keyAt s c i = cond (ltb i 6) (keyOf c i) (keyOr (i - 6) (neighbour s c (i - 6)))
 
--- a face of the grid, or none
-abbrev pub spot : ℕ → List ℕ
-spot k = cond (eqb k NONE) [] (k ∷ [])
+abbrev pub keysAround : Size → ℕ → List ℕ
+keysAround s c = table 12 (keyAt s c)
 
 -- a part is about own sides, or about facing ones
-abbrev pub spotIn : List ℕ → ℕ → ℕ → List ℕ
-spotIn keys part f = spot (getD keys (6 * (part % 2) + f) 0)
+abbrev pub keyMet : List ℕ → ℕ → ℕ → ℕ
+keyMet keys part f = getD keys (6 * (part % 2) + f) 0
 
 abbrev pub cutting : ℕ → Bool
 cutting part = not (eqb part 1) && not (eqb part 2)
@@ -71,16 +70,13 @@ typeAt e part f = cond (eqb part 1) (givenAt e f) (e .type)
 abbrev pub deedBy : Bool → ℕ → ℕ → Deed
 deedBy cuts t k = cond cuts (hide k) (show k t)
 
--- a part with its set at face f: a deed, or none
+-- a part with its set at face f
 abbrev pub deedAt : List ℕ → Entry → ℕ → ℕ → ℕ → List Deed
-deedAt keys e set part f = cond (has set f) (map (deedBy (cutting part) (typeAt e part f)) (spotIn keys part f)) []
+deedAt keys e set part f = only (has set f) (deedBy (cutting part) (typeAt e part f) (keyMet keys part f))
 
--- the first n parts; the four are the work
-abbrev pub parts : ℕ → List ℕ → Entry → Work → List Deed
-parts n keys e w = each n 0 (λ j. each 6 0 (deedAt keys e (setIn w j) j))
-
+-- the four parts
 abbrev pub deeds : List ℕ → Entry → Work → List Deed
-deeds = parts 4
+deeds keys e w = each 4 0 (λ j. each 6 0 (deedAt keys e (setIn w j) j))
 
 abbrev pub quadIn : World → ℕ → ℕ → Quad
 quadIn W = quadBy (λ k t. W .wordsOf t (k % 6) (k / 6))

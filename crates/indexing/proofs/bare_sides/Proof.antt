@@ -1,11 +1,18 @@
 -- `indexing::bare_sides` meets its contract: side by side. Assumes nothing.
-use mathlib.Core.Path.{_∙_}
+use mathlib.Core.Path.{_≡_, _∙_}
 use mathlib.Core.Bool.{cond}
-use Prim.Native.Nat.{_+_}
+use Prim.Native.Nat.{ℕ, _+_, _≤_, _<_}
 use native.Mathlib.Omega.{arith}
+use lib.ListN.{length}
+use Rattle.rules.specs.Mesh.{NONE}
+use Rattle.works.specs.Sets.{keyMet}
 use borrow.Author.Needs.{needs}
 use Rattle.indexing.proofs.bare_sides.Statement.{statement}
 use Rattle.indexing.proofs.bare_sides.Tie as tie
+
+-- a facing side that the grid has, has a slot
+slotted : (t : tie.Start) (f : ℕ) → f < 6 → ((keyMet (t .args .keys .now) 1 f ≡ NONE → ⊥) → keyMet (t .args .keys .now) 1 f < length (t .args .slots .now)) × (length (t .args .slots .now) ≤ NONE)
+slotted t f l = (t .pre .near f l, omega (arith, t .pre .small))
 
 returns : tie.Need-returns
 returns c =
@@ -21,8 +28,5 @@ returns c =
 pub bare-sides-spec : {M : Type 1} → statement M
 bare-sides-spec =
     tie.close
-    (tie.spec (λ c. search needs) (λ c κs. c .before .before .pre 0 (omega arith)) (λ c. search needs) (λ c κs. c .before .before .before .before .pre 1 (omega arith))
-    (λ c. search needs) (λ c κs. c .before .before .before .before .before .before .pre 2 (omega arith))
-    (λ c. search needs) (λ c κs. c .before .before .before .before .before .before .before .before .pre 3 (omega arith))
-    (λ c. search needs) (λ c κs. c .before .before .before .before .before .before .before .before .before .before .pre 4 (omega arith))
-    (λ c. search needs) (λ c κs. c .before .before .before .before .before .before .before .before .before .before .before .before .pre 5 (omega arith)) (λ c κs. search needs) returns)
+    (tie.spec (λ c. search needs) (λ c κs. slotted (c .before .before) 0 (omega arith)) (λ c. search needs) (λ c κs. slotted (c .before .before .before .before) 1 (omega arith)) (λ c. search needs) (λ c κs. slotted (c .before .before .before .before .before .before) 2 (omega arith))
+    (λ c. search needs) (λ c κs. slotted (c .before .before .before .before .before .before .before .before) 3 (omega arith)) (λ c. search needs) (λ c κs. slotted (c .before .before .before .before .before .before .before .before .before .before) 4 (omega arith)) (λ c. search needs) (λ c κs. slotted (c .before .before .before .before .before .before .before .before .before .before .before .before) 5 (omega arith)) (λ c κs. search needs) returns)

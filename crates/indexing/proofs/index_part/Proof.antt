@@ -1,17 +1,18 @@
 -- `indexing::index_part` meets its contract: what is left to do on what is there is the whole part on what was there. Assumes nothing.
 use mathlib.Core.Path.{_≡_, refl, sym, ap, _∙_, subst}
-use mathlib.Core.Bool.{Bool, cond}
-use mathlib.Core.List.{List, [], map}
+use mathlib.Core.Bool.{Bool}
+use mathlib.Core.List.{List, [], _∷_}
 use Prim.Native.Nat.{ℕ, _+_, _-_, _*_, _%_, _≤_, _<_}
 use native.Mathlib.Omega.{arith}
 use lib.Bits.{and-le-r}
 use lib.Count.{trailingZeros}
 use lib.ListN.{length, getD}
+use Rattle.rules.specs.Lists.{only}
 use Rattle.face.proofs.Lowest.{Rest, rest-start, rest-none, rest-below, rest-from, rest-at, rest-skip, rest-next}
 use Rattle.entries.specs.Log.{entryIn}
 use Rattle.steps.specs.Steps.{Deed}
 use Rattle.steps.proofs.Turning.{Turning, start, this, skip, turn, done}
-use Rattle.works.specs.Sets.{spot, spotIn, cutting, typeAt, deedBy, deedAt}
+use Rattle.works.specs.Sets.{keyMet, cutting, typeAt, deedBy, deedAt}
 use Rattle.indexing.specs.Index.{Index, indexOf, indexRun, Begun}
 use Rattle.indexing.proofs.Doing.{piecewise}
 use borrow.Author.Needs.{needs}
@@ -44,7 +45,7 @@ below i = rest-below (i .before .loop .inv .2) (i .loop-test .taken) refl
 
 -- a face that is not in the set asks for nothing
 abbrev at-set : tie.Start Inv-loop μ-loop → ℕ → Bool → List Deed
-at-set t f on = let a = t .args in cond on (map (deedBy (cutting (a .part)) (typeAt (entryIn (a .entry)) (a .part) f)) (spotIn (a .keys .now) (a .part) f)) []
+at-set t f on = let a = t .args in only on (deedBy (cutting (a .part)) (typeAt (entryIn (a .entry)) (a .part) f) (keyMet (a .keys .now) (a .part) f))
 
 turned-to : (i : tie.In-loop Inv-loop μ-loop) →
     let a = begun i .args in Turning indexRun (Begun (length (a .steps .now))) 6 (deed i) (low i) (indexOf (a .links .now) (a .slots .now) (a .steps .now) (a .tally)) (here i)
@@ -58,14 +59,14 @@ turned-to i =
 told : (c : tie.After-type-of Inv-loop μ-loop) →
     let i = c .before .before .before in
     let a = begun i .args in
-    map (deedBy (i .before .before .does-cut .result) (c .type-of .result)) (spot (getD (a .keys .now) (6 * (a .part % 2) + c .before .before .lowest-side .result) 0)) ≡ deed i (low i)
+    deedBy (i .before .before .does-cut .result) (c .type-of .result) (getD (a .keys .now) (6 * (a .part % 2) + c .before .before .lowest-side .result) 0) ∷ [] ≡ deed i (low i)
 told c =
     let i = c .before .before .before in
     let a = begun i .args in
     let e = c .before .before .lowest-side .ensures in
     let x = i .before .before .does-cut .ensures in
     let y = c .type-of .ensures ∙ ap (typeAt (entryIn (a .entry)) (a .part)) (c .before .face-at .ensures ∙ e) in
-    (λ j. map (deedBy (x j) (y j)) (spot (getD (a .keys .now) (6 * (a .part % 2) + e j) 0))) ∙ ap (at-set (begun i) (low i)) (sym (rest-at (i .before .loop .inv .2) (i .loop-test .taken) refl))
+    (λ j. deedBy (x j) (y j) (getD (a .keys .now) (6 * (a .part % 2) + e j) 0) ∷ []) ∙ ap (at-set (begun i) (low i)) (sym (rest-at (i .before .loop .inv .2) (i .loop-test .taken) refl))
 
 loop-holds : tie.Need-loop-holds Inv-loop μ-loop
 loop-holds c = let t = c .before .before .before .before in (0, start (t .pre .1), rest-start (t .pre .0), refl, refl, refl)

@@ -1,7 +1,7 @@
 -- `update::run_log` meets its contract: entry by entry, the lists are the layout of the rule's mesh. Assumes nothing.
 use mathlib.Core.Path.{_≡_, refl, sym, ap, _∙_, subst}
 use mathlib.Core.List.{List}
-use Prim.Native.Nat.{_-_, _/_, _≤_}
+use Prim.Native.Nat.{ℕ, _-_, _/_, _≤_, _<_}
 use native.Mathlib.Omega.{arith}
 use lib.Dec.{leb}
 use lib.ListN.{length}
@@ -13,9 +13,10 @@ use Rattle.terms.specs.Modes.{testedBy}
 use Rattle.terms.specs.Scenes.{sceneOf}
 use Rattle.steps.specs.Steps.{Step, shelf, stepAt, replayed}
 use Rattle.steps.specs.Rows.{wordsBy, Replaying}
+use Rattle.works.specs.Sets.{setIn}
 use Rattle.indexing.specs.Index.{Index}
 use Rattle.update.proofs.Drawing.{bare}
-use Rattle.update.proofs.Running.{Running, run-start, run-inside, run-sets, run-gridded, run-small, run-room, run-ready, run-few, run-replaying, run-on, run-full, run-through, run-ended}
+use Rattle.update.proofs.Running.{Running, run-start, run-inside, run-sets, run-gridded, run-dues, run-small, run-room, run-ready, run-few, run-replaying, run-on, run-full, run-through, run-ended}
 use borrow.Author.Needs.{needs}
 use Rattle.update.proofs.run_log.Statement.{statement}
 use Rattle.update.proofs.run_log.Tie as tie
@@ -80,10 +81,18 @@ due-work-requires c κs =
     let r = i .before .loop .inv .0 in
     let lt = i .loop-test .taken in
     let at = b .before .before .read-entry .ensures in
-    (run-gridded (side t) (t .pre) r lt at (b .before .work-of .ensures) (b .keys-around .ensures), run-sets (side t) (t .pre) r lt at (b .before .work-of .ensures) (b .keys-around .ensures))
+    let has = run-gridded (side t) (t .pre) r lt at (b .before .work-of .ensures) (b .keys-around .ensures) in
+    (has .0, has .1, run-sets (side t) (t .pre) r lt at (b .before .work-of .ensures) (b .keys-around .ensures))
+
+dues : (c : tie.After-due-work Inv-loop μ-loop) (j : ℕ) → setIn (c .due-work .result) j < 64
+dues c =
+    let b = keyed c in
+    let i = looped b in
+    let t = begun i in
+    run-dues (side t) (t .pre) (i .before .loop .inv .0) (i .loop-test .taken) (b .before .before .read-entry .ensures) (b .before .work-of .ensures) (b .keys-around .ensures) (c .due-work .ensures)
 
 has-room-requires : tie.Need-has-room-requires Inv-loop μ-loop
-has-room-requires c κs = let i = looped (keyed c) in (c .due-work .ensures .few, run-small (side (begun i)) (begun i .pre) (i .before .loop .inv .0))
+has-room-requires c κs = let i = looped (keyed c) in (dues c, run-small (side (begun i)) (begun i .pre) (i .before .loop .inv .0))
 
 returns : tie.Need-returns Inv-loop μ-loop
 returns c =
@@ -110,7 +119,7 @@ index-work-requires c κs =
     let l = i .before .loop in
     let lt = i .loop-test .taken in
     let at = b .before .before .read-entry .ensures in
-    (test .before .before .due-work .ensures .few, run-ready (side t) (t .pre) (l .inv .0) lt at (b .before .work-of .ensures) (b .keys-around .ensures) (test .before .before .due-work .ensures) (fits test) (l .steps) (l .inv .4))
+    (dues (test .before .before), run-ready (side t) (t .pre) (l .inv .0) lt at (b .before .work-of .ensures) (b .keys-around .ensures) (test .before .before .due-work .ensures) (fits test) (l .steps) (l .inv .4))
 
 slice-aggregate-replay : tie.Need-slice-aggregate-replay Inv-loop μ-loop
 slice-aggregate-replay c =
