@@ -1,7 +1,6 @@
 -- Deeds done on the index of a mesh, one after the other. Assumes nothing.
 use mathlib.Core.Path.{_≡_, refl, sym, ap, _∙_, subst}
-use mathlib.Core.Logic.{⊎-elim}
-use mathlib.Core.Bool.{Bool, true, false, cond, not}
+use mathlib.Core.Bool.{true, false, not}
 use mathlib.Core.List.{List, [], _∷_, _++_, append-assoc}
 use mathlib.Core.Option.{none, some}
 use Prim.Native.Nat.{ℕ, _+_, _*_, _/_, _≤_, _<_, max}
@@ -9,21 +8,21 @@ use native.Mathlib.Omega.{arith}
 use lib.Dec.{eqb}
 use lib.ListN.{length, getD, set, length-append, length-set}
 use lib.Seq.{getD-set-same, getD-set-other}
-use borrow.Author.Tests.{eqb-false, eq-eqb, ne-eqb, lt-ltb}
-use Rattle.rules.specs.Lists.{each, only}
+use borrow.Author.Tests.{lt-ltb}
+use Rattle.rules.specs.Lists.{each}
 use Rattle.rules.specs.Cells.{onlyIf}
-use Rattle.rules.specs.Mesh.{Quad, NONE, there, placeOf, slotOf, listsOf}
+use Rattle.rules.specs.Mesh.{Quad, NONE, slotOf, listsOf}
 use Rattle.rules.specs.Update.{step, movedIn}
 use Rattle.rules.proofs.ListLaws.{within, split, length-table, each-same, each-split}
 use Rattle.rules.proofs.Quads.{placed, moved-le}
 use Rattle.rules.proofs.Laying.{length-links}
 use Rattle.mesh_metadata.specs.Index.{Linked, vertexOf}
 use Rattle.mesh_metadata.proofs.Layouts as layouts
-use Rattle.steps.specs.Steps.{Step, gone, came, CUT, stepIn, stepAt, stepsIn, Deed, show, hide, quadBy, opOf, opsOf, stepOf}
+use Rattle.steps.specs.Steps.{Step, came, CUT, stepIn, stepAt, stepsIn, Deed, show, hide, quadBy, opOf, opsOf, stepOf}
 use Rattle.steps.proofs.Replaying.{highest-ge}
 use Rattle.steps.proofs.Turning.{Piecewise}
 use Rattle.indexing.specs.declared.Tally.{Tally}
-use Rattle.indexing.specs.Index.{Index, indexOf, slotIn, goneAt, cameAt, indexOne, indexRun, bookOf, Good, Ready, Begun, Removable, Drawable}
+use Rattle.indexing.specs.Index.{Index, indexOf, slotIn, cameAt, indexOne, indexRun, bookOf, Ready, Begun, Removable, Drawable}
 use Rattle.indexing.proofs.Booking.{there-inside, slot-place, sane-one, one-booked}
 
 pub same-index : {l l′ s s′ : List ℕ} {q q′ v v′ h h′ : ℕ} {x x′ : List Step} → l ≡ l′ → s ≡ s′ → q ≡ q′ → v ≡ v′ → h ≡ h′ → x ≡ x′

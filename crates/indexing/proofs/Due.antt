@@ -6,10 +6,10 @@ use mathlib.Core.Option.{Option, none, some}
 use Prim.Native.Nat.{ℕ, zero, suc, _+_, _*_, _/_, _%_, _≤_, _<_}
 use native.Mathlib.Omega.{arith}
 use lib.Dec.{eqb, leb}
-use lib.ListN.{length, getD, length-map}
+use lib.ListN.{length, length-map}
 use borrow.Author.Tests.{eq-eqb, ne-eqb, le-leb, lt-leb, leb-true, leb-false}
 use Rattle.rules.specs.Lists.{each, only, member, count}
-use Rattle.rules.specs.Cells.{Size, cells, has, setOf, opposite, neighbour, keyOf, quadsOf}
+use Rattle.rules.specs.Cells.{cells, has, opposite, neighbour, keyOf, quadsOf}
 use Rattle.rules.specs.Mesh.{Quad, World, NONE, there}
 use Rattle.rules.specs.Update as rule
 use Rattle.rules.specs.Update.{Entry, Op, run, ops, needed}
@@ -17,7 +17,7 @@ use Rattle.rules.proofs.ListLaws.{All, all-kept, all-each, split, each-same, co
 use Rattle.rules.proofs.Sets.{has-setOf}
 use Rattle.rules.proofs.Neighbours.{beside, opposite-lt}
 use Rattle.rules.proofs.Quads.{Once, run-once}
-use Rattle.rules.proofs.Acting.{faceOf, acts, acting, after, acting-same, acting-acts, acting-all, acting-append, acting-count, there-run, acting-sides}
+use Rattle.rules.proofs.Acting.{faceOf, acts, acting, acting-same, acting-acts, acting-all, acting-append, acting-count, there-run, acting-sides}
 use Rattle.rules.proofs.Acting as acting
 use Rattle.util.specs.Grid.{Within}
 use Rattle.steps.specs.Steps.{opOf, opsOf}
@@ -25,7 +25,7 @@ use Rattle.works.specs.declared.Work.{Work}
 use Rattle.works.specs.Sets.{setIn, keyOr, keysAround, keyMet, cutting, typeAt, deedBy, deedAt, deeds, quadIn}
 use Rattle.works.proofs.Works.{facing, own-key, near-key, near-all}
 use Rattle.works.proofs.Meant.{map-each, spotIn, opAt, opsAt, partOps, Means, parts-ops, needed-parts}
-use Rattle.indexing.specs.Due.{isEmpty, isMet, dueAt, dueOf, fitsIn}
+use Rattle.indexing.specs.Due.{isEmpty, dueAt, dueOf, fitsIn}
 
 all-map : {A B : Type 0} (P : B → Type 0) (g : A → B) (xs : List A) → All (λ x. P (g x)) xs → All P (map g xs)
 all-map P g [] a = tt
@@ -208,8 +208,9 @@ module _ (W : World) (e : Entry) (grid : Within (W .size)) (inside : e .cell < c
         (ap not (seen-far (w .shown) 1 k (λ g b. own-far f g l b) (before 1) (once-at 1) ∙ seen-at (w .own) 0 f k l refl m once ∙ ap (cond (has (w .own) f) false) (sees k (omega arith)))
         ∙ gone (has (w .own) f) (isEmpty slots k)) refl
       where
-        gone : (x y : Bool) → not (cond x false (not y)) ≡ (x || y)
-        gone true y = refl
+        gone : (x y : Bool) → not (cond x false (not y)) ≡ ((x && not y) || y)
+        gone true true = refl
+        gone true false = refl
         gone false true = refl
         gone false false = refl
     due-at (suc (suc (suc zero))) f _ l = go (neighbour (W .size) (e .cell) f) refl

@@ -18,15 +18,19 @@ isEmpty slots k = eqb (getD slots k NONE) NONE
 abbrev pub isMet : List ℕ → ℕ → Bool
 isMet keys f = not (eqb (keyMet keys 1 f) NONE)
 
--- a facing side that comes
+-- of a work w at cell c: an own quad that is there goes
+abbrev pub goes : List ℕ → ℕ → Work → ℕ → Bool
+goes slots c w f = has (w .own) f && not (isEmpty slots (keyOf c f))
+
+-- a facing side that is not there comes
 abbrev pub comes : List ℕ → List ℕ → Work → ℕ → Bool
 comes slots keys w f = has (w .shown) f && (isEmpty slots (keyMet keys 1 f) && isMet keys f)
 
--- of a work w at cell c: an own quad that is there goes; a facing side is drawn that is not there; an own one that is not, or has gone; a facing one goes that is there, or has come
+-- an own side is drawn that has gone, or is not there; a facing one goes that is there, or has come
 abbrev pub dueAt : List ℕ → List ℕ → ℕ → Work → ℕ → ℕ → Bool
-dueAt slots keys c w zero f = has (w .own) f && not (isEmpty slots (keyOf c f))
+dueAt slots keys c w zero f = goes slots c w f
 dueAt slots keys c w (suc zero) f = comes slots keys w f
-dueAt slots keys c w (suc (suc zero)) f = has (w .drawn) f && (has (w .own) f || isEmpty slots (keyOf c f))
+dueAt slots keys c w (suc (suc zero)) f = has (w .drawn) f && (goes slots c w f || isEmpty slots (keyOf c f))
 dueAt slots keys c w (suc (suc (suc j))) f = has (w .hidden) f && (not (isEmpty slots (keyMet keys 1 f)) || comes slots keys w f)
 
 abbrev pub dueOf : List ℕ → List ℕ → ℕ → Work → Work

@@ -250,16 +250,17 @@ fn met_sides(keys: &[u32; 12]) -> u8
 
 // What of a work changes something. The slots are looked at once, so that its parts need not ask.
 pub fn due_work(slots: &[u32], keys: &[u32; 12], cell: Cell, work: Work) -> Work
-    requires { ⌜ Gridded (now keys) (now slots) × (6 * cell .0 + 6 ≤ length (now slots)) × ((j : ℕ) → setIn work j < 64) ⌝ }
+    requires { ⌜ Gridded (now keys) (now slots) × (6 * cell .0 + 6 ≤ length (now slots)) ⌝ }
     ensures { λ r. ⌜ r ≡ dueOf (now (slots .entry)) (now (keys .entry)) (cell .0) work ⌝ }
 {
     let empty = empty_sides(slots, cell);
     let bare = bare_sides(slots, keys);
+    let own = work.own & (63 - empty);
     let shown = work.shown & bare & met_sides(keys);
     Work {
-        own: work.own & (63 - empty),
+        own: own,
         shown: shown,
-        drawn: work.drawn & (work.own | empty),
+        drawn: work.drawn & (own | empty),
         hidden: work.hidden & ((63 - bare) | shown),
     }
 }

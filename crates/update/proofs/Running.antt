@@ -28,7 +28,7 @@ use Rattle.steps.specs.Rows.{wordsBy, Drawn, Replaying}
 use Rattle.works.specs.declared.Work.{Work}
 use Rattle.works.specs.Sets.{meant, setIn, keyOr, keysAround, keyMet, deeds, Cubes}
 use Rattle.works.proofs.Works.{near-key}
-use Rattle.works.proofs.Meant.{Means, meant-work, meant-cubes, meant-few}
+use Rattle.works.proofs.Meant.{Means, meant-work, meant-cubes}
 use Rattle.indexing.specs.Index.{Index, indexRun, bookOf, Good, Ground, Ready, Begun}
 use Rattle.indexing.specs.Due.{isEmpty, dueOf, fitsIn, Gridded}
 use Rattle.indexing.proofs.Sets.{all-few, due-few, due-cubes}
@@ -61,6 +61,14 @@ pub record Running (tested : Tested) (S : Scene) (room : ℕ) (log vs₀ ls₀ :
   pub left : courseFrom room (λ j. work tested (world S) (entryAt log j)) k (length log / 12 - k) mesh v h ≡ courseIn tested S room log vs₀ ls₀ Q
   pub holds : Holds S room vs₀ ls₀ mesh h vs ls ss q
   pub moves : v ≤ 60 * k
+
+-- what the code has found of entry k: its sets, the keys around its cell, and what of it is due by the slots
+pub record Found (tested : Tested) (S : Scene) (log ss : List ℕ) (k : ℕ) (e : Entry) (w : Work) (ks : List ℕ) (d : Work) : Type 0 where
+  pub next : k < length log / 12
+  pub entry : e ≡ entryAt log k
+  pub sets : w ≡ meant tested (world S) e
+  pub keys : ks ≡ keysAround (S .size) (e .cell)
+  pub due : d ≡ dueOf ss ks (e .cell) w
 
 module _ (tested : Tested) {S : Scene} {room : ℕ} {log vs₀ ls₀ ss₀ : List ℕ} {Q : ℕ} (g : Logging S room log vs₀ ls₀ ss₀ Q) where
   abbrev works : ℕ → rule.Work
@@ -105,198 +113,191 @@ module _ (tested : Tested) {S : Scene} {room : ℕ} {log vs₀ ls₀ ss₀ : Lis
     told : (j : ℕ) → j < faces S → isEmpty ss j ≡ not (there j m)
     told j l = ap (λ (xs : List ℕ). isEmpty xs j) (r .holds .slots) ∙ slot-none ground m h sane j l
 
-    module _ (lt : k < length log / 12) {e : Entry} (at : e ≡ entryAt log k) where
-      pub run-inside : e .cell < cells (S .size)
-      run-inside = subst (λ (x : Entry). x .cell < cells (S .size)) (sym at) (g .inside k lt)
+    course-on : needed (works k) m ≤ room → k < length log / 12 → courseFrom room works k (length log / 12 - k) m v h
+        ≡ courseFrom room works (k + 1) (length log / 12 - (k + 1)) (run (ops (works k)) m) (v + moves (ops (works k)) m) (highest h (ops (works k)) m)
+    unfolding courseFrom
+    course-on fit lt =
+        let a : length log / 12 - k ≡ suc (length log / 12 - (k + 1)) = omega arith in
+        let b : suc k ≡ k + 1 = omega arith in
+        rw (a, le-leb (needed (works k) m) room fit, b)
+
+    -- ---- an entry that finds no room
+    pub run-full : k < length log / 12 → room < needed (works k) m → record { full = some k; quads = m; moved = v; highest = h } ≡ courseIn tested S room log vs₀ ls₀ Q
+    unfolding courseFrom
+    run-full lt over =
+        let a : length log / 12 - k ≡ suc (length log / 12 - (k + 1)) = omega arith in
+        let stop : courseFrom room works k (length log / 12 - k) m v h ≡ record { full = some k; quads = m; moved = v; highest = h } = rw (a, lt-leb (needed (works k) m) room over) in
+        sym stop ∙ r .left
+
+    pub run-inside : {e : Entry} → k < length log / 12 → e ≡ entryAt log k → e .cell < cells (S .size)
+    run-inside lt at = subst (λ (x : Entry). x .cell < cells (S .size)) (sym at) (g .inside k lt)
+
+    pub run-gridded : {e : Entry} {ks : List ℕ} → k < length log / 12 → e ≡ entryAt log k → ks ≡ keysAround (S .size) (e .cell) → Gridded ks ss × (6 * e .cell + 6 ≤ length ss)
+    run-gridded {e} lt at ks-are =
+        let z = length-slots in
+        let s = grid-small in
+        let c = run-inside lt at in (
+          record { small = omega arith; near = λ f l. subst (λ (k : ℕ). (k ≡ NONE → ⊥) → k < length ss) (sym (ap (λ (x : List ℕ). keyMet x 1 f) ks-are ∙ near-key (S .size) (e .cell) 1 f refl l)) (near f l (neighbour (S .size) (e .cell) f) refl) },
+          omega arith,
+        )
+      where
+        near : (f : ℕ) → f < 6 → (o : Option ℕ) → neighbour (S .size) (e .cell) f ≡ o → (keyOr f o ≡ NONE → ⊥) → keyOr f o < length ss
+        near f l none q d = absurd (d refl)
+        near f l (some n) q d = let i = beside (S .size) (g .within .sides .wide) (g .within .sides .long) (e .cell) (run-inside lt at) f n q .inside in omega (arith, length-slots, opposite-lt f l)
+
+    module _ {e : Entry} {w : Work} {ks : List ℕ} {d : Work} (f : Found tested S log ss k e w ks d) where
+      inside : e .cell < cells (S .size)
+      inside = run-inside (f .next) (f .entry)
 
       fits : All (Fits (faces S) (span S)) ((works k) .new)
-      fits = fits-new (world S) sound (span S) (words-sized S) tested (entryAt log k) (g .inside k lt) ((entryAt log k) .change)
+      fits = fits-new (world S) sound (span S) (words-sized S) tested (entryAt log k) (g .inside k (f .next)) ((entryAt log k) .change)
 
-      course-on : needed (works k) m ≤ room → courseFrom room works k (length log / 12 - k) m v h
-          ≡ courseFrom room works (k + 1) (length log / 12 - (k + 1)) (run (ops (works k)) m) (v + moves (ops (works k)) m) (highest h (ops (works k)) m)
-      unfolding courseFrom
-      course-on fit =
-          let a : length log / 12 - k ≡ suc (length log / 12 - (k + 1)) = omega arith in
-          let b : suc k ≡ k + 1 = omega arith in
-          rw (a, le-leb (needed (works k) m) room fit, b)
+      means : Means (world S) e w (works k)
+      means = subst (λ (x : Work × Entry). Means (world S) e (x .0) (work tested (world S) (x .1))) (λ i. (sym (f .sets) i, f .entry i)) (meant-work (world S) e tested)
 
-      course-stop : room < needed (works k) m → courseFrom room works k (length log / 12 - k) m v h ≡ record { full = some k; quads = m; moved = v; highest = h }
-      unfolding courseFrom
-      course-stop over =
-          let a : length log / 12 - k ≡ suc (length log / 12 - (k + 1)) = omega arith in
-          rw (a, lt-leb (needed (works k) m) room over)
+      around : d ≡ dueOf ss (keysAround (S .size) (e .cell)) (e .cell) w
+      around = f .due ∙ ap (λ (x : List ℕ). dueOf ss x (e .cell) w) (f .keys)
 
-      -- ---- the entry's sets, and the keys around its cell
-      module _ {w : Work} {ks : List ℕ} (w-is : w ≡ meant tested (world S) e) (ks-are : ks ≡ keysAround (S .size) (e .cell)) where
-        means : Means (world S) e w (works k)
-        means = subst (λ (x : Work × Entry). Means (world S) e (x .0) (work tested (world S) (x .1))) (λ i. (sym w-is i, at i)) (meant-work (world S) e tested)
+      no-face : isEmpty ss NONE ≡ true
+      no-face = eq-eqb (getD ss NONE NONE) NONE (List·getD-eq-default ss NONE (omega (arith, length-slots, grid-small)))
 
-        pub run-sets : (j : ℕ) → setIn w j < 64
-        run-sets j = subst (λ (x : Work). setIn x j < 64) (sym w-is) (meant-few (world S) e tested j)
+      pub run-dues : (j : ℕ) → setIn d j < 64
+      run-dues j = subst (λ (x : Work). setIn x j < 64) (sym (f .due)) (due-few ss ks (e .cell) w j)
 
-        pub run-gridded : Gridded ks ss × (6 * e .cell + 6 ≤ length ss)
-        run-gridded =
-            let z = length-slots in
-            let s = grid-small in
-            let c = run-inside in
-            let most = g .within .most in (
-              record { small = omega arith; near = λ f l. subst (λ (k : ℕ). (k ≡ NONE → ⊥) → k < length ss) (sym (ap (λ (x : List ℕ). keyMet x 1 f) ks-are ∙ near-key (S .size) (e .cell) 1 f refl l)) (near f l (neighbour (S .size) (e .cell) f) refl) },
-              omega arith,
-            )
+      pub run-room : fitsIn d q room ≡ leb (needed (works k) m) room
+      run-room = let n = r .holds .count in (λ i. fitsIn (around i) (n i) room) ∙ room-told (world S) e (g .within) inside m (sane .once) w ss told no-face means room
+
+      -- ---- an entry that finds its room
+      module _ (fit : needed (works k) m ≤ room) (xs : List ℕ) (long : length xs ≡ 48) where
+        abbrev ds : List Deed
+        ds = deeds ks e d
+
+        abbrev os : List Op
+        os = opsOf (quadBy (wordsBy (bare S))) ds
+
+        acting-now : os ≡ acting (ops (works k)) m
+        acting-now = (λ i. opsOf (quadBy (wordsBy (bare S))) (deeds (f .keys i) e (around i))) ∙ due-ops (world S) e (g .within) inside m (sane .once) w ss told no-face means
+
+        good : All (Good (faces S) (span S)) os
+        unfolding ops
+        good =
+            subst (All (Good (faces S) (span S))) (sym acting-now) (acting-all (Good (faces S) (span S)) (ops (works k)) m
+            (all-append (Good (faces S) (span S)) (cuts ((works k) .own)) _ (all-cuts ((works k) .own)) (all-append (Good (faces S) (span S)) (puts ((works k) .new)) (cuts ((works k) .facing)) (all-puts ((works k) .new) fits) (all-cuts ((works k) .facing)))))
           where
-            near : (f : ℕ) → f < 6 → (o : Option ℕ) → neighbour (S .size) (e .cell) f ≡ o → (keyOr f o ≡ NONE → ⊥) → keyOr f o < length ss
-            near f l none q d = absurd (d refl)
-            near f l (some n) q d = let i = beside (S .size) (g .within .sides .wide) (g .within .sides .long) (e .cell) run-inside f n q .inside in omega (arith, length-slots, opposite-lt f l)
+            all-cuts : (js : List ℕ) → All (Good (faces S) (span S)) (cuts js)
+            all-cuts [] = tt
+            all-cuts (j ∷ js) = (tt, all-cuts js)
 
-        -- ---- what of it changes something
-        module _ {d : Work} (d-is : d ≡ dueOf ss ks (e .cell) w) where
-          around : d ≡ dueOf ss (keysAround (S .size) (e .cell)) (e .cell) w
-          around = d-is ∙ ap (λ (x : List ℕ). dueOf ss x (e .cell) w) ks-are
+            all-puts : (qs : List Quad) → All (Fits (faces S) (span S)) qs → All (Good (faces S) (span S)) (puts qs)
+            all-puts [] a = tt
+            all-puts (x ∷ qs) a = (a .0, all-puts qs (a .1))
 
-          no-face : isEmpty ss NONE ≡ true
-          no-face = eq-eqb (getD ss NONE NONE) NONE (List·getD-eq-default ss NONE (omega (arith, length-slots, grid-small)))
+        acts-now : Acts os m
+        acts-now = subst (λ (x : List Op). Acts x m) (sym acting-now) (acting-acts (ops (works k)) m)
 
-          pub run-dues : (j : ℕ) → setIn d j < 64
-          run-dues j = subst (λ (x : Work). setIn x j < 64) (sym d-is) (due-few ss ks (e .cell) w j)
+        able : All (Able (Drawn (bare S))) ds
+        able =
+            let c = subst (Cubes (S .types .kinds) e) (sym (f .sets)) (meant-cubes (world S) e tested) in
+            deeds-able S (g .typed) ks e d (subst (Cubes (S .types .kinds) e) (sym (f .due)) (due-cubes (S .types .kinds) ss ks (e .cell) e w c)) good
 
-          pub run-room : fitsIn d q room ≡ leb (needed (works k) m) room
-          run-room = let n = r .holds .count in (λ i. fitsIn (around i) (n i) room) ∙ room-told (world S) e (g .within) run-inside m (sane .once) w ss told no-face means room
+        same : after h m os ≡ after h m (ops (works k))
+        same = ap (after h m) acting-now ∙ acting-same (ops (works k)) h m (sane .reached)
 
-          -- ---- an entry that finds its room
-          module _ (fit : needed (works k) m ≤ room) (xs : List ℕ) (long : length xs ≡ 48) where
-            abbrev ds : List Deed
-            ds = deeds ks e d
+        fits-deeds : highest h os m ≤ room
+        fits-deeds = let e = ap (λ (x : ℕ × ℕ × List Quad). x .0) same in let t = highest-needed (works k) h m (sane .reached) in let b = sane .within in omega arith
 
-            abbrev os : List Op
-            os = opsOf (quadBy (wordsBy (bare S))) ds
+        index : indexAt ls ss q v h xs ≡ bookOf (faces S) h m ls₀ v (stepsIn 0 xs)
+        index = let a = r .holds .links in let b = r .holds .slots in let c = r .holds .count in λ i. record { links = a i; slots = b i; quads = c i; moved = v; top = h; steps = stepsIn 0 xs }
 
-            acting-now : os ≡ acting (ops (works k)) m
-            acting-now = (λ i. opsOf (quadBy (wordsBy (bare S))) (deeds (ks-are i) e (around i))) ∙ due-ops (world S) e (g .within) run-inside m (sane .once) w ss told no-face means
+        ready : Ready (length xs) ds (indexAt ls ss q v h xs)
+        unfolding each
+        ready =
+            let few = g .few in
+            let mv = r .moves in
+            let a = all-few ks e d in
+            record {
+              ground = ground;
+              top = h;
+              mesh = m;
+              sane = sane;
+              is = index;
+              good = good;
+              acts = acts-now;
+              fits = fits-deeds;
+              moves = omega arith;
+              steps = omega arith;
+            }
 
-            good : All (Good (faces S) (span S)) os
-            unfolding ops
-            good =
-                subst (All (Good (faces S) (span S))) (sym acting-now) (acting-all (Good (faces S) (span S)) (ops (works k)) m
-                (all-append (Good (faces S) (span S)) (cuts ((works k) .own)) _ (all-cuts ((works k) .own)) (all-append (Good (faces S) (span S)) (puts ((works k) .new)) (cuts ((works k) .facing)) (all-puts ((works k) .new) fits) (all-cuts ((works k) .facing)))))
-              where
-                all-cuts : (js : List ℕ) → All (Good (faces S) (span S)) (cuts js)
-                all-cuts [] = tt
-                all-cuts (j ∷ js) = (tt, all-cuts js)
+        pub run-ready : Begun (length xs) ds (indexAt ls ss q v h xs)
+        run-ready = ([], subst (λ (x : List Deed). Ready (length xs) x (indexAt ls ss q v h xs)) (sym (append-nil ds)) ready)
 
-                all-puts : (qs : List Quad) → All (Fits (faces S) (span S)) qs → All (Good (faces S) (span S)) (puts qs)
-                all-puts [] a = tt
-                all-puts (x ∷ qs) a = (a .0, all-puts qs (a .1))
+        abbrev done : Index
+        done = indexRun ds (indexAt ls ss q v h xs)
 
-            acts-now : Acts os m
-            acts-now = subst (λ (x : List Op). Acts x m) (sym acting-now) (acting-acts (ops (works k)) m)
+        abbrev steps : List Step
+        steps = stepsOf (quadBy (wordsBy (bare S))) ds m
 
-            able : All (Able (Drawn (bare S))) ds
-            able =
-                let c = subst (Cubes (S .types .kinds) e) (sym w-is) (meant-cubes (world S) e tested) in
-                deeds-able S (g .typed) ks e d (subst (Cubes (S .types .kinds) e) (sym d-is) (due-cubes (S .types .kinds) ss ks (e .cell) e w c)) good
+        ran : done ≡ bookOf (faces S) (highest h (ops (works k)) m) (run (ops (works k)) m) ls₀ (v + moves (ops (works k)) m) steps
+        unfolding each
+        ran =
+            ap (indexRun ds) index
+            ∙ run-booked ground ds m h v [] good acts-now sane fits-deeds
+            ∙ ap (λ (x : ℕ × ℕ × List Quad). bookOf (faces S) (x .0) (x .2) ls₀ (v + x .1) steps) same
 
-            same : after h m os ≡ after h m (ops (works k))
-            same = ap (after h m) acting-now ∙ acting-same (ops (works k)) h m (sane .reached)
+        steps-are : done .steps ≡ steps
+        steps-are = ap (λ (I : Index). I .steps) ran
 
-            fits-deeds : highest h os m ≤ room
-            fits-deeds = let e = ap (λ (x : ℕ × ℕ × List Quad). x .0) same in let t = highest-needed (works k) h m (sane .reached) in let b = sane .within in omega arith
+        pub run-few : 2 * length (done .steps) ≤ length xs
+        run-few = let z = ready-rest ds (run-ready .0) _ (run-ready .1) .steps in omega arith
 
-            index : indexAt ls ss q v h xs ≡ bookOf (faces S) h m ls₀ v (stepsIn 0 xs)
-            index = let a = r .holds .links in let b = r .holds .slots in let c = r .holds .count in λ i. record { links = a i; slots = b i; quads = c i; moved = v; top = h; steps = stepsIn 0 xs }
+        replayed-now : Can (Drawn (bare S)) room steps (length m) × (replayed (span S) (wordsBy (bare S)) steps (shelf (laid (span S) (λ q x. x .words) h m vs₀) (length m))
+            ≡ shelf (laid (span S) (λ q x. x .words) (highest h os m) (run os m) vs₀) (length (run os m)))
+        replayed-now =
+            replay-run (span S) (λ x. x .words) (wordsBy (bare S)) (Drawn (bare S)) (λ n t d. words-sized S t (n % 6) (n / 6)) room vs₀ (g .rows) ds m h
+            (all-kept (λ x f i. f .1) m (sane .fits)) able (sane .reached) acts-now fits-deeds
 
-            ready : Ready (length xs) ds (indexAt ls ss q v h xs)
-            unfolding each
-            ready =
-                let few = g .few in
-                let mv = r .moves in
-                let a = all-few ks e d in
-                record {
-                  ground = ground;
-                  top = h;
-                  mesh = m;
-                  sane = sane;
-                  is = index;
-                  good = good;
-                  acts = acts-now;
-                  fits = fits-deeds;
-                  moves = omega arith;
-                  steps = omega arith;
-                }
+        pub run-replaying : length vs ≡ length vs₀ → Replaying (bare S) (done .steps) (shelf vs q)
+        run-replaying kept =
+            let c = r .holds .count in
+            let l = sane .reached in
+            let b = sane .within in
+            let y = g .rows in
+            record {
+              room = room;
+              within = g .within;
+              fits = omega arith;
+              here = omega arith;
+              can = subst (Can (Drawn (bare S)) room (done .steps)) (sym c)
+                  (subst (λ (ys : List Step). Can (Drawn (bare S)) room ys (length m)) (sym steps-are) (replayed-now .0));
+            }
 
-            pub run-ready : Begun (length xs) ds (indexAt ls ss q v h xs)
-            run-ready = ([], subst (λ (x : List Deed). Ready (length xs) x (indexAt ls ss q v h xs)) (sym (append-nil ds)) ready)
-
-            abbrev done : Index
-            done = indexRun ds (indexAt ls ss q v h xs)
-
-            abbrev steps : List Step
-            steps = stepsOf (quadBy (wordsBy (bare S))) ds m
-
-            ran : done ≡ bookOf (faces S) (highest h (ops (works k)) m) (run (ops (works k)) m) ls₀ (v + moves (ops (works k)) m) steps
-            unfolding each
-            ran =
-                ap (indexRun ds) index
-                ∙ run-booked ground ds m h v [] good acts-now sane fits-deeds
-                ∙ ap (λ (x : ℕ × ℕ × List Quad). bookOf (faces S) (x .0) (x .2) ls₀ (v + x .1) steps) same
-
-            steps-are : done .steps ≡ steps
-            steps-are = ap (λ (I : Index). I .steps) ran
-
-            pub run-few : 2 * length (done .steps) ≤ length xs
-            run-few = let z = ready-rest ds (run-ready .0) _ (run-ready .1) .steps in omega arith
-
-            replayed-now : Can (Drawn (bare S)) room steps (length m) × (replayed (span S) (wordsBy (bare S)) steps (shelf (laid (span S) (λ q x. x .words) h m vs₀) (length m))
-                ≡ shelf (laid (span S) (λ q x. x .words) (highest h os m) (run os m) vs₀) (length (run os m)))
-            replayed-now =
-                replay-run (span S) (λ x. x .words) (wordsBy (bare S)) (Drawn (bare S)) (λ n t d. words-sized S t (n % 6) (n / 6)) room vs₀ (g .rows) ds m h
-                (all-kept (λ x f i. f .1) m (sane .fits)) able (sane .reached) acts-now fits-deeds
-
-            pub run-replaying : length vs ≡ length vs₀ → Replaying (bare S) (done .steps) (shelf vs q)
-            run-replaying kept =
-                let c = r .holds .count in
-                let l = sane .reached in
-                let b = sane .within in
-                let y = g .rows in
-                record {
-                  room = room;
-                  within = g .within;
-                  fits = omega arith;
-                  here = omega arith;
-                  can = subst (Can (Drawn (bare S)) room (done .steps)) (sym c)
-                      (subst (λ (ys : List Step). Can (Drawn (bare S)) room ys (length m)) (sym steps-are) (replayed-now .0));
-                }
-
-            -- what the entry leaves
-            pub run-on : {vs′ : List ℕ} {c : ℕ} {ls′ ss′ : List ℕ} {q′ v′ h′ : ℕ} {ys : List Step}
-                → record { links = ls′; slots = ss′; quads = q′; moved = v′; top = h′; steps = ys } ≡ done
-                → shelf vs′ c ≡ replayed (span S) (wordsBy (bare S)) (done .steps) (shelf vs q)
-                → Running tested S room log vs₀ ls₀ Q (k + 1) h′ vs′ ls′ ss′ q′ v′
-            run-on {vs′} i s =
-                let after : List Quad = run (ops (works k)) m in
-                let rows = s
-                ∙ (λ j. replayed (span S) (wordsBy (bare S)) (steps-are j) (shelf (r .holds .vertices j) (r .holds .count j)))
-                ∙ replayed-now .1
-                ∙ ap (λ (x : ℕ × ℕ × List Quad). shelf (laid (span S) (λ q x. x .words) (x .0) (x .2) vs₀) (length (x .2))) same in
-                let few = entry-moves tested (world S) (entryAt log k) m in
-                let old = r .moves in
-                subst (λ (I : Index). Running tested S room log vs₀ ls₀ Q (k + 1) (I .top) vs′ (I .links) (I .slots) (I .quads) (I .moved)) (sym (i ∙ ran))
-                (record {
-                  mesh = after;
-                  below = omega arith;
-                  left = sym (course-on fit) ∙ r .left;
-                  holds = record {
-                    sane = sane-step (faces S) (span S) room (works k) m h sane fits fit;
-                    count = refl;
-                    vertices = ap (λ (x : Shelf). x .words) rows;
-                    links = refl;
-                    slots = refl;
-                  };
-                  moves = omega arith;
-                })
-
-      -- ---- an entry that finds none
-      pub run-full : room < needed (works k) m → record { full = some k; quads = m; moved = v; highest = h } ≡ courseIn tested S room log vs₀ ls₀ Q
-      run-full over = sym (course-stop over) ∙ r .left
+        -- what the entry leaves
+        pub run-on : {vs′ : List ℕ} {c : ℕ} {ls′ ss′ : List ℕ} {q′ v′ h′ : ℕ} {ys : List Step}
+            → record { links = ls′; slots = ss′; quads = q′; moved = v′; top = h′; steps = ys } ≡ done
+            → shelf vs′ c ≡ replayed (span S) (wordsBy (bare S)) (done .steps) (shelf vs q)
+            → Running tested S room log vs₀ ls₀ Q (k + 1) h′ vs′ ls′ ss′ q′ v′
+        run-on {vs′} i s =
+            let after : List Quad = run (ops (works k)) m in
+            let rows = s
+            ∙ (λ j. replayed (span S) (wordsBy (bare S)) (steps-are j) (shelf (r .holds .vertices j) (r .holds .count j)))
+            ∙ replayed-now .1
+            ∙ ap (λ (x : ℕ × ℕ × List Quad). shelf (laid (span S) (λ q x. x .words) (x .0) (x .2) vs₀) (length (x .2))) same in
+            let few = entry-moves tested (world S) (entryAt log k) m in
+            let old = r .moves in
+            subst (λ (I : Index). Running tested S room log vs₀ ls₀ Q (k + 1) (I .top) vs′ (I .links) (I .slots) (I .quads) (I .moved)) (sym (i ∙ ran))
+            (record {
+              mesh = after;
+              below = omega arith;
+              left = sym (course-on fit (f .next)) ∙ r .left;
+              holds = record {
+                sane = sane-step (faces S) (span S) room (works k) m h sane fits fit;
+                count = refl;
+                vertices = ap (λ (x : Shelf). x .words) rows;
+                links = refl;
+                slots = refl;
+              };
+              moves = omega arith;
+            })
 
     pub run-through : length log / 12 ≤ k → record { full = none; quads = m; moved = v; highest = h } ≡ courseIn tested S room log vs₀ ls₀ Q
     unfolding courseFrom

@@ -12,13 +12,13 @@ use Rattle.rules.specs.Cells.{Size, opposite, neighbour, keyOf, has, setOf}
 use Rattle.rules.specs.Mesh.{Quad, World, isNormalCube, covering, quadOf}
 use Rattle.rules.specs.Update as rule
 use Rattle.rules.specs.Update.{Entry, Change, Tested, Broken, Added, CullFaces, AddFaces, Op, put, cut, run, cuts, puts, ops, needed, givenAt, sides, quads, all, isOpen, withGiven, reveal, nothing, added, workBy, work}
-use Rattle.rules.proofs.Sets.{has-setOf, setOf-lt}
+use Rattle.rules.proofs.Sets.{has-setOf}
 use Rattle.rules.proofs.Neighbours.{opposite-lt}
 use Rattle.rules.proofs.ListLaws.{split, and-true, each-same}
 use Rattle.rules.proofs.Quads.{run-append}
 use Rattle.steps.specs.Steps.{opOf}
 use Rattle.works.specs.declared.Work.{Work}
-use Rattle.works.specs.Sets.{typesBy, sets, noWork, isShown, meantBy, meant, setIn, cutting, typeAt, deedBy, quadIn, Cubes}
+use Rattle.works.specs.Sets.{typesBy, sets, noWork, isShown, meantBy, meant, cutting, typeAt, deedBy, quadIn, Cubes}
 use Rattle.works.proofs.Works.{facing}
 
 -- ---- lists made face by face
@@ -161,23 +161,3 @@ module _ (W : World) (e : Entry) where
       go Added = own-drawn 63 _ _
       go CullFaces = idle-cubes
       go AddFaces = own-drawn 0 _ 0
-
-  -- LAW: they are sets of six sides
-  pub meant-few : (tested : Tested) (j : ℕ) → setIn (meant tested W e) j < 64
-  meant-few tested j = go (e .change)
-    where
-      four : {a b c d : ℕ} → a < 64 → b < 64 → c < 64 → d < 64 → (j : ℕ) → setIn (sets a b c d) j < 64
-      four a b c d zero = a
-      four a b c d (suc zero) = b
-      four a b c d (suc (suc zero)) = c
-      four a b c d (suc (suc (suc j))) = d
-
-      one : (w : Work) (b : Bool) → setIn w j < 64 → setIn (cond b w noWork) j < 64
-      one w true h = h
-      one w false h = four (omega arith) (omega arith) (omega arith) (omega arith) j
-
-      go : (k : Change) → setIn (meantBy tested (typesBy (W .kinds) (W .covers)) e k) j < 64
-      go Broken = four (omega arith) (setOf-lt (isShown (W .kinds) (getD (W .covers) (e .type) 0) e)) (omega arith) (omega arith) j
-      go Added = one _ (isNormalCube W (e .type)) (four (omega arith) (omega arith) (setOf-lt (isOpen W e)) (setOf-lt (λ i. covering W (e .type) (tested i))) j)
-      go CullFaces = four (setOf-lt (withGiven e)) (omega arith) (omega arith) (omega arith) j
-      go AddFaces = one _ (isNormalCube W (e .type)) (four (omega arith) (omega arith) (setOf-lt (withGiven e)) (omega arith) j)

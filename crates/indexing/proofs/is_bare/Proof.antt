@@ -1,7 +1,6 @@
 -- `indexing::is_bare` meets its contract: VIVI tells it. Assumes nothing.
-use mathlib.Core.Path.{_≡_, sym, ap, _∙_}
+use mathlib.Core.Path.{sym, ap, _∙_}
 use native.Mathlib.Omega.{arith}
-use lib.Dec.{eqb}
 use lib.ListN.{getD, List·getD-eq-default}
 use borrow.Author.Tests.{eq-eqb}
 use Rattle.rules.specs.Mesh.{NONE}

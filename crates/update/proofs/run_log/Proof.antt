@@ -13,10 +13,11 @@ use Rattle.terms.specs.Modes.{testedBy}
 use Rattle.terms.specs.Scenes.{sceneOf}
 use Rattle.steps.specs.Steps.{Step, shelf, stepAt, replayed}
 use Rattle.steps.specs.Rows.{wordsBy, Replaying}
+use Rattle.entries.specs.Log.{entryIn}
 use Rattle.works.specs.Sets.{setIn}
 use Rattle.indexing.specs.Index.{Index}
 use Rattle.update.proofs.Drawing.{bare}
-use Rattle.update.proofs.Running.{Running, run-start, run-inside, run-sets, run-gridded, run-dues, run-small, run-room, run-ready, run-few, run-replaying, run-on, run-full, run-through, run-ended}
+use Rattle.update.proofs.Running.{Running, Found, run-start, run-inside, run-gridded, run-dues, run-small, run-room, run-ready, run-few, run-replaying, run-on, run-full, run-through, run-ended}
 use borrow.Author.Needs.{needs}
 use Rattle.update.proofs.run_log.Statement.{statement}
 use Rattle.update.proofs.run_log.Tie as tie
@@ -49,14 +50,28 @@ works c = let t = begun (looped c) in work (side t) (world (scene-of t)) (entryA
 abbrev keyed : tie.After-due-work Inv-loop μ-loop → tie.After-keys-around Inv-loop μ-loop
 keyed c = c .before .before .before
 
--- what it needs, as the rule has it
-asked : (c : tie.After-has-room Inv-loop μ-loop) → let b = keyed (c .before) in c .has-room .result ≡ leb (needed (works b) (looped b .before .loop .inv .0 .mesh)) (begun (looped b) .args .task .room)
-asked c =
-    let b = keyed (c .before) in
+abbrev room : tie.After-due-work Inv-loop μ-loop → ℕ
+room c = begun (looped (keyed c)) .args .task .room
+
+abbrev needs-now : tie.After-due-work Inv-loop μ-loop → ℕ
+needs-now c = needed (works (keyed c)) (looped (keyed c) .before .loop .inv .0 .mesh)
+
+-- what is found of it
+found : (c : tie.After-due-work Inv-loop μ-loop) →
+    let b = keyed c in
     let i = looped b in
     let t = begun i in
-    c .has-room .ensures
-    ∙ run-room (side t) (t .pre) (i .before .loop .inv .0) (i .loop-test .taken) (b .before .before .read-entry .ensures) (b .before .work-of .ensures) (b .keys-around .ensures) (c .before .due-work .ensures)
+    Found (side t) (scene-of t) (t .args .log .now) (i .before .loop .slots) (i .before .loop .k) (entryIn (b .before .before .read-entry .result)) (b .before .work-of .result) (b .keys-around .result) (c .due-work .result)
+found c =
+    let b = keyed c in
+    record { next = looped b .loop-test .taken; entry = b .before .before .read-entry .ensures; sets = b .before .work-of .ensures; keys = b .keys-around .ensures; due = c .due-work .ensures }
+
+-- what it needs, as the rule has it
+asked : (c : tie.After-has-room Inv-loop μ-loop) → c .has-room .result ≡ leb (needs-now (c .before)) (room (c .before))
+asked c =
+    let i = looped (keyed (c .before)) in
+    let t = begun i in
+    c .has-room .ensures ∙ run-room (side t) (t .pre) (i .before .loop .inv .0) (found (c .before))
 
 inverted-requires : tie.Need-inverted-requires Inv-loop μ-loop
 inverted-requires c κs = c .before .before .before .before .before .before .before .before .pre .within .sides
@@ -78,33 +93,23 @@ due-work-requires c κs =
     let b = c .before .before in
     let i = looped b in
     let t = begun i in
-    let r = i .before .loop .inv .0 in
-    let lt = i .loop-test .taken in
-    let at = b .before .before .read-entry .ensures in
-    let has = run-gridded (side t) (t .pre) r lt at (b .before .work-of .ensures) (b .keys-around .ensures) in
-    (has .0, has .1, run-sets (side t) (t .pre) r lt at (b .before .work-of .ensures) (b .keys-around .ensures))
+    run-gridded (side t) (t .pre) (i .before .loop .inv .0) (i .loop-test .taken) (b .before .before .read-entry .ensures) (b .keys-around .ensures)
 
 dues : (c : tie.After-due-work Inv-loop μ-loop) (j : ℕ) → setIn (c .due-work .result) j < 64
-dues c =
-    let b = keyed c in
-    let i = looped b in
-    let t = begun i in
-    run-dues (side t) (t .pre) (i .before .loop .inv .0) (i .loop-test .taken) (b .before .before .read-entry .ensures) (b .before .work-of .ensures) (b .keys-around .ensures) (c .due-work .ensures)
+dues c = let i = looped (keyed c) in let t = begun i in run-dues (side t) (t .pre) (i .before .loop .inv .0) (found c)
 
 has-room-requires : tie.Need-has-room-requires Inv-loop μ-loop
-has-room-requires c κs = let i = looped (keyed c) in (dues c, run-small (side (begun i)) (begun i .pre) (i .before .loop .inv .0))
+has-room-requires c κs = let i = looped (keyed c) in let t = begun i in (dues c, run-small (side t) (t .pre) (i .before .loop .inv .0))
 
 returns : tie.Need-returns Inv-loop μ-loop
 returns c =
-    let found = c .before in
-    let b = keyed (found .before) in
-    let i = looped b in
+    let i = looped (keyed (c .before .before)) in
     let t = begun i in
     let r = i .before .loop .inv .0 in
-    let over = leb-false (needed (works b) (r .mesh)) (t .args .task .room) (sym (asked found) ∙ not-false _ (c .if1 .taken)) in
-    run-ended (side t) (t .pre) r (run-full (side t) (t .pre) r (i .loop-test .taken) (b .before .before .read-entry .ensures) (omega arith))
+    let over = leb-false (needs-now (c .before .before)) (room (c .before .before)) (sym (asked (c .before)) ∙ not-false _ (c .if1 .taken)) in
+    run-ended (side t) (t .pre) r (run-full (side t) (t .pre) r (i .loop-test .taken) (omega arith))
 
-fits : (c : tie.Else1 Inv-loop μ-loop) → let b = keyed (c .before .before) in needed (works b) (looped b .before .loop .inv .0 .mesh) ≤ begun (looped b) .args .task .room
+fits : (c : tie.Else1 Inv-loop μ-loop) → needs-now (c .before .before) ≤ room (c .before .before)
 fits c = leb-true _ _ (sym (asked (c .before)) ∙ not-true _ (c .if1 .left))
 
 slice-aggregate-index-work : tie.Need-slice-aggregate-index-work Inv-loop μ-loop
@@ -113,13 +118,11 @@ slice-aggregate-index-work c = sym (looped (keyed (c .before .before .before .be
 index-work-requires : tie.Need-index-work-requires Inv-loop μ-loop
 index-work-requires c κs =
     let test = c .before .before .before .before in
-    let b = keyed (test .before .before) in
-    let i = looped b in
+    let due = test .before .before in
+    let i = looped (keyed due) in
     let t = begun i in
     let l = i .before .loop in
-    let lt = i .loop-test .taken in
-    let at = b .before .before .read-entry .ensures in
-    (dues (test .before .before), run-ready (side t) (t .pre) (l .inv .0) lt at (b .before .work-of .ensures) (b .keys-around .ensures) (test .before .before .due-work .ensures) (fits test) (l .steps) (l .inv .4))
+    (dues due, run-ready (side t) (t .pre) (l .inv .0) (found due) (fits test) (l .steps) (l .inv .4))
 
 slice-aggregate-replay : tie.Need-slice-aggregate-replay Inv-loop μ-loop
 slice-aggregate-replay c =
@@ -130,19 +133,17 @@ replay-requires : tie.Need-replay-requires Inv-loop μ-loop
 replay-requires c κs =
     let went = c .before .before .before .before .before .before .before in
     let test = went .before .before .before .before .before in
-    let b = keyed (test .before .before) in
-    let i = looped b in
+    let due = test .before .before in
+    let i = looped (keyed due) in
     let t = begun i in
     let l = i .before .loop in
-    let lt = i .loop-test .taken in
-    let at = b .before .before .read-entry .ensures in
     let is = ap (λ (I : Index). I .steps) (went .index-work .ensures) in
-    let few = run-few (side t) (t .pre) (l .inv .0) lt at (b .before .work-of .ensures) (b .keys-around .ensures) (test .before .before .due-work .ensures) (fits test) (l .steps) (l .inv .4) in
+    let few = run-few (side t) (t .pre) (l .inv .0) (found due) (fits test) (l .steps) (l .inv .4) in
     let n = length-table (stepAt (went .index-work .last .1 .1 .0)) (went .index-work .result .steps) in
     let long = went .index-work .kept .1 .1 .0 in (
       omega (arith, ap length is, n, few, long),
       subst (λ (xs : List Step). Replaying (bare (scene-of t)) xs (shelf (l .vertices) (l .quads))) (sym is)
-          (run-replaying (side t) (t .pre) (l .inv .0) lt at (b .before .work-of .ensures) (b .keys-around .ensures) (test .before .before .due-work .ensures) (fits test) (l .steps) (l .inv .4) (l .inv .1)),
+          (run-replaying (side t) (t .pre) (l .inv .0) (found due) (fits test) (l .steps) (l .inv .4) (l .inv .1)),
       i .before .before .inverted .ensures,
     )
 
@@ -157,14 +158,13 @@ loop-again c =
     let drew = c .before .before in
     let went = drew .before .before .before .before .before .before .before .before in
     let test = went .before .before .before .before .before in
-    let b = keyed (test .before .before) in
-    let i = looped b in
+    let due = test .before .before in
+    let i = looped (keyed due) in
     let t = begun i in
     let l = i .before .loop in
     let S = bare (scene-of t) in
     let is = ap (λ (I : Index). I .steps) (went .index-work .ensures) in (
-      run-on (side t) (t .pre) (l .inv .0) (i .loop-test .taken) (b .before .before .read-entry .ensures) (b .before .work-of .ensures) (b .keys-around .ensures) (test .before .before .due-work .ensures) (fits test) (l .steps) (l .inv .4)
-          (went .index-work .ensures)
+      run-on (side t) (t .pre) (l .inv .0) (found due) (fits test) (l .steps) (l .inv .4) (went .index-work .ensures)
           (drew .replay .ensures ∙ ap (λ (xs : List Step). replayed (span S) (wordsBy S) xs (shelf (l .vertices) (l .quads))) is),
       drew .replay .kept .0 ∙ l .inv .1,
       went .index-work .kept .0 ∙ l .inv .2,
