@@ -1,11 +1,11 @@
-//! Links libexports.a from the folder MESHEM_LIB with the feature `library`, libplaced.a from MESHEM_PLACED with `beside`.
+//! Links libexports.a from the folder MESHEM_LIB with the feature `library`, libplaced.a from MESHEM_PLACED with `placed`.
 
 use std::env;
 
 fn main() {
     println!("cargo:rerun-if-changed=build.rs");
     link("library", "MESHEM_LIB", "libexports.a");
-    link("beside", "MESHEM_PLACED", "libplaced.a");
+    link("placed", "MESHEM_PLACED", "libplaced.a");
 }
 
 fn link(feature: &str, variable: &str, archive: &str) {

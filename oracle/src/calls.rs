@@ -43,13 +43,7 @@ impl Calls for Plain {
     }
 
     fn update_mesh(&self, case: &Case, room: &mut Words, count: u64) -> Answer {
-        plain::update_mesh(&mut buffers(room), count, sizes(case), &case.log, case.tested, &types(&case.types)).map_or_else(
-            refused,
-            |updated| {
-                let number = updated.no_room.map_or(Answer::default(), refused);
-                Answer { quads: updated.quads, moved: updated.moved, ..number }
-            },
-        )
+        updated(plain::update_mesh(&mut buffers(room), count, sizes(case), &case.log, case.tested, &types(&case.types)))
     }
 
     fn check_mesh(&self, case: &Case, mesh: &Words, count: u64) -> Answer {
@@ -59,9 +53,53 @@ impl Calls for Plain {
     }
 }
 
+/// The plain reading with another update, or another check.
+pub struct Reading {
+    pub update: fn(&Case, &mut Words, u64) -> Answer,
+    pub check: fn(&Case, &Words, u64) -> Answer,
+}
+
+impl Reading {
+    pub const PLAIN: Reading = Reading {
+        update: |case, room, count| Plain.update_mesh(case, room, count),
+        check: |case, mesh, count| Plain.check_mesh(case, mesh, count),
+    };
+
+    /// The update that is written for speed.
+    pub const FAST: Reading = Reading {
+        update: |case, room, count| {
+            let log = plain::fast::Log { entries: &case.log, tested: case.tested };
+            updated(plain::fast::update_mesh(&mut buffers(room), count, sizes(case), log, &types(&case.types)))
+        },
+        ..Reading::PLAIN
+    };
+}
+
+impl Calls for Reading {
+    fn generate_voxel_mesh(&self, parameters: &CubeParameters, out: &mut [u32]) -> Answer {
+        Plain.generate_voxel_mesh(parameters, out)
+    }
+    fn mesh_grid(&self, case: &Case, room: &mut Words) -> Answer {
+        Plain.mesh_grid(case, room)
+    }
+    fn update_mesh(&self, case: &Case, room: &mut Words, count: u64) -> Answer {
+        (self.update)(case, room, count)
+    }
+    fn check_mesh(&self, case: &Case, mesh: &Words, count: u64) -> Answer {
+        (self.check)(case, mesh, count)
+    }
+}
+
 /// Whether the types are accepted.
 pub fn accepted(t: &Types) -> bool {
     types(t).verdict().is_ok()
+}
+
+fn updated(answer: Result<plain::Updated, plain::Refusal>) -> Answer {
+    answer.map_or_else(refused, |updated| {
+        let number = updated.no_room.map_or(Answer::default(), refused);
+        Answer { quads: updated.quads, moved: updated.moved, ..number }
+    })
 }
 
 fn refused(plain::Refusal(number, place): plain::Refusal) -> Answer {

@@ -34,8 +34,8 @@ pub struct Tally {
 #[derive(Default)]
 pub struct Updates {
     pub calls: u64,
-    pub refused: u64,
-    pub no_room: u64,
+    /// By the number answered.
+    pub answers: [u64; 17],
     pub log_entries: u64,
     pub quads: u64,
     /// Logs after which the mesh passed the check, as demand 3 says.
@@ -52,8 +52,7 @@ impl Tally {
         self.call(answer);
         let updates = &mut self.updates[tested as usize];
         updates.calls += 1;
-        updates.refused += (answer.number != 0) as u64;
-        updates.no_room += (answer.number == NO_ROOM) as u64;
+        updates.answers[answer.number as usize] += 1;
     }
 }
 

@@ -1,4 +1,4 @@
-//! Grounds to mesh and logs to mend them by, from a seed: what the two benches time.
+//! Grounds to mesh and logs to mend them by, from a seed: what the benches time.
 
 use crate::cases::{beside, coordinates, cube_of, entry, paper_types, Case, Random};
 use crate::rust::{cube, Types};
@@ -57,6 +57,11 @@ pub fn noise(random: &mut Random, dims: [u32; 3]) -> Case {
     let types = paper_types(1.0);
     let grid = random.bytes(dims.iter().product::<u32>() as usize, types.kinds.len());
     Case { dims, grid, types, ..Case::default() }
+}
+
+/// The cubes among a ground's types.
+pub fn cubes_of(case: &Case) -> Vec<u8> {
+    (0..case.types.kinds.len() as u8).filter(|&voxel| case.types.is_cube(voxel)).collect()
 }
 
 /// An honest log on cells drawn from the whole grid: what isn't air is dug, air is filled with one of the cubes, as its cell says.

@@ -8,5 +8,6 @@ pub mod grounds;
 #[cfg(feature = "library")]
 pub mod library;
 pub mod room;
+pub mod rows;
 pub mod rust;
 pub mod timing;

@@ -185,8 +185,8 @@ macro_rules! linked {
 
 linked!(Library, "exports", "");
 
-/// This library and a former one, each four times: tools/bench has laid their code at four offsets within the 64 bytes of a cache line.
-#[cfg(feature = "beside")]
+/// This library four times: tools/bench has laid its code at four offsets within the 64 bytes of a cache line.
+#[cfg(feature = "placed")]
 pub mod placed {
     use super::*;
 
@@ -194,10 +194,19 @@ pub mod placed {
     linked!(Now16, "placed", "now16_");
     linked!(Now32, "placed", "now32_");
     linked!(Now48, "placed", "now48_");
+}
+
+/// A former one likewise, and the two at each place.
+#[cfg(feature = "beside")]
+pub mod former {
+    use super::placed::*;
+    use super::*;
+    use crate::rows::Places;
+
     linked!(Former0, "placed", "former0_");
     linked!(Former16, "placed", "former16_");
     linked!(Former32, "placed", "former32_");
     linked!(Former48, "placed", "former48_");
 
-    pub const PLACES: [[&dyn Calls; 2]; 4] = [[&Now0, &Former0], [&Now16, &Former16], [&Now32, &Former32], [&Now48, &Former48]];
+    pub const PLACES: Places = [[&Now0, &Former0], [&Now16, &Former16], [&Now32, &Former32], [&Now48, &Former48]];
 }

@@ -1,4 +1,4 @@
-//! Times of calls, as the two benches take and print them.
+//! Times of calls, as the benches take and print them.
 
 use std::hint::black_box;
 use std::time::{Duration, Instant};

@@ -1,20 +1,12 @@
 //! The comparison can fail: readings that are wrong on purpose stand for the library, and each has to be told.
 
-use oracle::calls::{Answer, Calls, Plain};
+use oracle::calls::{Answer, Calls, Plain, Reading};
 use oracle::cases::{entry, paper_types, Added, Case, Random};
 use oracle::compare::{Comparison, MODES};
-use oracle::rust::{CubeParameters, Words};
+use oracle::rust::Words;
 use plain::Tested;
 
-struct Reading {
-    update: fn(&Case, &mut Words, u64) -> Answer,
-    check: fn(&Case, &Words, u64) -> Answer,
-}
-
-const RIGHT: Reading = Reading {
-    update: |case, room, count| Plain.update_mesh(case, room, count),
-    check: |case, mesh, count| Plain.check_mesh(case, mesh, count),
-};
+const RIGHT: Reading = Reading::PLAIN;
 
 /// The new mode never, and always.
 const NEVER_NEW: Reading = Reading { update: |case, room, count| in_mode(Tested::Opposite, case, room, count), ..RIGHT };
@@ -22,21 +14,6 @@ const ALWAYS_NEW: Reading = Reading { update: |case, room, count| in_mode(Tested
 
 fn in_mode(tested: Tested, case: &Case, room: &mut Words, count: u64) -> Answer {
     Plain.update_mesh(&Case { tested, ..case.clone() }, room, count)
-}
-
-impl Calls for Reading {
-    fn generate_voxel_mesh(&self, parameters: &CubeParameters, out: &mut [u32]) -> Answer {
-        Plain.generate_voxel_mesh(parameters, out)
-    }
-    fn mesh_grid(&self, case: &Case, room: &mut Words) -> Answer {
-        Plain.mesh_grid(case, room)
-    }
-    fn update_mesh(&self, case: &Case, room: &mut Words, count: u64) -> Answer {
-        (self.update)(case, room, count)
-    }
-    fn check_mesh(&self, case: &Case, mesh: &Words, count: u64) -> Answer {
-        (self.check)(case, mesh, count)
-    }
 }
 
 /// Of how many cases a disagreement is told: whole ones, faulty ones, ones to be mended.

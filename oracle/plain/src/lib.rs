@@ -1,9 +1,10 @@
 //! Document 01's four calls, with document 02's second mode of the update, in plain safe Rust, written from their text alone. It has no proof: it is the second reading that the
-//! differential holds refusals, `moved` and zeroed places to, where the Rust says nothing.
+//! differential holds refusals, `moved` and zeroed places to, where the Rust says nothing. `fast` has the update once more, written for speed.
 #![forbid(unsafe_code)]
 
 mod check;
 mod cube;
+pub mod fast;
 mod mesh;
 mod tables;
 mod update;

@@ -3,8 +3,8 @@
 use crate::mesh::{linked, pattern};
 use crate::*;
 
-const ENTRY: usize = 12;
-const MOST_ENTRIES: usize = 16_777_216;
+pub(crate) const ENTRY: usize = 12;
+pub(crate) const MOST_ENTRIES: usize = 16_777_216;
 
 /// The side of an Added voxel that decides whether the neighbour at a face loses its facing quad.
 #[derive(Clone, Copy, Debug, Default, PartialEq, Eq)]

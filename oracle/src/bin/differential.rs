@@ -14,6 +14,7 @@ use oracle::compare::{Compared, Comparison, Tally, Updates, MODES};
 use oracle::faults::{limits, Faulty};
 use oracle::library::Library;
 use oracle::rust::ENTRY;
+use plain::NO_ROOM;
 use std::panic::{catch_unwind, AssertUnwindSafe};
 use std::time::Instant;
 
@@ -113,7 +114,7 @@ impl Run {
             ("a log that the source's mode leaves wrong", *left_wrong),
             ("a log that gives the same in both modes", *same_in_both),
             ("a mended mesh in each mode", by_mode(|updates| updates.mended)),
-            ("NO_ROOM in each mode", by_mode(|updates| updates.no_room)),
+            ("NO_ROOM in each mode", by_mode(|updates| updates.answers[NO_ROOM as usize])),
         ];
         for (what, _) in met.iter().filter(|(_, times)| *times == 0) {
             self.disagreements += 1;
@@ -186,7 +187,8 @@ fn print_tally(tally: &Tally) {
     println!("with the Rust: {cubes} cubes, {grids} grids, {log_entries} log entries; {quads} quads, {index_entries} index entries, {words} words");
     println!("with 01 read plainly: {plain_calls} calls, refusals 2 to 16: {:?}", &refusals[2..]);
     for (tested, updates) in MODES.iter().zip(&tally.updates) {
-        let Updates { calls, refused, no_room, log_entries, quads, .. } = updates;
+        let Updates { calls, answers, log_entries, quads, .. } = updates;
+        let (refused, no_room) = (calls - answers[0], answers[NO_ROOM as usize]);
         println!("of them updates, {tested:?} tested: {calls} calls, {refused} refused ({no_room} NO_ROOM); {log_entries} log entries, {quads} quads");
     }
     for (tested, updates) in MODES.iter().zip(&tally.updates) {

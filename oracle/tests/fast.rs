@@ -1,0 +1,94 @@
+//! The update that is written for speed answers as the plain reading does, word for word, on calls that are done and calls that are refused.
+
+use oracle::calls::{Answer, Calls, Reading};
+use oracle::cases::{paper_types, Added, Case, Random};
+use oracle::compare::{Compared, Comparison, MODES};
+use oracle::faults::limits;
+use oracle::rows::mesh_of;
+use oracle::rust::{Words, ENTRY};
+use plain::{BAD_LINKS, NO_ROOM};
+
+/// The numbers that an update answers.
+const NUMBERS: [usize; 11] = [0, 2, 3, 4, 6, 9, 10, 11, 12, 13, 14];
+
+/// Whole cases, faulty ones in little room, and ones to be mended in a room from tight to wide. Tells how many had colour.
+fn compare(comparison: &mut Comparison, cases: usize) -> Compared<usize> {
+    let mut random = Random(3);
+    let mut coloured = 0;
+    for _ in 0..cases {
+        let (parameters, case, fault) = (random.cube(), random.case(), random.word() as u64);
+        let faulty = Case { tested: random.pick(&MODES), ..case.clone() };
+        let mendable = random.mendable(Added::AnyCubes);
+        let spare = random.pick(&[0, 1, 3, 8, usize::MAX]);
+        comparison.case(&case)?;
+        comparison.faults(&parameters, &faulty, fault)?;
+        comparison.mended(&mendable, spare)?;
+        coloured += [case, mendable].iter().filter(|case| case.types.coloured).count();
+    }
+    Ok(coloured)
+}
+
+#[test]
+fn fast_answers_as_the_reading_does() {
+    let mut comparison = Comparison::of(&Reading::FAST);
+    let coloured = compare(&mut comparison, 8000).unwrap();
+    let mut random = Random(4);
+    for dims in [[1024, 1, 1], [1, 1024, 1], [1, 1, 1024], [7, 5, 11], [32, 32, 32], [16, 256, 16], [128, 16, 64]] {
+        comparison.case(&random.landscape(dims)).unwrap();
+    }
+    for (name, mut case) in limits() {
+        comparison.limit(&case).unwrap_or_else(|difference| panic!("{name}: {difference}"));
+        if let Some(entry) = case.log.chunks_exact_mut(ENTRY).last() {
+            entry[4] = 4;
+            comparison.limit(&case).unwrap_or_else(|difference| panic!("{name}, the last entry bad: {difference}"));
+        }
+    }
+    println!("{coloured} of 16000 cases with colour");
+    for (tested, updates) in MODES.iter().zip(&comparison.tally.updates) {
+        println!(
+            "{tested:?} tested: {} calls, by number {:?}, {} log entries",
+            updates.calls, updates.answers, updates.log_entries
+        );
+        assert!(NUMBERS.iter().all(|&number| updates.answers[number] > 0));
+    }
+}
+
+/// Cell and code of a link are not looked at as one number: those of the cell after, with a code over 5, would name the same slot.
+#[test]
+fn a_code_over_five_is_refused() {
+    let case = Case { dims: [3, 1, 1], grid: vec![1; 3], types: paper_types(1.0), ..Case::default() };
+    let mesh = mesh_of(&case);
+    for (code, face) in [(6, 5), (7, 4)] {
+        let mut room = mesh.clone();
+        let quad = room.slots[face] as usize / 4;
+        room.links[quad] = 1 | code << 29;
+        let answer = Reading::FAST.update_mesh(&case, &mut room, mesh.links.len() as u64);
+        assert_eq!((answer.number, answer.place), (BAD_LINKS, quad as u64));
+    }
+}
+
+/// A copy that is wrong in what it leaves or tells, now and then.
+fn assert_told(update: fn(&Case, &mut Words, u64) -> Answer) {
+    compare(&mut Comparison::of(&Reading { update, ..Reading::FAST }), 300).unwrap_err();
+}
+
+#[test]
+fn a_wrong_copy_is_told() {
+    assert_told(|case, room, count| {
+        let answer = Reading::FAST.update_mesh(case, room, count);
+        Answer { moved: answer.moved.min(59), ..answer }
+    });
+    assert_told(|case, room, count| {
+        let answer = Reading::FAST.update_mesh(case, room, count);
+        Answer { place: answer.place + (answer.number == NO_ROOM) as u64, ..answer }
+    });
+    // A freed place keeps the last of its words
+    assert_told(|case, room, count| {
+        let before = room.triangles.clone();
+        let answer = Reading::FAST.update_mesh(case, room, count);
+        if answer.number == 0 && answer.quads < count {
+            room.triangles[6 * count as usize - 1] = before[6 * count as usize - 1];
+        }
+        answer
+    });
+}
