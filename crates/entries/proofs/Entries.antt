@@ -14,9 +14,6 @@ use Rattle.rules.specs.Lists.{each, table, part, every, lowestFrom}
 use Rattle.rules.specs.Update as rule
 use Rattle.rules.specs.Answers.{badNeighbour}
 use Rattle.rules.proofs.ListLaws.{getD-table, table-is}
-use Rattle.face.specs.declared.Face.{Face}
-use Rattle.face.specs.Face.{number}
-use Rattle.face.proofs.Laws.{number-below}
 use Rattle.vav.proofs.Laws.{length-part, part-at}
 use Rattle.entries.specs.declared.Entry.{Entry}
 use Rattle.entries.specs.Log.{entryIn}
@@ -55,8 +52,8 @@ six at xs h =
     rw (add-zero at) at w
 
 -- the neighbour given at a face
-pub given-is : (e : Entry) (f : Face) → rule.givenAt (entryIn e) (number f) ≡ getD (e .neighbours) (number f) 0
-given-is e f = getD-table (λ k. getD (e .neighbours) k 0) 6 (number f) 255 (number-below f)
+pub given-is : (e : Entry) (f : ℕ) → f < 6 → rule.givenAt (entryIn e) f ≡ getD (e .neighbours) f 0
+given-is e f l = getD-table (λ k. getD (e .neighbours) k 0) 6 f 255 l
 
 -- ---- a search: the next one is bad, or not
 pub lowest-here : (i n : ℕ) (bad : ℕ → Bool) → i < n → bad i ≡ true → lowestFrom i (n - i) bad ≡ i

@@ -1,38 +1,69 @@
--- The sides of a set one by one, from the lowest on: each is found by the zeros below it and taken away. Assumes nothing.
+-- The digits of a number one by one, from the lowest on: each is found by the zeros below it and taken away. Over the number of digits. Assumes nothing.
 use mathlib.Core.Path.{_≡_, refl, sym, ap, _∙_, subst}
-use mathlib.Core.Bool.{Bool, true, false, cond, not, _&&_, _||_}
-use Prim.Native.Nat.{ℕ, _+_, _-_, _≤_, _<_}
+use mathlib.Core.Bool.{Bool, true, false, _&&_, _||_, true≢false}
+use Prim.Native.Nat.{ℕ, zero, suc, _+_, _-_, _/_, _%_, _^_, _≤_, _<_}
+use native.Mathlib.Nat.{pow-succ', pow-le-pow-right, div-div-eq-div-mul, div-eq-of-lt, zero-div}
+use native.Mathlib.Decide.{decLt}
 use native.Mathlib.Omega.{arith}
-use lib.Bits.{bitAnd, bitOr, and-lt}
-use lib.Count.{trailingZeros}
-use lib.Dec.{eqb, ltb, leb}
-use borrow.Author.Tests.{eqb-true, ne-eqb, ltb-true, le-leb, lt-leb, leb-true}
+use lib.Bits.{bitAnd, bitOr, and-le-r}
+use lib.Count.{trailingZeros, under}
+use lib.Dec.{eqb, leb}
+use borrow.Author.Tests.{eqb-true, ne-eqb, le-leb, lt-leb, leb-true}
 use Rattle.rules.specs.Lists.{every}
 use Rattle.rules.specs.Cells.{has}
-use Rattle.rules.proofs.ListLaws.{split, and-true, every-true, not-false}
+use Rattle.rules.proofs.ListLaws.{split, and-true, every-true}
+use Rattle.rules.proofs.Sets.{has-and}
 
+-- digit i + 1 of a number is digit i of its half
+pub half : (n i : ℕ) → has n (suc i) ≡ has (n / 2) i
+half n i = ap (λ (m : ℕ). eqb (m % 2) 1) (ap (λ (p : ℕ). n / p) (pow-succ' 2 i) ∙ sym (div-div-eq-div-mul n 2 (2 ^ i)))
+
+first : (n : ℕ) → has n 0 ≡ eqb (n % 2) 1
+first n = let e : n / 1 ≡ n = omega arith in ap (λ (m : ℕ). eqb (m % 2) 1) e
+
+-- z is the lowest digit of s; the number before s lacks it, and is s above it
 pub record Low (s z : ℕ) : Type 0 where
-  pub small : z < 6
   pub here : has s z ≡ true
   pub below : (i : ℕ) → i < z → has s i ≡ false
+  pub lacks : has (s - 1) z ≡ false
+  pub above : (i : ℕ) → z < i → has (s - 1) i ≡ has s i
 
-lowest-test : ℕ → Bool
-lowest-test s = eqb s 0 || (ltb (trailingZeros 8 s) 6 && (has s (trailingZeros 8 s) && every 6 (λ i. leb (trailingZeros 8 s) i || not (has s i))))
+pub low : (k s : ℕ) → s < 2 ^ k → (s ≡ 0 → ⊥) → Low s (trailingZeros k s)
+unfolding trailingZeros
+low zero s h d = absurd (d (omega arith))
+low (suc k) s h d = go (s % 2) refl (omega arith) (low k (s / 2))
+  where
+    past : (z : ℕ) → (s - 1) / 2 ≡ s / 2 - 1 → Low (s / 2) z → (i : ℕ) → suc z < i → has (s - 1) i ≡ has s i
+    past z e r zero l = absurd (omega arith)
+    past z e r (suc i) l = half (s - 1) i ∙ ap (λ (n : ℕ). has n i) e ∙ r .above i (omega arith) ∙ sym (half s i)
 
--- by one test over the 64 sets
-pub low : (s : ℕ) → s < 64 → (s ≡ 0 → ⊥) → Low s (trailingZeros 8 s)
-unfolding every trailingZeros lowest-test
-low s h d =
-    let t : lowest-test s ≡ true = every-true 64 lowest-test refl s h in
-    let z = trailingZeros 8 s in
-    let a = and-true (ltb z 6) (has s z && every 6 (λ i. leb z i || not (has s i))) (ap (λ (b : Bool). b || (ltb z 6 && (has s z && every 6 (λ i. leb z i || not (has s i))))) (sym (ne-eqb s 0 d)) ∙ t) in
-    let b = and-true (has s z) (every 6 (λ i. leb z i || not (has s i))) (a .1) in
-    let small = ltb-true z 6 (a .0) in
-    record {
-      small = small;
-      here = b .0;
-      below = λ i l. not-false (has s i) (ap (λ (b : Bool). b || not (has s i)) (sym (lt-leb z i l)) ∙ every-true 6 (λ i. leb z i || not (has s i)) (b .1) i (omega arith));
-    }
+    under-it : (z : ℕ) → s % 2 ≡ 0 → Low (s / 2) z → (i : ℕ) → i < suc z → has s i ≡ false
+    under-it z e r zero l = first s ∙ ap (λ (n : ℕ). eqb n 1) e
+    under-it z e r (suc i) l = half s i ∙ r .below i (omega arith)
+
+    odd : s % 2 ≡ 1 → (i : ℕ) → 0 < i → has (s - 1) i ≡ has s i
+    odd e zero l = absurd (omega arith)
+    odd e (suc i) l = let f : (s - 1) / 2 ≡ s / 2 = omega arith in half (s - 1) i ∙ ap (λ (n : ℕ). has n i) f ∙ sym (half s i)
+
+    go : (b : ℕ) → s % 2 ≡ b → b < 2 → (s / 2 < 2 ^ k → (s / 2 ≡ 0 → ⊥) → Low (s / 2) (trailingZeros k (s / 2))) → Low s (under b (trailingZeros k (s / 2)))
+    go zero e l ih =
+        let z = trailingZeros k (s / 2) in
+        let r = ih (omega (arith, pow-succ' 2 k)) (λ y. d (omega arith)) in
+        let f : (s - 1) / 2 ≡ s / 2 - 1 = omega arith in
+        record { here = half s z ∙ r .here; below = under-it z e r; lacks = half (s - 1) z ∙ ap (λ (n : ℕ). has n z) f ∙ r .lacks; above = past z f r }
+    go (suc zero) e l ih =
+        let f : (s - 1) % 2 ≡ 0 = omega arith in
+        record { here = first s ∙ ap (λ (n : ℕ). eqb n 1) e; below = λ i l. absurd (omega arith); lacks = first (s - 1) ∙ ap (λ (n : ℕ). eqb n 1) f; above = odd e }
+    go (suc (suc b)) e l ih = absurd (omega arith)
+
+-- a number and the one before it have in common what is past the lowest digit
+taken : {s z : ℕ} → Low s z → (i : ℕ) → has (bitAnd s (s - 1)) i ≡ (leb (z + 1) i && has s i)
+taken {s} {z} r i = has-and s (s - 1) i ∙ go (decLt i z) (decLt z i)
+  where
+    go : Dec (i < z) → Dec (z < i) → (has s i && has (s - 1) i) ≡ (leb (z + 1) i && has s i)
+    go (yes l) q = rw (r .below i l, lt-leb (z + 1) i (omega arith))
+    go (no l) (yes g) = rw (r .above i g, le-leb (z + 1) i (omega arith)) (split (λ b. (b && b) ≡ b) (has s i) (λ _. refl) (λ _. refl))
+    go (no l) (no g) = let e : i ≡ z = omega arith in rw (e, r .lacks, r .here, lt-leb (z + 1) z (omega arith))
 
 with-last-test : ℕ → Bool
 with-last-test s = eqb s 0 || eqb (trailingZeros 32 (bitOr s 32)) (trailingZeros 8 s)
@@ -44,45 +75,35 @@ with-last s h d =
     let t : with-last-test s ≡ true = every-true 64 with-last-test refl s h in
     eqb-true _ _ (ap (λ (b : Bool). b || eqb (trailingZeros 32 (bitOr s 32)) (trailingZeros 8 s)) (sym (ne-eqb s 0 d)) ∙ t)
 
-same-bits : (b c : Bool) → cond b c (not c) ≡ true → b ≡ c
-same-bits true c e = sym e
-same-bits false c e = sym (not-false c e)
+-- the digits of a set from f on, of n; k of them are looked at
+pub record Rest (k n set f rest : ℕ) : Type 0 where
+  pub wide : n ≤ k
+  pub few : rest < 2 ^ n
+  pub told : (i : ℕ) → i < n → has rest i ≡ (leb f i && has set i)
 
-taken-test : ℕ → Bool
-taken-test s = eqb s 0 || every 6 (λ i. cond (has (bitAnd s (s - 1)) i) (leb (trailingZeros 8 s + 1) i && has s i) (not (leb (trailingZeros 8 s + 1) i && has s i)))
+pub rest-start : {k n set : ℕ} → n ≤ k → set < 2 ^ n → Rest k n set 0 set
+rest-start {set = set} w h = record { wide = w; few = h; told = λ i l. ap (λ (b : Bool). b && has set i) (sym (le-leb 0 i (omega arith))) }
 
--- a set and the number before it have in common what is past the lowest side
-taken : (s : ℕ) → s < 64 → (s ≡ 0 → ⊥) → (i : ℕ) → i < 6 → has (bitAnd s (s - 1)) i ≡ (leb (trailingZeros 8 s + 1) i && has s i)
-unfolding every trailingZeros taken-test
-taken s h d i l =
-    let t : taken-test s ≡ true = every-true 64 taken-test refl s h in
-    let p : ℕ → Bool = λ i. cond (has (bitAnd s (s - 1)) i) (leb (trailingZeros 8 s + 1) i && has s i) (not (leb (trailingZeros 8 s + 1) i && has s i)) in
-    same-bits (has (bitAnd s (s - 1)) i) (leb (trailingZeros 8 s + 1) i && has s i)
-    (every-true 6 p (ap (λ (b : Bool). b || every 6 p) (sym (ne-eqb s 0 d)) ∙ t) i l)
+pub rest-none : {k n set f rest : ℕ} → Rest k n set f rest → rest ≡ 0 → (i : ℕ) → f ≤ i → i < n → has set i ≡ false
+rest-none {set = set} {f} r e i h l =
+    ap (λ (b : Bool). b && has set i) (sym (le-leb f i h)) ∙ sym (r .told i l) ∙ ap (λ (n : ℕ). has n i) e ∙ ap (λ (n : ℕ). eqb (n % 2) 1) (zero-div (2 ^ i))
 
--- the sides of a set from f on
-pub record Rest (set f rest : ℕ) : Type 0 where
-  pub few : rest < 64
-  pub told : (i : ℕ) → i < 6 → has rest i ≡ (leb f i && has set i)
-
-pub rest-start : {set : ℕ} → set < 64 → Rest set 0 set
-rest-start {set} h = record { few = h; told = λ i l. ap (λ (b : Bool). b && has set i) (sym (le-leb 0 i (omega arith))) }
-
-pub rest-none : {set f rest : ℕ} → Rest set f rest → rest ≡ 0 → (k : ℕ) → f ≤ k → k < 6 → has set k ≡ false
-unfolding every
-rest-none {set} {f} {rest} r e k h l =
-    ap (λ (b : Bool). b && has set k) (sym (le-leb f k h)) ∙ sym (r .told k l) ∙ ap (λ (n : ℕ). has n k) e
-    ∙ not-false (has 0 k) (every-true 6 (λ i. not (has 0 i)) refl k l)
-
-module _ {set f rest : ℕ} (r : Rest set f rest) (d : rest ≡ 0 → ⊥) {z : ℕ} (e : z ≡ trailingZeros 8 rest) where
+module _ {k n set f rest : ℕ} (r : Rest k n set f rest) (d : rest ≡ 0 → ⊥) {z : ℕ} (e : z ≡ trailingZeros k rest) where
   found : Low rest z
-  found = subst (Low rest) (sym e) (low rest (r .few) d)
+  found = subst (Low rest) (sym e) (low k rest (omega (arith, r .few, pow-le-pow-right {n = 2} (omega arith) (r .wide))) d)
+
+  pub rest-below : z < n
+  rest-below = go (decLt z n)
+    where
+      go : Dec (z < n) → z < n
+      go (yes l) = l
+      go (no l) =
+          let p = pow-le-pow-right {n = 2} (omega arith) {i = n} {j = z} (omega arith) in
+          let q : rest / 2 ^ z ≡ 0 = div-eq-of-lt (omega (arith, r .few)) in
+          absurd (true≢false (sym (found .here) ∙ ap (λ (n : ℕ). eqb (n % 2) 1) q))
 
   both : (leb f z && has set z) ≡ true
-  both = sym (r .told z (found .small)) ∙ found .here
-
-  pub rest-below : z < 6
-  rest-below = found .small
+  both = sym (r .told z rest-below) ∙ found .here
 
   pub rest-from : f ≤ z
   rest-from = leb-true f z (and-true (leb f z) (has set z) both .0)
@@ -90,16 +111,15 @@ module _ {set f rest : ℕ} (r : Rest set f rest) (d : rest ≡ 0 → ⊥) {z : 
   pub rest-at : has set z ≡ true
   rest-at = and-true (leb f z) (has set z) both .1
 
-  pub rest-skip : (k : ℕ) → f ≤ k → k < z → has set k ≡ false
-  rest-skip k h l =
-      let b = found .small in
-      ap (λ (b : Bool). b && has set k) (sym (le-leb f k h)) ∙ sym (r .told k (omega arith)) ∙ found .below k l
+  pub rest-skip : (i : ℕ) → f ≤ i → i < z → has set i ≡ false
+  rest-skip i h l = let b = rest-below in ap (λ (b : Bool). b && has set i) (sym (le-leb f i h)) ∙ sym (r .told i (omega arith)) ∙ found .below i l
 
-  pub rest-next : Rest set (z + 1) (bitAnd rest (rest - 1))
+  pub rest-next : Rest k n set (z + 1) (bitAnd rest (rest - 1))
   rest-next =
       record {
-        few = let a = r .few in and-lt 6 rest (rest - 1) a (omega arith);
-        told = λ i l. taken rest (r .few) d i l ∙ ap (λ (n : ℕ). leb (n + 1) i && has rest i) (sym e) ∙ ap (λ (b : Bool). leb (z + 1) i && b) (r .told i l) ∙ past i;
+        wide = r .wide;
+        few = omega (arith, r .few, and-le-r rest (rest - 1));
+        told = λ i l. taken found i ∙ ap (λ (b : Bool). leb (z + 1) i && b) (r .told i l) ∙ past i;
       }
     where
       past : (i : ℕ) → (leb (z + 1) i && (leb f i && has set i)) ≡ (leb (z + 1) i && has set i)

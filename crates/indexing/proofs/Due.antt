@@ -1,7 +1,7 @@
 -- What of a work changes something is what of the rule's operations does, and its quads are counted by its sets. Assumes nothing.
 use mathlib.Core.Path.{_≡_, refl, sym, ap, _∙_, subst}
 use mathlib.Core.Bool.{Bool, true, false, cond, not, _&&_, _||_}
-use mathlib.Core.List.{List, [], _∷_, _++_, append-nil, map, map-append}
+use mathlib.Core.List.{List, [], _∷_, _++_, map, map-append}
 use mathlib.Core.Option.{Option, none, some}
 use Prim.Native.Nat.{ℕ, zero, suc, _+_, _*_, _/_, _%_, _≤_, _<_}
 use native.Mathlib.Omega.{arith}
@@ -22,9 +22,10 @@ use Rattle.rules.proofs.Acting as acting
 use Rattle.util.specs.Grid.{Within}
 use Rattle.steps.specs.Steps.{opOf, opsOf}
 use Rattle.works.specs.declared.Work.{Work}
-use Rattle.works.specs.Sets.{setIn, keyOr, keysAround, keyMet, cutting, typeAt, deedBy, deedAt, deeds, quadIn}
-use Rattle.works.proofs.Works.{facing, own-key, near-key, near-all}
+use Rattle.works.specs.Sets.{setIn, packed, keyOr, keysAround, keyMet, cutting, typeAt, deedBy, partDeeds, deeds, quadIn}
+use Rattle.works.proofs.Works.{deeds-parts, facing, own-key, near-key, near-all}
 use Rattle.works.proofs.Meant.{map-each, spotIn, opAt, opsAt, partOps, Means, parts-ops, needed-parts}
+use Rattle.indexing.proofs.Sets.{due-few}
 use Rattle.indexing.specs.Due.{isEmpty, dueAt, dueOf, fitsIn}
 
 all-map : {A B : Type 0} (P : B → Type 0) (g : A → B) (xs : List A) → All (λ x. P (g x)) xs → All P (map g xs)
@@ -241,22 +242,22 @@ module _ (W : World) (e : Entry) (grid : Within (W .size)) (inside : e .cell < c
     has-due (suc (suc (suc zero))) f _ l = has-setOf (due 3) f l
     has-due (suc (suc (suc (suc j)))) f b l = absurd (omega arith)
 
-    part-due : (j : ℕ) → j < 4 → acting (partOps W e (setIn w j) j) (before j) ≡ opsOf (quadIn W) (each 6 0 (deedAt keys e (setIn d j) j))
+    part-due : (j : ℕ) → j < 4 → acting (partOps W e (setIn w j) j) (before j) ≡ opsOf (quadIn W) (partDeeds keys e (setIn d j) j)
     part-due j b =
         acting-sides (sideIn j) (opsAt W e (setIn w j) j) 6 0 (few-ops (setIn w j) j)
         (λ f _ l. on-spot (λ o. sideIn j (faceOf o) ≡ f) (setIn w j) j f (all-kept (λ k s. ap (sideIn j) (face-of W e j f k) ∙ s) (spots j f) (at-side j f (omega arith)))) (before j) (once-at j)
-        ∙ each-same 6 0 (λ f. acting (opsAt W e (setIn w j) j f) (before j)) (λ f. opsOf (quadIn W) (deedAt keys e (setIn d j) j f))
+        ∙ each-same 6 0 (λ f. acting (opsAt W e (setIn w j) j f) (before j)) (λ f. opsOf (quadIn W) (only (has (setIn d j) f) (deedBy (cutting j) (typeAt e j f) (keyMet keys j f))))
         (λ f _ l. due-at j f b (omega arith) ∙ ap (λ (o : Bool). opsOf (quadIn W) (only o (deedBy (cutting j) (typeAt e j f) (keyMet keys j f)))) (sym (has-due j f b (omega arith))))
-        ∙ sym (map-each (opOf (quadIn W)) 6 0 (deedAt keys e (setIn d j) j))
+        ∙ sym (map-each (opOf (quadIn W)) 6 0 (λ f. only (has (setIn d j) f) (deedBy (cutting j) (typeAt e j f) (keyMet keys j f))))
 
     module _ {R : rule.Work} (r : Means W e w R) where
       -- LAW: the deeds that are due are the rule's operations that change something
-      pub due-ops : opsOf (quadIn W) (deeds keys e d) ≡ acting (ops R) m
-      unfolding each
+      pub due-ops : opsOf (quadIn W) (deeds keys e (packed d)) ≡ acting (ops R) m
       due-ops =
-          let flat : opsOf (quadIn W) (deeds keys e d) ≡ opsOf (quadIn W) (each 6 0 (deedAt keys e (d .own) 0)) ++ (opsOf (quadIn W) (each 6 0 (deedAt keys e (d .shown) 1))
-          ++ (opsOf (quadIn W) (each 6 0 (deedAt keys e (d .drawn) 2)) ++ opsOf (quadIn W) (each 6 0 (deedAt keys e (d .hidden) 3)))) = simp (map-append, append-nil) in
-          flat ∙ sym (λ i. part-due 0 (omega arith) i ++ (part-due 1 (omega arith) i ++ (part-due 2 (omega arith) i ++ part-due 3 (omega arith) i)))
+          let flat : opsOf (quadIn W) (partDeeds keys e (d .own) 0 ++ (partDeeds keys e (d .shown) 1 ++ (partDeeds keys e (d .drawn) 2 ++ partDeeds keys e (d .hidden) 3)))
+          ≡ opsOf (quadIn W) (partDeeds keys e (d .own) 0) ++ (opsOf (quadIn W) (partDeeds keys e (d .shown) 1) ++ (opsOf (quadIn W) (partDeeds keys e (d .drawn) 2) ++ opsOf (quadIn W) (partDeeds keys e (d .hidden) 3))) = simp map-append in
+          ap (opsOf (quadIn W)) (deeds-parts keys e d (due-few slots keys (e .cell) w)) ∙ flat
+          ∙ sym (λ i. part-due 0 (omega arith) i ++ (part-due 1 (omega arith) i ++ (part-due 2 (omega arith) i ++ part-due 3 (omega arith) i)))
           ∙ sym (acting-append (partOps W e (w .own) 0) _ m ∙ ap (λ (os : List Op). acting (partOps W e (w .own) 0) m ++ os)
           (acting-append (partOps W e (w .shown) 1) _ (before 1) ∙ ap (λ (os : List Op). acting (partOps W e (w .shown) 1) (before 1) ++ os) (acting-append (partOps W e (w .drawn) 2) _ (before 2))))
           ∙ ap (λ (os : List Op). acting os m) (parts-ops r)
@@ -267,7 +268,7 @@ module _ (W : World) (e : Entry) (grid : Within (W .size)) (inside : e .cell < c
       grows j b =
           let os = partOps W e (setIn w j) j in
           let many : length (acting os (before j)) ≡ quadsOf (setIn d j) =
-          ap length (part-due j b) ∙ length-map (each 6 0 (deedAt keys e (setIn d j) j)) (opOf (quadIn W)) ∙ omega (arith, count-each (has (setIn d j)) (λ f. deedBy (cutting j) (typeAt e j f) (keyMet keys j f)) 6 0) in
+          ap length (part-due j b) ∙ length-map (partDeeds keys e (setIn d j) j) (opOf (quadIn W)) ∙ omega (arith, count-each (has (setIn d j)) (λ f. deedBy (cutting j) (typeAt e j f) (keyMet keys j f)) 6 0) in
           let same = ap (λ (x : ℕ × ℕ × List Quad). length (x .2)) (acting-same os (length (before j)) (before j) (omega arith)) in
           (λ i. sym same i + cond (cutting j) (sym many i) 0) ∙ acting-count (cutting j) (acting os (before j)) (before j) (acting-all (λ o. acting.cutting o ≡ cutting j) os (before j) (kinds (setIn w j) j)) (acting-acts os (before j))
           ∙ ap (λ (n : ℕ). length (before j) + cond (cutting j) 0 n) many

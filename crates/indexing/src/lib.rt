@@ -5,7 +5,6 @@ use face::Face;
 use face::NONE;
 use face::Quad;
 use face::face_at;
-use face::lowest_side;
 use face::quads_of;
 use face::side_set;
 use mesh_metadata::QuadIndex;
@@ -19,17 +18,17 @@ use vav::free_row;
 use vav::moved_by;
 use works::Work;
 use works::does_cut;
+use works::place_of;
 use works::type_of;
 ghost use mathlib.Core.Path.{_≡_};
 ghost use mathlib.Core.List.{[], _∷_};
 ghost use Prim.Native.Nat.{ℕ, _+_, _*_, _^_, _≤_, _<_, max};
 ghost use lib.ListN.{length};
-ghost use Rattle.rules.specs.Lists.{each};
 ghost use Rattle.rules.specs.Cells.{UNIT, keyOf, setOf};
 ghost use Rattle.rules.specs.Mesh.{NONE};
 ghost use Rattle.face.specs.Face.{number};
 ghost use Rattle.entries.specs.Log.{entryIn};
-ghost use Rattle.works.specs.Sets.{setIn, keyMet, deedBy, deedAt, deeds};
+ghost use Rattle.works.specs.Sets.{setIn, keyMet, deedBy, deeds};
 ghost use Rattle.indexing.specs.Due.{isEmpty, isMet, dueOf, fitsIn, Gridded};
 ghost use Rattle.indexing.specs.Index.{indexOf, goneAt, cameAt, indexRun, Begun, Removable, Drawable};
 
@@ -128,55 +127,29 @@ fn do_face(
     append_quad(links, slots, steps, key, voxel, tally)
 }
 
-// Does one of the four parts of a work, at the faces of its set.
-fn index_part(
-    links: &mut [u32],
-    slots: &mut [u32],
-    steps: &mut [u32],
-    keys: &[u32; 12],
-    entry: Entry,
-    set: u8,
-    part: u32,
-    tally: Tally,
-) -> Tally
-    requires { ⌜ (set < 64) × Begun (length (now steps)) (each 6 0 (deedAt (now keys) (entryIn entry) set part)) (indexOf (now links) (now slots) (now steps) tally) ⌝ }
-    ensures { λ r. ⌜ indexOf (now (links .exit)) (now (slots .exit)) (now (steps .exit)) r
-        ≡ indexRun (each 6 0 (deedAt (now (keys .entry)) (entryIn entry) set part)) (indexOf (now (links .entry)) (now (slots .entry)) (now (steps .entry)) tally) ⌝ }
-{
-    let cuts = does_cut(part);
-    let first = 6 * (part % 2) as usize;
-    let mut left = tally;
-    let mut rest = set as u32;
-    while rest != 0 {
-        let f = lowest_side(rest);
-        let at = first + f as usize;
-        let voxel = type_of(entry, part, face_at(f));
-        left = do_face(links, slots, steps, keys[at], cuts, voxel, left);
-        rest = rest & (rest - 1);
-    }
-    left
-}
-
-// Does the work of an entry, part by part.
+// Does the sides of a work, all of which change something, from the lowest of the 24 on.
 pub fn index_work(
     links: &mut [u32],
     slots: &mut [u32],
     steps: &mut [u32],
     keys: &[u32; 12],
     entry: Entry,
-    work: Work,
+    sides: u32,
     tally: Tally,
 ) -> Tally
-    requires { ⌜ ((j : ℕ) → setIn work j < 64) × Begun (length (now steps)) (deeds (now keys) (entryIn entry) work) (indexOf (now links) (now slots) (now steps) tally) ⌝ }
+    requires { ⌜ (sides < 2 ^ 24) × Begun (length (now steps)) (deeds (now keys) (entryIn entry) sides) (indexOf (now links) (now slots) (now steps) tally) ⌝ }
     ensures { λ r. ⌜ indexOf (now (links .exit)) (now (slots .exit)) (now (steps .exit)) r
-        ≡ indexRun (deeds (now (keys .entry)) (entryIn entry) work) (indexOf (now (links .entry)) (now (slots .entry)) (now (steps .entry)) tally) ⌝ }
+        ≡ indexRun (deeds (now (keys .entry)) (entryIn entry) sides) (indexOf (now (links .entry)) (now (slots .entry)) (now (steps .entry)) tally) ⌝ }
 {
     let mut left = tally;
-    let mut part: u32 = 0;
-    while part < 4 {
-        let set = work.set_of(part);
-        left = index_part(links, slots, steps, keys, entry, set, part, left);
-        part += 1;
+    let mut rest = sides;
+    while rest != 0 {
+        let i = u32::trailing_zeros(rest);
+        let at = place_of(i);
+        let cuts = does_cut(i);
+        let voxel = type_of(entry, i);
+        left = do_face(links, slots, steps, keys[at], cuts, voxel, left);
+        rest = rest & (rest - 1);
     }
     left
 }

@@ -2,7 +2,7 @@
 use mathlib.Core.Path.{_≡_, refl, sym, ap, _∙_, subst}
 use mathlib.Core.Bool.{Bool, true, false}
 use mathlib.Core.List.{List, [], _∷_, _++_, map, map-append, append-nil, append-assoc}
-use Prim.Native.Nat.{ℕ, zero, suc, _+_, _-_, _*_, _/_, _%_, _≤_, _<_}
+use Prim.Native.Nat.{ℕ, _+_, _-_, _*_, _/_, _%_, _≤_, _<_}
 use native.Mathlib.Nat.{add-zero}
 use native.Mathlib.Numerals.{add-one}
 use native.Mathlib.Omega.{arith}
@@ -13,7 +13,7 @@ use lib.ListN as list
 use lib.Seq.{take-suc-set}
 use Rattle.rules.specs.Lists.{each, only, count}
 use Rattle.rules.specs.Cells.{keyOf, linkWord, firstVertex, has, rank, quadsOf}
-use Rattle.rules.proofs.ListLaws.{each-split, count-each}
+use Rattle.rules.proofs.ListLaws.{none-each, each-split, count-each}
 use Rattle.rules.proofs.Rows.{each-more}
 use Rattle.face.proofs.Lowest.{Rest, rest-start, rest-none, rest-below, rest-from, rest-at, rest-skip, rest-next}
 use Rattle.vav.specs.Rows.{put}
@@ -48,11 +48,6 @@ kept-after {base} {m} {keys = keys} {ls₀ = ls₀} {ss₀ = ss₀} u h =
     (ap length (u .links) ∙ kept-rows 1 linkRow (λ k. refl) (base + m) keys ls₀ (omega arith), ap length (u .slots) ∙ kept-named (base + m) keys ss₀)
 
 -- ---- the faces of a cell
-none-each : (n i : ℕ) (p : ℕ → List ℕ) → ((k : ℕ) → i ≤ k → k < i + n → p k ≡ []) → each n i p ≡ []
-unfolding each
-none-each zero i p h = refl
-none-each (suc n) i p h = rw (h i (omega arith) (omega arith)) (none-each n (suc i) p (λ k a b. h k (omega arith) (omega arith)))
-
 module _ (cell set : ℕ) where
   abbrev row : ℕ → List ℕ
   row i = only (has set i) (keyOf cell i)
@@ -86,14 +81,14 @@ module _ (cell set : ℕ) where
     -- the faces below f are there, and the others are left
     pub record Indexed (ls ss ts : List ℕ) (next rest : ℕ) : Type 0 where
       pub f : ℕ
-      pub left : Rest set f rest
+      pub left : Rest 8 6 set f rest
       pub count : next ≡ n + rank set f
       pub are : Entered base word (below f) ls₀ ss₀ ts₀ ls ss ts n next
       pub most : f ≤ 6
 
     pub begin : set < 64 → Indexed ls₀ ss₀ ts₀ n set
     unfolding each count
-    begin h = record { f = 0; left = rest-start h; count = sym (add-zero n); are = none-after base word ls₀ ss₀ ts₀ n; most = omega arith }
+    begin h = record { f = 0; left = rest-start (omega arith) h; count = sym (add-zero n); are = none-after base word ls₀ ss₀ ts₀ n; most = omega arith }
 
     module _ (room : base + n + quadsOf set ≤ length ls₀) {ls ss ts : List ℕ} {next rest : ℕ} (x : Indexed ls ss ts next rest) where
       -- the lists keep their lengths

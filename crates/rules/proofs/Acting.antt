@@ -9,7 +9,7 @@ use lib.ListN.{length, length-append}
 use borrow.Author.Tests.{ne-eqb}
 use Rattle.rules.specs.Lists.{each, only, member, isNil}
 use Rattle.rules.specs.Mesh.{Quad, at, there, placeOf}
-use Rattle.rules.specs.Update.{removeAt, remove, Op, put, cut, step, run, movedIn, moves, highest}
+use Rattle.rules.specs.Update.{remove, Op, put, cut, step, run, movedIn, moves, highest}
 use Rattle.rules.proofs.ListLaws.{All, all-append, all-only, split, not-true, not-false, each-same}
 use Rattle.rules.proofs.Quads.{Once, orElse, at-draw, at-remove, placed, length-removeAt, run-once}
 

@@ -49,6 +49,11 @@ unfolding each
 each-same zero i p q h = refl
 each-same (suc n) i p q h = rw (h i (omega arith) (omega arith), each-same n (suc i) p q (λ k a b. h k (omega arith) (omega arith)))
 
+pub none-each {ℓ} : {A : Type ℓ} (n i : ℕ) (p : ℕ → List A) → ((k : ℕ) → i ≤ k → k < i + n → p k ≡ []) → each n i p ≡ []
+unfolding each
+none-each zero i p h = refl
+none-each (suc n) i p h = rw (h i (omega arith) (omega arith)) (none-each n (suc i) p (λ k a b. h k (omega arith) (omega arith)))
+
 pub each-split {ℓ} : {A : Type ℓ} (a b i : ℕ) (p : ℕ → List A) → each (a + b) i p ≡ each a i p ++ each b (i + a) p
 unfolding each
 each-split zero b i p = let z : i + 0 ≡ i = omega arith in let y : 0 + b ≡ b = omega arith in rw (z, y)

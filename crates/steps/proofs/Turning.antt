@@ -1,15 +1,10 @@
 -- What is to be done list by list, n lists: what is left on what is there is the whole on what was there. Assumes nothing.
-use mathlib.Core.Path.{_≡_, refl, sym, _∙_}
+use mathlib.Core.Path.{_≡_, sym, _∙_}
 use mathlib.Core.List.{List, [], _++_}
-use Prim.Native.Nat.{ℕ, zero, suc, _+_, _-_, _≤_, _<_}
+use Prim.Native.Nat.{ℕ, suc, _+_, _-_, _≤_, _<_}
 use native.Mathlib.Omega.{arith}
 use Rattle.rules.specs.Lists.{each}
-use Rattle.rules.proofs.ListLaws.{each-split}
-
-none-each : {D : Type 0} (n i : ℕ) (p : ℕ → List D) → ((k : ℕ) → i ≤ k → k < i + n → p k ≡ []) → each n i p ≡ []
-unfolding each
-none-each zero i p h = refl
-none-each (suc n) i p h = rw (h i (omega arith) (omega arith)) (none-each n (suc i) p (λ k a b. h k (omega arith) (omega arith)))
+use Rattle.rules.proofs.ListLaws.{none-each, each-split}
 
 -- `Can` says that it can be done
 pub record Turning {D St : Type 0} (run : List D → St → St) (Can : List D → St → Type 0) (n : ℕ) (p : ℕ → List D) (i : ℕ) (A B : St) : Type 0 where

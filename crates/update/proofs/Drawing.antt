@@ -23,7 +23,7 @@ use Rattle.lent.specs.Scenes.{Typed}
 use Rattle.steps.specs.Steps.{Deed, show, hide, quadBy, opsOf, Able}
 use Rattle.steps.specs.Rows.{wordsBy, Shaped, Drawn}
 use Rattle.works.specs.declared.Work.{Work}
-use Rattle.works.specs.Sets.{setIn, keyMet, cutting, typeAt, deedBy, deeds, Cubes}
+use Rattle.works.specs.Sets.{setIn, packed, keyMet, cutting, typeAt, deedBy, deeds, Cubes}
 use Rattle.indexing.specs.Index.{Good}
 use Rattle.indexing.proofs.Sets.{all-deeds}
 
@@ -58,8 +58,8 @@ module _ (S : Scene) (k : Typed S) where
       }
 
   -- LAW: deeds that fit, of cubes, can be drawn
-  pub deeds-able : (keys : List ℕ) (e : Entry) (v : Work) → Cubes (S .types .kinds) e v → All (Good (faces S) (span S)) (opsOf (quadBy (wordsBy (bare S))) (deeds keys e v)) → All (Able (Drawn (bare S))) (deeds keys e v)
-  deeds-able keys e v c good = both (deeds keys e v) good (all-deeds keys e v (Able (λ k t. Shaped (bare S) t)) made)
+  pub deeds-able : (keys : List ℕ) (e : Entry) (v : Work) → ((j : ℕ) → setIn v j < 64) → Cubes (S .types .kinds) e v → All (Good (faces S) (span S)) (opsOf (quadBy (wordsBy (bare S))) (deeds keys e (packed v))) → All (Able (Drawn (bare S))) (deeds keys e (packed v))
+  deeds-able keys e v few c good = both (deeds keys e (packed v)) good (all-deeds keys e (Able (λ k t. Shaped (bare S) t)) v few made)
     where
       made : (j f : ℕ) → j < 4 → f < 6 → has (setIn v j) f ≡ true → Able (λ k t. Shaped (bare S) t) (deedBy (cutting j) (typeAt e j f) (keyMet keys j f))
       made zero f _ l on = tt

@@ -26,7 +26,7 @@ use Rattle.steps.specs.Steps.{Step, Deed, stepsIn, Shelf, shelf, replayed, quad
 use Rattle.steps.proofs.Replaying.{replay-run}
 use Rattle.steps.specs.Rows.{wordsBy, Drawn, Replaying}
 use Rattle.works.specs.declared.Work.{Work}
-use Rattle.works.specs.Sets.{meant, setIn, keyOr, keysAround, keyMet, deeds, Cubes}
+use Rattle.works.specs.Sets.{meant, setIn, packed, keyOr, keysAround, keyMet, deeds, Cubes}
 use Rattle.works.proofs.Works.{near-key}
 use Rattle.works.proofs.Meant.{Means, meant-work, meant-cubes}
 use Rattle.indexing.specs.Index.{Index, indexRun, bookOf, Good, Ground, Ready, Begun}
@@ -170,13 +170,13 @@ module _ (tested : Tested) {S : Scene} {room : ℕ} {log vs₀ ls₀ ss₀ : Lis
       -- ---- an entry that finds its room
       module _ (fit : needed (works k) m ≤ room) (xs : List ℕ) (long : length xs ≡ 48) where
         abbrev ds : List Deed
-        ds = deeds ks e d
+        ds = deeds ks e (packed d)
 
         abbrev os : List Op
         os = opsOf (quadBy (wordsBy (bare S))) ds
 
         acting-now : os ≡ acting (ops (works k)) m
-        acting-now = (λ i. opsOf (quadBy (wordsBy (bare S))) (deeds (f .keys i) e (around i))) ∙ due-ops (world S) e (g .within) inside m (sane .once) w ss told no-face means
+        acting-now = (λ i. opsOf (quadBy (wordsBy (bare S))) (deeds (f .keys i) e (packed (around i)))) ∙ due-ops (world S) e (g .within) inside m (sane .once) w ss told no-face means
 
         good : All (Good (faces S) (span S)) os
         unfolding ops
@@ -198,7 +198,7 @@ module _ (tested : Tested) {S : Scene} {room : ℕ} {log vs₀ ls₀ ss₀ : Lis
         able : All (Able (Drawn (bare S))) ds
         able =
             let c = subst (Cubes (S .types .kinds) e) (sym (f .sets)) (meant-cubes (world S) e tested) in
-            deeds-able S (g .typed) ks e d (subst (Cubes (S .types .kinds) e) (sym (f .due)) (due-cubes (S .types .kinds) ss ks (e .cell) e w c)) good
+            deeds-able S (g .typed) ks e d run-dues (subst (Cubes (S .types .kinds) e) (sym (f .due)) (due-cubes (S .types .kinds) ss ks (e .cell) e w c)) good
 
         same : after h m os ≡ after h m (ops (works k))
         same = ap (after h m) acting-now ∙ acting-same (ops (works k)) h m (sane .reached)
@@ -214,7 +214,7 @@ module _ (tested : Tested) {S : Scene} {room : ℕ} {log vs₀ ls₀ ss₀ : Lis
         ready =
             let few = g .few in
             let mv = r .moves in
-            let a = all-few ks e d in
+            let a = all-few ks e (packed d) in
             record {
               ground = ground;
               top = h;

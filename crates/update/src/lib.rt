@@ -106,7 +106,7 @@ fn run_log(
             &mut steps,
             &keys,
             entry,
-            due,
+            due.word(),
             Tally {
                 quads: quads,
                 moved: moved,

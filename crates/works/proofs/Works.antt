@@ -1,23 +1,25 @@
 -- What an entry tells of a side, and the keys around its cell. Assumes nothing.
 use mathlib.Core.Path.{_≡_, refl, ap, _∙_}
 use mathlib.Core.Bool.{Bool, true, false, cond, not}
-use mathlib.Core.List.{List, [], _∷_}
+use mathlib.Core.List.{List, [], _∷_, _++_, append-assoc, append-nil}
 use mathlib.Core.Option.{Option, none, some}
 use Prim.Native.Nat.{ℕ, zero, suc, _+_, _-_, _*_, _/_, _%_, _<_}
 use native.Mathlib.Omega.{arith}
 use lib.Dec.{eqb}
 use lib.ListN.{getD}
+use Rattle.rules.specs.Lists.{each, only}
 use Rattle.rules.specs.Cells.{Size, cells, opposite, neighbour, keyOf, has}
 use Rattle.rules.specs.Mesh.{World}
 use Rattle.rules.specs.Update.{Entry, givenAt, outside, isOpen}
-use Rattle.rules.proofs.ListLaws.{All, split, getD-table}
+use Rattle.rules.proofs.ListLaws.{All, split, each-same, getD-table}
 use Rattle.rules.proofs.Neighbours.{beside, opposite-lt, opposite-twice}
+use Rattle.face.proofs.Lowest.{half}
 use Rattle.util.specs.Grid.{Within}
 use borrow.Author.Tests.{lt-ltb, le-ltb}
 use Rattle.entries.specs.Log.{neighbourOf}
 use Rattle.entries.specs.declared.Neighbour.the-variants.{Outside, Voxel}
 use Rattle.works.specs.declared.Work.{Work}
-use Rattle.works.specs.Sets.{setIn, keyOr, keyAt, keysAround, keyMet}
+use Rattle.works.specs.Sets.{setIn, packed, keyOr, keyAt, keysAround, keyMet, deedBy, partDeeds, cutAt, typeIn, placeIn, deedAt, deeds}
 
 -- ---- types and neighbours
 given-outside : (g : ℕ) → neighbourOf g ≡ Outside → outside g ≡ true
@@ -35,12 +37,43 @@ module _ (e : Entry) (f : ℕ) (W : World) where
   pub open-voxel : {v k c : ℕ} {b : Bool} → neighbourOf (givenAt e f) ≡ Voxel v → b ≡ has c k → c ≡ getD (W .covers) v 0 → k ≡ opposite f → not b ≡ isOpen W e f
   open-voxel {v} n b c k = rw (given-voxel (givenAt e f) v n .0, given-voxel (givenAt e f) v n .1, b, c, k)
 
--- the last of four parts
-pub last-set : (w : Work) (p : ℕ) → (p ≡ 0 → ⊥) → (p ≡ 1 → ⊥) → (p ≡ 2 → ⊥) → setIn w p ≡ w .hidden
-last-set w zero a b c = absurd (a refl)
-last-set w (suc zero) a b c = absurd (b refl)
-last-set w (suc (suc zero)) a b c = absurd (c refl)
-last-set w (suc (suc (suc p))) a b c = refl
+-- ---- four sets as one
+module _ (r a : ℕ) (h : r < 64) where
+  low-has : (f : ℕ) → f < 6 → has (r + 64 * a) f ≡ has r f
+  low-has zero l = let z : (r + 64 * a) / 1 % 2 ≡ r / 1 % 2 = omega arith in ap (λ (n : ℕ). eqb n 1) z
+  low-has (suc zero) l = let z : (r + 64 * a) / 2 % 2 ≡ r / 2 % 2 = omega arith in ap (λ (n : ℕ). eqb n 1) z
+  low-has (suc (suc zero)) l = let z : (r + 64 * a) / 4 % 2 ≡ r / 4 % 2 = omega arith in ap (λ (n : ℕ). eqb n 1) z
+  low-has (suc (suc (suc zero))) l = let z : (r + 64 * a) / 8 % 2 ≡ r / 8 % 2 = omega arith in ap (λ (n : ℕ). eqb n 1) z
+  low-has (suc (suc (suc (suc zero)))) l = let z : (r + 64 * a) / 16 % 2 ≡ r / 16 % 2 = omega arith in ap (λ (n : ℕ). eqb n 1) z
+  low-has (suc (suc (suc (suc (suc zero))))) l = let z : (r + 64 * a) / 32 % 2 ≡ r / 32 % 2 = omega arith in ap (λ (n : ℕ). eqb n 1) z
+  low-has (suc (suc (suc (suc (suc (suc f)))))) l = absurd (omega arith)
+
+  high-has : (i : ℕ) → has (r + 64 * a) (6 + i) ≡ has a i
+  high-has i =
+      let n = r + 64 * a in
+      let z : 6 + i ≡ suc (suc (suc (suc (suc (suc i))))) = omega arith in
+      let e : n / 2 / 2 / 2 / 2 / 2 / 2 ≡ a = omega arith in
+      ap (has n) z ∙ half n _ ∙ half (n / 2) _ ∙ half (n / 2 / 2) _ ∙ half (n / 2 / 2 / 2) _ ∙ half (n / 2 / 2 / 2 / 2) _ ∙ half (n / 2 / 2 / 2 / 2 / 2) i ∙ ap (λ (m : ℕ). has m i) e
+
+-- LAW: a side of a part is one of the 24
+pub has-packed : (w : Work) → ((j : ℕ) → setIn w j < 64) → (j f : ℕ) → j < 4 → f < 6 → has (packed w) (6 * j + f) ≡ has (setIn w j) f
+has-packed w few zero f _ l = let z : 6 * 0 + f ≡ f = omega arith in ap (has (packed w)) z ∙ low-has (w .own) _ (few 0) f l
+has-packed w few (suc zero) f _ l = high-has (w .own) _ (few 0) f ∙ low-has (w .shown) _ (few 1) f l
+has-packed w few (suc (suc zero)) f _ l =
+    let z : 6 * 2 + f ≡ 6 + (6 + f) = omega arith in ap (has (packed w)) z ∙ high-has (w .own) _ (few 0) (6 + f) ∙ high-has (w .shown) _ (few 1) f ∙ low-has (w .drawn) _ (few 2) f l
+has-packed w few (suc (suc (suc zero))) f _ l =
+    let z : 6 * 3 + f ≡ 6 + (6 + (6 + f)) = omega arith in
+    ap (has (packed w)) z ∙ high-has (w .own) _ (few 0) (6 + (6 + f)) ∙ high-has (w .shown) _ (few 1) (6 + f) ∙ high-has (w .drawn) (w .hidden) (few 2) f
+has-packed w few (suc (suc (suc (suc j)))) f b l = absurd (omega arith)
+
+-- LAW: the deeds of the 24 are those of the four parts
+pub deeds-parts : (keys : List ℕ) (e : Entry) (w : Work) → ((j : ℕ) → setIn w j < 64)
+    → deeds keys e (packed w) ≡ partDeeds keys e (w .own) 0 ++ (partDeeds keys e (w .shown) 1 ++ (partDeeds keys e (w .drawn) 2 ++ partDeeds keys e (w .hidden) 3))
+unfolding each
+deeds-parts keys e w few =
+    each-same 24 0 (deedAt keys e (packed w)) (λ i. only (has (setIn w (i / 6)) (i % 6)) (deedBy (cutAt i) (typeIn e i) (getD keys (placeIn i) 0)))
+    (λ i _ l. ap (λ (b : Bool). only b (deedBy (cutAt i) (typeIn e i) (getD keys (placeIn i) 0))) (ap (has (packed w)) (omega arith) ∙ has-packed w few (i / 6) (i % 6) (omega arith) (omega arith)))
+    ∙ simp (append-assoc, append-nil)
 
 -- ---- the keys around a cell
 -- the facing side of a neighbour, if the grid has it

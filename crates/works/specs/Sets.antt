@@ -1,7 +1,7 @@
 -- What an entry means, as four side sets, and face by face. Definitions only.
 use Prim.Native.Nat.{ℕ, zero, suc, _+_, _-_, _*_, _/_, _%_, _<_}
 use mathlib.Core.Path.{_≡_}
-use mathlib.Core.Bool.{Bool, true, cond, not, _&&_}
+use mathlib.Core.Bool.{Bool, true, cond, not, _&&_, _||_}
 use mathlib.Core.List.{List, []}
 use mathlib.Core.Option.{Option, none, some}
 use lib.ListN.{getD}
@@ -38,12 +38,15 @@ meantBy tested W e AddFaces = cond (isNormalCube W (e .type)) (sets 0 0 (setOf (
 abbrev pub meant : Tested → World → Entry → Work
 meant tested W e = meantBy tested (typesBy (W .kinds) (W .covers)) e (e .change)
 
--- ---- the four parts: their sets, the faces that they are about, and what is done there
+-- ---- the four parts: their sets, as one of 24, the faces that they are about, and what is done there
 abbrev pub setIn : Work → ℕ → ℕ
 setIn w zero = w .own
 setIn w (suc zero) = w .shown
 setIn w (suc (suc zero)) = w .drawn
 setIn w (suc (suc (suc p))) = w .hidden
+
+abbrev pub packed : Work → ℕ
+packed w = w .own + 64 * (w .shown + 64 * (w .drawn + 64 * w .hidden))
 
 -- the neighbour's facing side, NONE where the grid has no neighbour
 abbrev pub keyOr : ℕ → Option ℕ → ℕ
@@ -70,13 +73,24 @@ typeAt e part f = cond (eqb part 1) (givenAt e f) (e .type)
 abbrev pub deedBy : Bool → ℕ → ℕ → Deed
 deedBy cuts t k = cond cuts (hide k) (show k t)
 
--- a part with its set at face f
-abbrev pub deedAt : List ℕ → Entry → ℕ → ℕ → ℕ → List Deed
-deedAt keys e set part f = only (has set f) (deedBy (cutting part) (typeAt e part f) (keyMet keys part f))
+abbrev pub partDeeds : List ℕ → Entry → ℕ → ℕ → List Deed
+partDeeds keys e set part = each 6 0 (λ f. only (has set f) (deedBy (cutting part) (typeAt e part f) (keyMet keys part f)))
 
--- the four parts
-abbrev pub deeds : List ℕ → Entry → Work → List Deed
-deeds keys e w = each 4 0 (λ j. each 6 0 (deedAt keys e (setIn w j) j))
+-- the same by the one number, 6 · part + face
+abbrev pub cutAt : ℕ → Bool
+cutAt i = ltb i 6 || ltb 17 i
+
+abbrev pub typeIn : Entry → ℕ → ℕ
+typeIn e i = cond (ltb 5 i && ltb i 12) (givenAt e (i - 6)) (e .type)
+
+abbrev pub placeIn : ℕ → ℕ
+placeIn i = cond (ltb i 12) i (i - 12)
+
+abbrev pub deedAt : List ℕ → Entry → ℕ → ℕ → List Deed
+deedAt keys e sides i = only (has sides i) (deedBy (cutAt i) (typeIn e i) (getD keys (placeIn i) 0))
+
+abbrev pub deeds : List ℕ → Entry → ℕ → List Deed
+deeds keys e sides = each 24 0 (deedAt keys e sides)
 
 abbrev pub quadIn : World → ℕ → ℕ → Quad
 quadIn W = quadBy (λ k t. W .wordsOf t (k % 6) (k / 6))

@@ -18,7 +18,7 @@ use util::neighbor_at;
 ghost use mathlib.Core.Path.{_≡_};
 ghost use mathlib.Core.Bool.{cond};
 ghost use mathlib.Core.List.{[]};
-ghost use Prim.Native.Nat.{_<_};
+ghost use Prim.Native.Nat.{ℕ, _<_};
 ghost use lib.ListN.{getD};
 ghost use Rattle.rules.specs.Cells as rule;
 ghost use Rattle.rules.specs.Cells.{cells, coordinates, neighbour, setOf};
@@ -27,7 +27,7 @@ ghost use Rattle.face.specs.Face.{number};
 ghost use Rattle.util.specs.Grid.{sizeOf, tripleOf, Within, Inverts};
 ghost use Rattle.entries.specs.Log.{entryIn};
 ghost use Rattle.terms.specs.Modes.{testedBy};
-ghost use Rattle.works.specs.Sets.{typesBy, isShown, sets, noWork, meant, setIn, keyOr, keysAround, cutting, typeAt};
+ghost use Rattle.works.specs.Sets.{typesBy, isShown, sets, noWork, meant, setIn, packed, keyOr, keysAround, cutAt, typeIn, placeIn};
 
 // All six sides.
 const ALL_SIDES: u8 = 63;
@@ -52,10 +52,11 @@ fn code_of(table: &[u8], voxel: u8) -> u8
 }
 
 // The neighbour's byte: a type, or outside.
-fn given(entry: Entry, face: Face) -> u8
-    ensures { λ r. ⌜ r ≡ givenAt (entryIn entry) (number face) ⌝ }
+fn given(entry: Entry, face: u32) -> u8
+    requires { ⌜ face < 6 ⌝ }
+    ensures { λ r. ⌜ r ≡ givenAt (entryIn entry) face ⌝ }
 {
-    let side = face.number() as usize;
+    let side = face as usize;
     entry.neighbours[side]
 }
 
@@ -72,19 +73,19 @@ fn is_open(covers: &[u8], entry: Entry, face: Face) -> bool
 fn is_shown(kinds: &[u8], cover: u8, entry: Entry, face: Face) -> bool
     ensures { λ r. ⌜ r ≡ isShown (now (kinds .entry)) cover (entryIn entry) (number face) ⌝ }
 {
-    has(cover, face) & (code_of(kinds, given(entry, face)) == 1)
+    has(cover, face) & (code_of(kinds, given(entry, face.number())) == 1)
 }
 
 fn given_sides(entry: Entry) -> u8
     ensures { λ r. ⌜ r ≡ setOf (withGiven (entryIn entry)) ⌝ }
 {
     side_set(
-        given(entry, Face::Top) != Entry::OUTSIDE,
-        given(entry, Face::Bottom) != Entry::OUTSIDE,
-        given(entry, Face::Right) != Entry::OUTSIDE,
-        given(entry, Face::Left) != Entry::OUTSIDE,
-        given(entry, Face::Back) != Entry::OUTSIDE,
-        given(entry, Face::Forward) != Entry::OUTSIDE,
+        given(entry, 0) != Entry::OUTSIDE,
+        given(entry, 1) != Entry::OUTSIDE,
+        given(entry, 2) != Entry::OUTSIDE,
+        given(entry, 3) != Entry::OUTSIDE,
+        given(entry, 4) != Entry::OUTSIDE,
+        given(entry, 5) != Entry::OUTSIDE,
     )
 }
 
@@ -172,16 +173,13 @@ pub fn work_of(kinds: &[u8], covers: &[u8], tested: Tested, entry: Entry) -> Wor
 }
 
 impl Work {
-    // The set that a part is of.
-    pub fn set_of(self, part: u32) -> u8
-        ensures { λ r. ⌜ r ≡ setIn self part ⌝ }
+    // The four sets as one of 24: 6 · part + face.
+    pub fn word(self) -> u32
+        requires { ⌜ ((j : ℕ) → setIn self j < 64) ⌝ }
+        ensures { λ r. ⌜ r ≡ packed self ⌝ }
     {
-        match part {
-            0 => self.own,
-            1 => self.shown,
-            2 => self.drawn,
-            _ => self.hidden,
-        }
+        self.own as u32
+            + 64 * (self.shown as u32 + 64 * (self.drawn as u32 + 64 * (self.hidden as u32)))
     }
 }
 
@@ -219,19 +217,29 @@ pub fn keys_around(dims: Dimensions, inverse: Inverse, cell: Cell) -> [u32; 12]
     ]
 }
 
-// Whether part `part` cuts.
-pub fn does_cut(part: u32) -> bool
-    ensures { λ r. ⌜ r ≡ cutting part ⌝ }
+// Of the 24: whether it is a cut.
+pub fn does_cut(i: u32) -> bool
+    ensures { λ r. ⌜ r ≡ cutAt i ⌝ }
 {
-    (part != 1) & (part != 2)
+    (i < 6) | (17 < i)
 }
 
-// The type that part `part` draws at a face.
-pub fn type_of(entry: Entry, part: u32, face: Face) -> u8
-    ensures { λ r. ⌜ r ≡ typeAt (entryIn entry) part (number face) ⌝ }
+// The type that is drawn there.
+pub fn type_of(entry: Entry, i: u32) -> u8
+    ensures { λ r. ⌜ r ≡ typeIn (entryIn entry) i ⌝ }
 {
-    if part == 1 {
-        return given(entry, face);
+    if (5 < i) & (i < 12) {
+        return given(entry, i - 6);
     }
     entry.voxel
+}
+
+// The place of its key around the cell.
+pub fn place_of(i: u32) -> usize
+    ensures { λ r. ⌜ r ≡ placeIn i ⌝ }
+{
+    if i < 12 {
+        return i as usize;
+    }
+    (i - 12) as usize
 }

@@ -1,57 +1,120 @@
 -- `indexing::index_work` meets its contract: what is left to do on what is there is the whole work on what was there. Assumes nothing.
 use mathlib.Core.Path.{_≡_, refl, sym, ap, _∙_, subst}
-use Prim.Native.Nat.{ℕ, _-_, _<_}
+use mathlib.Core.Bool.{Bool, cond}
+use mathlib.Core.List.{List, [], _∷_}
+use Prim.Native.Nat.{ℕ, _+_, _-_, _≤_, _<_}
 use native.Mathlib.Omega.{arith}
-use lib.ListN.{length}
-use Rattle.rules.specs.Lists.{each}
+use lib.Bits.{and-le-r}
+use lib.Count.{trailingZeros}
+use lib.ListN.{length, getD}
+use lib.Dec.{ltb}
+use borrow.Author.Tests.{ltb-true, ltb-false}
+use Rattle.rules.specs.Lists.{only}
+use Rattle.rules.proofs.ListLaws.{split}
+use Rattle.face.proofs.Lowest.{Rest, rest-start, rest-none, rest-below, rest-from, rest-at, rest-skip, rest-next}
 use Rattle.entries.specs.Log.{entryIn}
-use Rattle.works.specs.Sets.{setIn, deedAt}
-use Rattle.indexing.specs.Index.{indexOf, indexRun, Begun}
-use Rattle.steps.proofs.Turning.{Turning, start, this, turn, done}
+use Rattle.steps.specs.Steps.{Deed}
+use Rattle.steps.proofs.Turning.{Turning, start, this, skip, turn, done}
+use Rattle.works.specs.Sets.{deedBy, cutAt, typeIn, placeIn, deedAt}
+use Rattle.indexing.specs.Index.{Index, indexOf, indexRun, Begun}
 use Rattle.indexing.proofs.Doing.{piecewise}
 use borrow.Author.Needs.{needs}
 use Rattle.indexing.proofs.index_work.Statement.{statement}
 use Rattle.indexing.proofs.index_work.Tie as tie
 
 abbrev Inv-loop : tie.InvT-loop
-Inv-loop links₀ slots₀ steps₀ keys entry work left₀ part₀ links slots steps left part =
-    Turning indexRun (Begun (length steps₀)) 4 (λ j. each 6 0 (deedAt keys (entryIn entry) (setIn work j) j)) part (indexOf links₀ slots₀ steps₀ left₀) (indexOf links slots steps left)
-    × (length links ≡ length links₀) × (length slots ≡ length slots₀) × (length steps ≡ length steps₀)
+Inv-loop links₀ slots₀ steps₀ keys entry sides left₀ rest₀ links slots steps left rest =
+    (f : ℕ) × Turning indexRun (Begun (length steps₀)) 24 (deedAt keys (entryIn entry) sides) f (indexOf links₀ slots₀ steps₀ left₀) (indexOf links slots steps left)
+    × Rest 32 24 sides f rest × (length links ≡ length links₀) × (length slots ≡ length slots₀) × (length steps ≡ length steps₀)
 
 abbrev μ-loop : tie.MeasureT-loop
-μ-loop links₀ slots₀ steps₀ keys entry work left₀ part₀ links slots steps left part = 4 - part
+μ-loop links₀ slots₀ steps₀ keys entry sides left₀ rest₀ links slots steps left rest = rest
 
-index-part-requires : tie.Need-index-part-requires Inv-loop μ-loop
-index-part-requires c κs =
-    let set = c .before .before .before in
-    let i = set .before in
+abbrev begun : tie.In-loop Inv-loop μ-loop → tie.Start Inv-loop μ-loop
+begun i = i .before .before .before .before .before
+
+-- the next of the 24
+abbrev low : tie.In-loop Inv-loop μ-loop → ℕ
+low i = trailingZeros 32 (i .before .loop .rest)
+
+below : (i : tie.In-loop Inv-loop μ-loop) → low i < 24
+below i = rest-below (i .before .loop .inv .2) (i .loop-test .taken) refl
+
+abbrev here : tie.In-loop Inv-loop μ-loop → Index
+here i = let l = i .before .loop in indexOf (l .links) (l .slots) (l .steps) (l .left)
+
+-- one that is not to be done asks for nothing
+abbrev deed-if : tie.Start Inv-loop μ-loop → ℕ → Bool → List Deed
+deed-if t k on = let a = t .args in only on (deedBy (cutAt k) (typeIn (entryIn (a .entry)) k) (getD (a .keys .now) (placeIn k) 0))
+
+turned-to : (i : tie.In-loop Inv-loop μ-loop) →
+    let a = begun i .args in
+    Turning indexRun (Begun (length (a .steps .now))) 24 (deedAt (a .keys .now) (entryIn (a .entry)) (a .sides)) (low i) (indexOf (a .links .now) (a .slots .now) (a .steps .now) (a .tally)) (here i)
+turned-to i =
     let l = i .before .loop in
-    let t = i .before .before .before .before .before in
-    let a = t .args in
-    let e = sym (set .set-of .ensures) in
-    let n = sym (l .inv .3) in (
-      subst (λ (n : ℕ). n < 64) e (t .pre .0 (l .part)),
-      subst (λ (x : ℕ × ℕ). Begun (x .0) (each 6 0 (deedAt (a .keys .now) (entryIn (a .entry)) (x .1) (l .part))) (indexOf (l .links) (l .slots) (l .steps) (l .left)))
-          (λ j. (n j, e j)) (this (l .inv .0) (piecewise _) (i .loop-test .taken)),
-    )
+    let b = below i in
+    let some = i .loop-test .taken in
+    skip (l .inv .1) (rest-from (l .inv .2) some refl) (omega arith) (λ k c d. ap (deed-if (begun i) k) (rest-skip (l .inv .2) some refl k c d))
+
+-- what is done there
+told : (c : tie.After-type-of Inv-loop μ-loop) →
+    let cut = c .before in
+    let i = cut .before .before in
+    let a = begun i .args in
+    deedBy (cut .does-cut .result) (c .type-of .result) (getD (a .keys .now) (cut .before .place-of .result) 0) ∷ [] ≡ deedAt (a .keys .now) (entryIn (a .entry)) (a .sides) (low i)
+told c =
+    let cut = c .before in
+    let i = cut .before .before in
+    let a = begun i .args in
+    (λ j. deedBy (cut .does-cut .ensures j) (c .type-of .ensures j) (getD (a .keys .now) (cut .before .place-of .ensures j) 0) ∷ [])
+    ∙ ap (deed-if (begun i) (low i)) (sym (rest-at (i .before .loop .inv .2) (i .loop-test .taken) refl))
+
+placed : (c : tie.After-place-of Inv-loop μ-loop) → c .place-of .result < 12
+placed c = let b = below (c .before) in omega (arith, c .place-of .ensures, few (low (c .before)) (below (c .before)))
+  where
+    few : (k : ℕ) → k < 24 → placeIn k < 12
+    few k l = split (λ b. ltb k 12 ≡ b → cond b k (k - 12) < 12) (ltb k 12) (λ _ t. ltb-true k 12 t) (λ _ t. let g = ltb-false k 12 t in omega arith) refl
+
+do-face-requires : tie.Need-do-face-requires Inv-loop μ-loop
+do-face-requires c κs =
+    let s = c .before .before .before .before in
+    let i = s .before .before .before in
+    let n = sym (i .before .loop .inv .5) in
+    let d = sym (told s) in
+    subst (λ (x : ℕ × List Deed). Begun (x .0) (x .1) (here i)) (λ j. (n j, d j)) (this (turned-to i) (piecewise _) (below i))
+
+abbrev into : tie.After-slice-known6 Inv-loop μ-loop → tie.In-loop Inv-loop μ-loop
+into c = c .before .before .before .before .before .before .before .before .before .before .before .before .before .before
+
+some : (i : tie.In-loop Inv-loop μ-loop) → 1 ≤ i .before .loop .rest
+some i = let d = i .loop-test .taken in omega arith
+
+loop-less : tie.Need-loop-less Inv-loop μ-loop
+loop-less c = let r = into c .before .loop .rest in omega (arith, and-le-r r (r - 1), some (into c))
 
 loop-again : tie.Need-loop-again Inv-loop μ-loop
 loop-again c =
     let went = c .before .before .before .before .before .before in
-    let set = went .before .before .before .before in
-    let i = set .before in
-    let l = i .before .loop in
-    let a = i .before .before .before .before .before .args in (
-      turn (l .inv .0) (piecewise _) (i .loop-test .taken)
-          (went .index-part .ensures
-          ∙ ap (λ (n : ℕ). indexRun (each 6 0 (deedAt (a .keys .now) (entryIn (a .entry)) n (l .part))) (indexOf (l .links) (l .slots) (l .steps) (l .left))) (set .set-of .ensures)),
-      went .index-part .kept .0 ∙ l .inv .1,
-      went .index-part .kept .1 .0 ∙ l .inv .2,
-      went .index-part .kept .1 .1 .0 ∙ l .inv .3,
+    let side = went .before .before .before .before .before in
+    let i = into c in
+    let l = i .before .loop in (
+      low i + 1,
+      turn (turned-to i) (piecewise _) (below i) (went .do-face .ensures ∙ ap (λ (ds : List Deed). indexRun ds (here i)) (told side)),
+      rest-next (l .inv .2) (i .loop-test .taken) refl,
+      went .do-face .kept .0 ∙ l .inv .3,
+      went .do-face .kept .1 .0 ∙ l .inv .4,
+      went .do-face .kept .1 .1 .0 ∙ l .inv .5,
     )
+
+returns : tie.Need-returns Inv-loop μ-loop
+returns c =
+    let l = c .before .loop in
+    let t = l .inv .1 in
+    done (skip t (t .below) (omega arith) (λ k u v. ap (deed-if (c .before .before .before .before .before) k) (rest-none (l .inv .2) (c .loop-test .left) k u v))) (λ s. refl) (omega arith)
 
 pub index-work-spec : {M : Type 1} → statement M
 index-work-spec =
     tie.close
-    (tie.spec Inv-loop μ-loop (λ c. (start (c .before .before .before .pre .1), refl, refl, refl)) (λ c κs. search needs) index-part-requires (λ c. omega arith) (λ c. omega arith) loop-again (λ c. c .before .loop .inv .1)
-    (λ c. c .before .loop .inv .2) (λ c. c .before .loop .inv .3) (λ c. done (c .before .loop .inv .0) (λ s. refl) (c .loop-test .left)))
+    (tie.spec Inv-loop μ-loop (λ c. let t = c .before .before .before in (0, start (t .pre .1), rest-start (omega arith) (t .pre .0), refl, refl, refl)) (λ c κs. search needs) (λ c κs. search needs) (λ c κs. search needs)
+    (λ c. omega (arith, placed (c .before .before .before .before .before))) (λ c. omega (arith, placed (c .before .before .before .before .before))) do-face-requires (λ c. some (into c)) loop-less loop-again (λ c. c .before .loop .inv .3) (λ c. c .before .loop .inv .4)
+    (λ c. c .before .loop .inv .5) returns)

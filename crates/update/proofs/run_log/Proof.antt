@@ -14,10 +14,10 @@ use Rattle.terms.specs.Scenes.{sceneOf}
 use Rattle.steps.specs.Steps.{Step, shelf, stepAt, replayed}
 use Rattle.steps.specs.Rows.{wordsBy, Replaying}
 use Rattle.entries.specs.Log.{entryIn}
-use Rattle.works.specs.Sets.{setIn}
-use Rattle.indexing.specs.Index.{Index}
+use Rattle.works.specs.Sets.{setIn, packed, deeds}
+use Rattle.indexing.specs.Index.{Index, indexOf, indexRun, Begun}
 use Rattle.update.proofs.Drawing.{bare}
-use Rattle.update.proofs.Running.{Running, Found, run-start, run-inside, run-gridded, run-dues, run-small, run-room, run-ready, run-few, run-replaying, run-on, run-full, run-through, run-ended}
+use Rattle.update.proofs.Running.{indexAt, Running, Found, run-start, run-inside, run-gridded, run-dues, run-small, run-room, run-ready, run-few, run-replaying, run-on, run-full, run-through, run-ended}
 use borrow.Author.Needs.{needs}
 use Rattle.update.proofs.run_log.Statement.{statement}
 use Rattle.update.proofs.run_log.Tie as tie
@@ -115,56 +115,83 @@ fits c = leb-true _ _ (sym (asked (c .before)) ∙ not-true _ (c .if1 .left))
 slice-aggregate-index-work : tie.Need-slice-aggregate-index-work Inv-loop μ-loop
 slice-aggregate-index-work c = sym (looped (keyed (c .before .before .before .before .before)) .before .loop .inv .4)
 
+-- the test that it passed
+abbrev passed : tie.After-word Inv-loop μ-loop → tie.Else1 Inv-loop μ-loop
+passed c = c .before .before .before .before .before
+
+abbrev due : tie.After-word Inv-loop μ-loop → tie.After-due-work Inv-loop μ-loop
+due c = passed c .before .before
+
 index-work-requires : tie.Need-index-work-requires Inv-loop μ-loop
 index-work-requires c κs =
-    let test = c .before .before .before .before in
-    let due = test .before .before in
-    let i = looped (keyed due) in
+    let i = looped (keyed (due c)) in
     let t = begun i in
     let l = i .before .loop in
-    (dues due, run-ready (side t) (t .pre) (l .inv .0) (found due) (fits test) (l .steps) (l .inv .4))
+    let few = dues (due c) in
+    let sides = c .word .ensures in (
+      omega (arith, sides, few 0, few 1, few 2, few 3),
+      subst (λ (n : ℕ). Begun (length (l .steps)) (deeds (keyed (due c) .keys-around .result) (entryIn (keyed (due c) .before .before .read-entry .result)) n) (indexAt (l .links) (l .slots) (l .quads) (l .moved) (l .highest) (l .steps))) (sym sides)
+          (run-ready (side t) (t .pre) (l .inv .0) (found (due c)) (fits (passed c)) (l .steps) (l .inv .4)),
+    )
+
+-- what the index is then
+worked : (c : tie.After-index-work Inv-loop μ-loop) →
+    let w = due (c .before) in
+    let l = looped (keyed w) .before .loop in
+    indexOf (c .index-work .last .0) (c .index-work .last .1 .0) (c .index-work .last .1 .1 .0) (c .index-work .result)
+    ≡ indexRun (deeds (keyed w .keys-around .result) (entryIn (keyed w .before .before .read-entry .result)) (packed (w .due-work .result))) (indexAt (l .links) (l .slots) (l .quads) (l .moved) (l .highest) (l .steps))
+worked c =
+    let w = due (c .before) in
+    let l = looped (keyed w) .before .loop in
+    c .index-work .ensures
+    ∙ ap (λ (n : ℕ). indexRun (deeds (keyed w .keys-around .result) (entryIn (keyed w .before .before .read-entry .result)) n) (indexAt (l .links) (l .slots) (l .quads) (l .moved) (l .highest) (l .steps))) (c .before .word .ensures)
 
 slice-aggregate-replay : tie.Need-slice-aggregate-replay Inv-loop μ-loop
 slice-aggregate-replay c =
     let went = c .before .before .before .before .before .before .before in
-    sym (went .index-work .kept .1 .1 .0 ∙ looped (keyed (went .before .before .before .before .before .before .before)) .before .loop .inv .4)
+    sym (went .index-work .kept .1 .1 .0 ∙ looped (keyed (due (went .before))) .before .loop .inv .4)
 
 replay-requires : tie.Need-replay-requires Inv-loop μ-loop
 replay-requires c κs =
     let went = c .before .before .before .before .before .before .before in
-    let test = went .before .before .before .before .before in
-    let due = test .before .before in
-    let i = looped (keyed due) in
+    let test = passed (went .before) in
+    let w = due (went .before) in
+    let i = looped (keyed w) in
     let t = begun i in
     let l = i .before .loop in
-    let is = ap (λ (I : Index). I .steps) (went .index-work .ensures) in
-    let few = run-few (side t) (t .pre) (l .inv .0) (found due) (fits test) (l .steps) (l .inv .4) in
+    let is = ap (λ (I : Index). I .steps) (worked went) in
+    let few = run-few (side t) (t .pre) (l .inv .0) (found w) (fits test) (l .steps) (l .inv .4) in
     let n = length-table (stepAt (went .index-work .last .1 .1 .0)) (went .index-work .result .steps) in
     let long = went .index-work .kept .1 .1 .0 in (
       omega (arith, ap length is, n, few, long),
       subst (λ (xs : List Step). Replaying (bare (scene-of t)) xs (shelf (l .vertices) (l .quads))) (sym is)
-          (run-replaying (side t) (t .pre) (l .inv .0) (found due) (fits test) (l .steps) (l .inv .4) (l .inv .1)),
+          (run-replaying (side t) (t .pre) (l .inv .0) (found w) (fits test) (l .steps) (l .inv .4) (l .inv .1)),
       i .before .before .inverted .ensures,
     )
 
+abbrev drawn : tie.After-slice-known6 Inv-loop μ-loop → tie.After-index-work Inv-loop μ-loop
+drawn c = c .before .before .before .before .before .before .before .before .before .before
+
+abbrev turned : tie.After-slice-known6 Inv-loop μ-loop → tie.In-loop Inv-loop μ-loop
+turned c = looped (keyed (due (drawn c .before)))
+
 add-k : tie.Need-add-k Inv-loop μ-loop
-add-k c = let i = looped (keyed (c .before .before .before .before .before .before .before .before .before .before .before .before .before .before .before .before .before)) in let h = i .loop-test .taken in omega (arith, begun i .pre .few)
+add-k c = let h = turned c .loop-test .taken in omega (arith, begun (turned c) .pre .few)
 
 loop-less : tie.Need-loop-less Inv-loop μ-loop
-loop-less c = let i = looped (keyed (c .before .before .before .before .before .before .before .before .before .before .before .before .before .before .before .before .before)) in let h = i .loop-test .taken in omega arith
+loop-less c = let h = turned c .loop-test .taken in omega arith
 
 loop-again : tie.Need-loop-again Inv-loop μ-loop
 loop-again c =
     let drew = c .before .before in
-    let went = drew .before .before .before .before .before .before .before .before in
-    let test = went .before .before .before .before .before in
-    let due = test .before .before in
-    let i = looped (keyed due) in
+    let went = drawn c in
+    let w = due (went .before) in
+    let i = turned c in
     let t = begun i in
     let l = i .before .loop in
     let S = bare (scene-of t) in
-    let is = ap (λ (I : Index). I .steps) (went .index-work .ensures) in (
-      run-on (side t) (t .pre) (l .inv .0) (found due) (fits test) (l .steps) (l .inv .4) (went .index-work .ensures)
+    let is = ap (λ (I : Index). I .steps) (worked went) in (
+      run-on (side t) (t .pre) (l .inv .0) (found w) (fits (passed (went .before))) (l .steps) (l .inv .4) (worked went)
           (drew .replay .ensures ∙ ap (λ (xs : List Step). replayed (span S) (wordsBy S) xs (shelf (l .vertices) (l .quads))) is),
       drew .replay .kept .0 ∙ l .inv .1,
       went .index-work .kept .0 ∙ l .inv .2,
@@ -183,5 +210,5 @@ run-log-spec =
     tie.close
     (tie.spec Inv-loop μ-loop inverted-requires loop-holds read-entry-requires (λ c κs. search needs) keys-around-requires due-work-requires has-room-requires
     (λ c. looped (keyed (c .before .before)) .before .loop .inv .1) (λ c. looped (keyed (c .before .before)) .before .loop .inv .2)
-    (λ c. looped (keyed (c .before .before)) .before .loop .inv .3) returns slice-aggregate-index-work index-work-requires slice-aggregate-replay replay-requires
+    (λ c. looped (keyed (c .before .before)) .before .loop .inv .3) returns slice-aggregate-index-work (λ c κs. dues (c .before .before .before .before .before .before)) index-work-requires slice-aggregate-replay replay-requires
     add-k loop-less loop-again (λ c. c .before .loop .inv .1) (λ c. c .before .loop .inv .2) (λ c. c .before .loop .inv .3) returns-2)

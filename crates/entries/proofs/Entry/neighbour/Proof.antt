@@ -19,7 +19,7 @@ element-copy-out-given c = omega (arith, number-below (c .before .args .face))
 returns : tie.Need-returns
 returns c =
     let a = c .before .before .before .args in
-    let e = given-is (a .t1) (a .face) in
+    let e = given-is (a .t1) (number (a .face)) (number-below (a .face)) in
     let f : givenAt (entryIn (a .t1)) (number (a .face)) ≡ 255 = cc (c .if1 .taken) in
     rw (eq-eqb (givenAt (entryIn (a .t1)) (number (a .face))) 255 f)
 
@@ -27,7 +27,7 @@ returns-2 : tie.Need-returns-2
 returns-2 c =
     let a = c .before .before .before .args in
     let e : getD (a .t1 .neighbours) (c .before .before .number .result) 0 ≡ givenAt (entryIn (a .t1)) (number (a .face)) =
-    cc (given-is (a .t1) (a .face)) in
+    cc (given-is (a .t1) (number (a .face)) (number-below (a .face))) in
     let d : givenAt (entryIn (a .t1)) (number (a .face)) ≢ 255 = rw e at (c .if1 .left) in
     rw (ne-eqb (givenAt (entryIn (a .t1)) (number (a .face))) 255 d) (ap Voxel e)
 
