@@ -10,18 +10,18 @@ use borrow.Author.Tests.{ne-eqb}
 use Rattle.rules.specs.Lists.{table}
 use Rattle.rules.specs.Cells.{linkOf, firstVertex}
 use Rattle.rules.specs.Mesh.{Quad, NONE, there, placeOf, laid, slotOf, listsOf}
-use Rattle.rules.specs.Update.{blank, removeAt, remove, movedBy, moved, Op, put, cut, step, run, movedIn, moves, highest, ops, needed}
+use Rattle.rules.specs.Update.{blank, removeAt, remove, movedBy, moved, step, run, movedIn, moves, highest}
 use Rattle.rules.proofs.ListLaws.{All, all-at, all-kept, split, not-false, getD-table}
 use Rattle.rules.proofs.Quads.{placed, length-removeAt}
 use Rattle.rules.proofs.Laying.{Fits}
 use Rattle.rules.proofs.Acting.{acts, Acts}
-use Rattle.rules.proofs.Courses.{Sane, sane-step}
+use Rattle.rules.proofs.Courses.{Sane, Good, sane-one}
 use Rattle.vav.proofs.Laid.{remove-laid}
 use Rattle.mesh_metadata.proofs.Meshes as meshes
 use Rattle.mesh_metadata.proofs.Layouts as layouts
 use Rattle.steps.specs.Steps.{Step, gone, came, Deed, show, hide, quadBy, opOf, opsOf, stepOf, stepsOf}
 use Rattle.steps.proofs.Replaying.{highest-ge}
-use Rattle.indexing.specs.Index.{goneAt, cameAt, indexOne, indexRun, bookOf, Good, Ground}
+use Rattle.indexing.specs.Index.{goneAt, cameAt, indexOne, indexRun, bookOf, Ground}
 
 module _ (G : Ground) where
   abbrev quad : ℕ → ℕ → Quad
@@ -69,13 +69,6 @@ module _ (G : Ground) where
         let b = meshes.slots-drawn m (k .once) (quad j t) new (G .faces) l in
         λ i. record { links = a i; slots = b i; quads = d i; moved = v; top = max h (d i); steps = xs ++ (came j t ∷ []) }
 
-  -- what an operation leaves is sane
-  pub sane-one : (o : Op) → Good (G .faces) (G .span) o → (m : List Quad) (h : ℕ) → Sane (G .faces) (G .span) (G .room) m h → length (step o m) ≤ G .room
-      → Sane (G .faces) (G .span) (G .room) (step o m) (max h (length (step o m)))
-  unfolding ops needed
-  sane-one (put x) f m h k fit = sane-step (G .faces) (G .span) (G .room) (record { own = []; new = x ∷ []; facing = [] }) m h k (f, tt) fit
-  sane-one (cut j) f m h k fit = sane-step (G .faces) (G .span) (G .room) (record { own = j ∷ []; new = []; facing = [] }) m h k tt fit
-
   -- LAW: a deed that changes something, on the index, is the index of the deed done, and adds its step
   pub one-booked : (d : Deed) (m : List Quad) (h v : ℕ) (xs : List Step) → Good (G .faces) (G .span) (opOf quad d) → acts (opOf quad d) m ≡ true → Sane (G .faces) (G .span) (G .room) m h → length (step (opOf quad d) m) ≤ G .room
       → indexOne d (bookOf (G .faces) h m (G .old) v xs)
@@ -100,5 +93,5 @@ module _ (G : Ground) where
       let z : v + movedIn o m + moves (opsOf quad ds) (step o m) ≡ v + (movedIn o m + moves (opsOf quad ds) (step o m)) = omega arith in
       let x = append-assoc xs (stepOf d m ∷ []) (stepsOf quad ds (step o m)) in
       ap (indexRun ds) (one-booked d m h v xs (g .0) (a .0) k (omega arith))
-      ∙ run-booked ds (step o m) (max h (length (step o m))) (v + movedIn o m) (xs ++ (stepOf d m ∷ [])) (g .1) (a .1) (sane-one o (g .0) m h k (omega arith)) fit
+      ∙ run-booked ds (step o m) (max h (length (step o m))) (v + movedIn o m) (xs ++ (stepOf d m ∷ [])) (g .1) (a .1) (sane-one (G .faces) (G .span) (G .room) o m h (g .0) k (omega arith)) fit
       ∙ (λ i. bookOf (G .faces) (highest (max h (length (step o m))) (opsOf quad ds) (step o m)) (run (opsOf quad ds) (step o m)) (G .old) (z i) (x i))

@@ -16,6 +16,7 @@ use Rattle.rules.specs.Update.{step, movedIn}
 use Rattle.rules.proofs.ListLaws.{within, split, length-table, each-same, each-split}
 use Rattle.rules.proofs.Quads.{placed, moved-le}
 use Rattle.rules.proofs.Laying.{length-links}
+use Rattle.rules.proofs.Courses.{sane-one}
 use Rattle.mesh_metadata.specs.Index.{Linked, vertexOf}
 use Rattle.mesh_metadata.proofs.Layouts as layouts
 use Rattle.steps.specs.Steps.{Step, came, CUT, stepIn, stepAt, stepsIn, Deed, show, hide, quadBy, opOf, opsOf, stepOf}
@@ -23,7 +24,7 @@ use Rattle.steps.proofs.Replaying.{highest-ge}
 use Rattle.steps.proofs.Turning.{Piecewise}
 use Rattle.indexing.specs.declared.Tally.{Tally}
 use Rattle.indexing.specs.Index.{Index, indexOf, slotIn, cameAt, indexOne, indexRun, bookOf, Ready, Begun, Removable, Drawable}
-use Rattle.indexing.proofs.Booking.{there-inside, slot-place, sane-one, one-booked}
+use Rattle.indexing.proofs.Booking.{there-inside, slot-place, one-booked}
 
 pub same-index : {l l′ s s′ : List ℕ} {q q′ v v′ h h′ : ℕ} {x x′ : List Step} → l ≡ l′ → s ≡ s′ → q ≡ q′ → v ≡ v′ → h ≡ h′ → x ≡ x′
     → _≡_ {A = Index} (record { links = l; slots = s; quads = q; moved = v; top = h; steps = x }) (record { links = l′; slots = s′; quads = q′; moved = v′; top = h′; steps = x′ })
@@ -124,7 +125,7 @@ ready-step {d = d} {ds} {B} r =
       ground = r .ground;
       top = h;
       mesh = step o m;
-      sane = sane-one (r .ground) o (r .good .0) m (r .top) (r .sane) fit;
+      sane = sane-one (r .ground .faces) (r .ground .span) (r .ground .room) o m (r .top) (r .good .0) (r .sane) fit;
       is = e ∙ (λ i. bookOf (r .ground .faces) h (step o m) (r .ground .old) (v i) (x i));
       good = r .good .1;
       acts = r .acts .1;

@@ -10,7 +10,6 @@ use face::side_set;
 use mesh_metadata::QuadIndex;
 use mesh_metadata::get_quad_index;
 use mesh_metadata::insert;
-use mesh_metadata::quad_at;
 use mesh_metadata::quad_of;
 use mesh_metadata::renumber;
 use steps::CUT;
@@ -173,10 +172,8 @@ fn is_bare(slots: &[u32], key: u32) -> bool
     if key == NONE {
         return true;
     }
-    match quad_at(slots, key) {
-        QuadIndex::Nothing => true,
-        QuadIndex::At(_) => false,
-    }
+    let at = key as usize;
+    slots[at] == NONE
 }
 
 fn empty_sides(slots: &[u32], cell: Cell) -> u8

@@ -66,12 +66,11 @@ pub fn insert(links: &mut [u32], slots: &mut [u32], face: Face, cell: Cell, quad
     fill(slots, slot, quad);
 }
 
-// The quad of the face of a key.
-pub fn quad_at(slots: &[u32], key: u32) -> QuadIndex
-    requires { ⌜ key < length (now slots) ⌝ }
-    ensures { λ r. ⌜ vertexIn r ≡ vertexOf (getD (now (slots .entry)) key NONE) ⌝ }
+pub fn get_quad_index(slots: &[u32], face: Face, cell: Cell) -> QuadIndex
+    requires { ⌜ (cell .0 < UNIT) × (keyOf (cell .0) (number face) < length (now slots)) ⌝ }
+    ensures { λ r. ⌜ vertexIn r ≡ vertexOf (getD (now (slots .entry)) (keyOf (cell .0) (number face)) NONE) ⌝ }
 {
-    let slot = wide(key);
+    let slot = wide(face::key(cell, face));
     let vertex = slots[slot];
     if vertex == NONE {
         QuadIndex::Nothing
@@ -80,7 +79,7 @@ pub fn quad_at(slots: &[u32], key: u32) -> QuadIndex
     }
 }
 
-// The same, where there is one.
+// The same by the face's key, where there is one.
 pub fn quad_of(slots: &[u32], key: u32) -> Quad
     requires { ⌜ key < length (now slots) ⌝ }
     ensures { λ r. ⌜ r .0 ≡ getD (now (slots .entry)) key NONE / 4 ⌝ }
@@ -88,13 +87,6 @@ pub fn quad_of(slots: &[u32], key: u32) -> Quad
     let slot = wide(key);
     let vertex = Vertex(slots[slot]);
     vertex.quad()
-}
-
-pub fn get_quad_index(slots: &[u32], face: Face, cell: Cell) -> QuadIndex
-    requires { ⌜ (cell .0 < UNIT) × (keyOf (cell .0) (number face) < length (now slots)) ⌝ }
-    ensures { λ r. ⌜ vertexIn r ≡ vertexOf (getD (now (slots .entry)) (keyOf (cell .0) (number face)) NONE) ⌝ }
-{
-    quad_at(slots, face::key(cell, face))
 }
 
 // The slot of a moved quad names its new place.

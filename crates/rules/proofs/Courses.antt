@@ -13,7 +13,7 @@ use borrow.Author.Tests.{leb-true}
 use Rattle.rules.specs.Lists.{each, only}
 use Rattle.rules.specs.Cells.{cells, opposite, neighbour, keyOf}
 use Rattle.rules.specs.Mesh.{Quad, World, isNormalCube, covering, meshBy, quadsBy, typeAt, there, placeOf, quadOf}
-use Rattle.rules.specs.Update.{Change, Broken, Added, CullFaces, AddFaces, Entry, givenAt, blank, draw, shifts, removeAt, remove, moved, Op, step, run, moves, highest, Work, Tested, quads, hide, reveal, all, isOpen, withGiven, nothing, added, workBy, work, cuts, puts, ops, needed, Course, courseFrom, meshAfter, emptyType, gridBy, gridAfter, gridLog, Honest, Mends, AddsAlike}
+use Rattle.rules.specs.Update.{Change, Broken, Added, CullFaces, AddFaces, Entry, givenAt, blank, draw, shifts, removeAt, remove, moved, Op, put, cut, step, run, moves, highest, Work, Tested, quads, hide, reveal, all, isOpen, withGiven, nothing, added, workBy, work, cuts, puts, ops, needed, Course, courseFrom, meshAfter, emptyType, gridBy, gridAfter, gridLog, Honest, Mends, AddsAlike}
 use Rattle.rules.proofs.ListLaws.{All, all-append, all-take, all-drop, all-at, all-each, all-only, split, each-few}
 use Rattle.rules.proofs.Neighbours.{beside, opposite-lt}
 use Rattle.rules.proofs.Quads.{Once, placed, moved-le, length-removeAt, run-append, run-once}
@@ -212,6 +212,28 @@ sane-step n s room w m p h f l =
     let r = run-le w m in
     let b = h .within in
     record { fits = fits-ops n s w m f (h .fits); once = run-once (ops w) m (h .once); reached = omega arith; within = omega arith }
+
+-- what is drawn fits
+abbrev pub Good : ℕ → ℕ → Op → Type 0
+Good n s (put x) = Fits n s x
+Good n s (cut k) = Unit {0}
+
+pub good-ops : (n s : ℕ) (w : Work) → All (Fits n s) (w .new) → All (Good n s) (ops w)
+unfolding ops
+good-ops n s w f = all-append (Good n s) (cuts (w .own)) (puts (w .new) ++ cuts (w .facing)) (cut-all (w .own)) (all-append (Good n s) (puts (w .new)) (cuts (w .facing)) (put-all (w .new) f) (cut-all (w .facing)))
+  where
+    cut-all : (ks : List ℕ) → All (Good n s) (cuts ks)
+    cut-all [] = tt
+    cut-all (k ∷ ks) = (tt, cut-all ks)
+
+    put-all : (qs : List Quad) → All (Fits n s) qs → All (Good n s) (puts qs)
+    put-all [] a = tt
+    put-all (x ∷ qs) a = (a .0, put-all qs (a .1))
+
+pub sane-one : (n s room : ℕ) (o : Op) (m : List Quad) (p : ℕ) → Good n s o → Sane n s room m p → length (step o m) ≤ room → Sane n s room (step o m) (max p (length (step o m)))
+unfolding ops needed
+sane-one n s room (put x) m p f h l = sane-step n s room (record { own = []; new = x ∷ []; facing = [] }) m p h (f, tt) l
+sane-one n s room (cut k) m p f h l = sane-step n s room (record { own = k ∷ []; new = []; facing = [] }) m p h tt l
 
 -- LAW: through any log, whether it comes through or finds no room, the mesh stays one, and in its room
 pub course-sane : (n s room : ℕ) (work : ℕ → Work) (i k : ℕ) (m : List Quad) (v p : ℕ) → ((j : ℕ) → i ≤ j → j < i + k → All (Fits n s) ((work j) .new))

@@ -24,7 +24,7 @@ use Rattle.steps.specs.Steps.{Deed, show, hide, quadBy, opsOf, Able}
 use Rattle.steps.specs.Rows.{wordsBy, Shaped, Drawn}
 use Rattle.works.specs.declared.Work.{Work}
 use Rattle.works.specs.Sets.{setIn, packed, keyMet, cutting, typeAt, deedBy, deeds, Cubes}
-use Rattle.indexing.specs.Index.{Good}
+use Rattle.rules.proofs.Courses.{Good}
 use Rattle.indexing.proofs.Sets.{all-deeds}
 
 -- the scene without its tables of types: what a list of vertices is drawn from

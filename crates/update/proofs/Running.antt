@@ -1,7 +1,7 @@
 -- A log on the index and the vertices, entry by entry: the lists stay the layout of the rule's mesh. Assumes nothing.
 use mathlib.Core.Path.{_≡_, refl, sym, ap, _∙_, subst}
 use mathlib.Core.Bool.{true, cond, not}
-use mathlib.Core.List.{List, [], _∷_, append-nil}
+use mathlib.Core.List.{List, [], append-nil}
 use mathlib.Core.Option.{Option, none, some}
 use Prim.Native.Nat.{ℕ, zero, suc, _+_, _-_, _*_, _/_, _%_, _^_, _≤_, _<_}
 use native.Mathlib.Omega.{arith}
@@ -12,14 +12,14 @@ use Rattle.rules.specs.Lists.{each}
 use Rattle.rules.specs.Cells.{cells, neighbour}
 use Rattle.rules.specs.Mesh.{Quad, NONE, there, laid, slotOf}
 use Rattle.rules.specs.Update as rule
-use Rattle.rules.specs.Update.{Tested, Entry, Op, run, moves, highest, cuts, puts, ops, needed, work, entryAt, courseFrom}
+use Rattle.rules.specs.Update.{Tested, Entry, Op, run, moves, highest, ops, needed, work, entryAt, courseFrom}
 use Rattle.rules.specs.Calls.{Scene, world, span, faces}
-use Rattle.rules.proofs.ListLaws.{All, all-append, all-kept, split, length-table}
+use Rattle.rules.proofs.ListLaws.{All, all-kept, split, length-table}
 use Rattle.rules.proofs.Neighbours.{beside, opposite-lt}
 use Rattle.rules.proofs.Acting.{acting, Acts, after, acting-same, acting-acts, acting-all}
 use Rattle.rules.proofs.Laying.{Fits}
 use Rattle.rules.proofs.Mending.{Sound}
-use Rattle.rules.proofs.Courses.{Sane, sane-step, highest-needed, run-le, fits-new, entry-moves}
+use Rattle.rules.proofs.Courses.{Sane, sane-step, Good, good-ops, highest-needed, run-le, fits-new, entry-moves}
 use Rattle.rules.proofs.Demands.{words-sized}
 use Rattle.mesh_metadata.proofs.Meshes as meshes
 use Rattle.steps.specs.Steps.{Step, Deed, stepsIn, Shelf, shelf, replayed, quadBy, opsOf, stepsOf, Can, Able}
@@ -29,7 +29,7 @@ use Rattle.works.specs.declared.Work.{Work}
 use Rattle.works.specs.Sets.{meant, setIn, packed, keyOr, keysAround, keyMet, deeds, Cubes}
 use Rattle.works.proofs.Works.{near-key}
 use Rattle.works.proofs.Meant.{Means, meant-work, meant-cubes}
-use Rattle.indexing.specs.Index.{Index, indexRun, bookOf, Good, Ground, Ready, Begun}
+use Rattle.indexing.specs.Index.{Index, indexRun, bookOf, Ground, Ready, Begun}
 use Rattle.indexing.specs.Due.{isEmpty, dueOf, fitsIn, Gridded}
 use Rattle.indexing.proofs.Sets.{all-few, due-few, due-cubes}
 use Rattle.indexing.proofs.Booking.{slot-none, run-booked}
@@ -179,18 +179,7 @@ module _ (tested : Tested) {S : Scene} {room : ℕ} {log vs₀ ls₀ ss₀ : Lis
         acting-now = (λ i. opsOf (quadBy (wordsBy (bare S))) (deeds (f .keys i) e (packed (around i)))) ∙ due-ops (world S) e (g .within) inside m (sane .once) w ss told no-face means
 
         good : All (Good (faces S) (span S)) os
-        unfolding ops
-        good =
-            subst (All (Good (faces S) (span S))) (sym acting-now) (acting-all (Good (faces S) (span S)) (ops (works k)) m
-            (all-append (Good (faces S) (span S)) (cuts ((works k) .own)) _ (all-cuts ((works k) .own)) (all-append (Good (faces S) (span S)) (puts ((works k) .new)) (cuts ((works k) .facing)) (all-puts ((works k) .new) fits) (all-cuts ((works k) .facing)))))
-          where
-            all-cuts : (js : List ℕ) → All (Good (faces S) (span S)) (cuts js)
-            all-cuts [] = tt
-            all-cuts (j ∷ js) = (tt, all-cuts js)
-
-            all-puts : (qs : List Quad) → All (Fits (faces S) (span S)) qs → All (Good (faces S) (span S)) (puts qs)
-            all-puts [] a = tt
-            all-puts (x ∷ qs) a = (a .0, all-puts qs (a .1))
+        good = subst (All (Good (faces S) (span S))) (sym acting-now) (acting-all (Good (faces S) (span S)) (ops (works k)) m (good-ops (faces S) (span S) (works k) fits))
 
         acts-now : Acts os m
         acts-now = subst (λ (x : List Op). Acts x m) (sym acting-now) (acting-acts (ops (works k)) m)
