@@ -3,10 +3,10 @@ use mathlib.Core.Path.{_≡_, refl, sym, ap, _∙_, subst}
 use mathlib.Core.Bool.{true, false, not}
 use mathlib.Core.List.{List, [], _∷_, _++_, append-assoc}
 use mathlib.Core.Option.{none, some}
-use Prim.Native.Nat.{ℕ, _+_, _*_, _/_, _%_, _^_, _≤_, _<_, max}
+use Prim.Native.Nat.{ℕ, _+_, _*_, _/_, _≤_, _<_, max}
 use native.Mathlib.Omega.{arith}
 use lib.Dec.{eqb}
-use lib.ListN.{length, getD, set, length-append}
+use lib.ListN.{length, getD, set, length-append, length-set}
 use lib.Seq.{getD-set-same, getD-set-other}
 use borrow.Author.Tests.{lt-ltb}
 use Rattle.rules.specs.Lists.{each}
@@ -19,7 +19,7 @@ use Rattle.rules.proofs.Laying.{length-links}
 use Rattle.rules.proofs.Courses.{sane-one}
 use Rattle.mesh_metadata.specs.Index.{Linked, vertexOf}
 use Rattle.mesh_metadata.proofs.Layouts as layouts
-use Rattle.steps.specs.Steps.{Step, gone, came, CUT, stepIn, stepsIn, Deed, show, hide, quadBy, opOf, opsOf, stepOf}
+use Rattle.steps.specs.Steps.{Step, came, CUT, stepIn, stepAt, stepsIn, Deed, show, hide, quadBy, opOf, opsOf, stepOf}
 use Rattle.steps.proofs.Replaying.{highest-ge}
 use Rattle.steps.proofs.Turning.{Piecewise}
 use Rattle.indexing.specs.declared.Tally.{Tally}
@@ -31,25 +31,28 @@ pub same-index : {l l′ s s′ : List ℕ} {q q′ v v′ h h′ : ℕ} {x x′
 same-index l s q v h x = λ i. record { links = l i; slots = s i; quads = q i; moved = v i; top = h i; steps = x i }
 
 -- ---- a step more in the list of steps
-pub steps-more : (n w : ℕ) (xs : List ℕ) → n < length xs → stepsIn (n + 1) (set xs n w) ≡ stepsIn n xs ++ (stepIn w ∷ [])
+pub steps-more : (n a b : ℕ) (xs : List ℕ) → 2 * n + 2 ≤ length xs
+    → stepsIn (n + 1) (set (set xs (2 * n) a) (2 * n + 1) b) ≡ stepsIn n xs ++ (stepIn a b ∷ [])
 unfolding each
-steps-more n w xs h =
+steps-more n a b xs h =
+    let ys = set (set xs (2 * n) a) (2 * n + 1) b in
+    let l : length (set xs (2 * n) a) ≡ length xs = simp length-set in
     let z : 0 + n ≡ n = omega arith in
-    each-split n 1 0 (λ k. stepIn (getD (set xs n w) k 0) ∷ []) ∙ ap (λ (k : ℕ). stepsIn n (set xs n w) ++ (stepIn (getD (set xs n w) k 0) ∷ [])) z
-    ∙ (λ i. each-same n 0 (λ k. stepIn (getD (set xs n w) k 0) ∷ []) (λ k. stepIn (getD xs k 0) ∷ [])
-    (λ k _ m. ap (λ (x : ℕ). stepIn x ∷ []) (getD-set-other xs n k w 0 (λ e. omega arith))) i ++ (stepIn (getD-set-same xs n w 0 h i) ∷ []))
+    let p : getD ys (2 * n) 0 ≡ a = getD-set-other (set xs (2 * n) a) (2 * n + 1) (2 * n) b 0 (λ e. omega arith) ∙ getD-set-same xs (2 * n) a 0 (omega arith) in
+    let q : getD ys (2 * n + 1) 0 ≡ b = getD-set-same (set xs (2 * n) a) (2 * n + 1) b 0 (omega arith) in
+    let w : stepAt ys n ≡ stepIn a b = (λ i. stepIn (p i) (q i)) in
+    each-split n 1 0 (λ k. stepAt ys k ∷ [])
+    ∙ ap (λ (k : ℕ). stepsIn n ys ++ (stepAt ys k ∷ [])) z
+    ∙ (λ i. each-same n 0 (λ k. stepAt ys k ∷ []) (λ k. stepAt xs k ∷ []) (λ k _ m. ap (λ (x : Step). x ∷ []) (same k (omega arith))) i ++ (w i ∷ []))
+  where
+    word : (j : ℕ) → j < 2 * n → getD (set (set xs (2 * n) a) (2 * n + 1) b) j 0 ≡ getD xs j 0
+    word j m = getD-set-other (set xs (2 * n) a) (2 * n + 1) j b 0 (λ e. omega arith) ∙ getD-set-other xs (2 * n) j a 0 (λ e. omega arith)
 
-pub came-in : (k t : ℕ) → k < 2 ^ 32 → t < CUT → stepIn (k + t * 4294967296) ≡ came k t
-came-in k t l h =
-    let d : (k + t * 4294967296) / 4294967296 ≡ t = omega arith in
-    let m : (k + t * 4294967296) % 4294967296 ≡ k = omega arith in
-    rw (d, m, lt-ltb t CUT h)
+    same : (k : ℕ) → k < n → stepAt (set (set xs (2 * n) a) (2 * n + 1) b) k ≡ stepAt xs k
+    same k m = let p = word (2 * k) (omega arith) in let q = word (2 * k + 1) (omega arith) in λ i. stepIn (p i) (q i)
 
-pub gone-in : (q : ℕ) → q < 2 ^ 32 → stepIn (q + CUT * 4294967296) ≡ gone q
-gone-in q l =
-    let d : (q + CUT * 4294967296) / 4294967296 ≡ CUT = omega arith in
-    let m : (q + CUT * 4294967296) % 4294967296 ≡ q = omega arith in
-    rw (d, m)
+pub came-in : (k t : ℕ) → t < CUT → stepIn k t ≡ came k t
+came-in k t h = rw (lt-ltb t CUT h)
 
 -- ---- what is known of the index of a mesh
 module _ {space : ℕ} {ds : List Deed} {B : Index} (r : Ready space ds B) where
@@ -74,8 +77,8 @@ module _ {space : ℕ} {ds : List Deed} {B : Index} (r : Ready space ds B) where
       subst (λ (I : Index). Linked (I .quads) (I .links) (I .slots)) (sym (r .is))
       (layouts.linked (r .ground .faces) (r .ground .span) (r .top) (r .mesh) (listsOf [] [] (r .ground .old) []) (r .sane .fits) (r .ground .small) (r .sane .once) (r .sane .reached) (omega arith))
 
-pub space-left : {space : ℕ} {d : Deed} {ds : List Deed} {links slots : List ℕ} (xs : List ℕ) (t : Tally) → Ready space (d ∷ ds) (indexOf links slots xs t) → t .steps < space
-space-left xs t r = let n = length-table (λ i. stepIn (getD xs i 0)) (t .steps) in let s = r .steps in omega arith
+pub space-left : {space : ℕ} {d : Deed} {ds : List Deed} {links slots : List ℕ} (xs : List ℕ) (t : Tally) → Ready space (d ∷ ds) (indexOf links slots xs t) → 2 * t .steps + 2 ≤ space
+space-left xs t r = let n = length-table (stepAt xs) (t .steps) in let s = r .steps in omega arith
 
 -- ---- a deed, by what the slot tells
 pub none-told : (w : ℕ) → vertexOf w ≡ none → eqb w NONE ≡ true

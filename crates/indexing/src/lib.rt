@@ -49,21 +49,22 @@ fn larger(a: usize, b: usize) -> usize
 fn remove_quad(
     links: &mut [u32],
     slots: &mut [u32],
-    steps: &mut [u64],
+    steps: &mut [u32],
     quad: Quad,
     tally: Tally,
 ) -> Tally
-    requires { ⌜ Removable (quad .0) (indexOf (now links) (now slots) (now steps) tally) × (tally .steps < length (now steps)) ⌝ }
+    requires { ⌜ Removable (quad .0) (indexOf (now links) (now slots) (now steps) tally) × (2 * tally .steps + 2 ≤ length (now steps)) ⌝ }
     ensures { λ r. ⌜ indexOf (now (links .exit)) (now (slots .exit)) (now (steps .exit)) r
         ≡ goneAt (quad .0) (indexOf (now (links .entry)) (now (slots .entry)) (now (steps .entry)) tally) ⌝ }
 {
     let count = tally.quads;
-    let at = tally.steps;
+    let at = 2 * tally.steps;
     let place = quad.0 as usize;
     let moved = tally.moved + moved_by(place, count) as u64;
     renumber(slots, links, place, count);
     free_row(links, 1, place, count);
-    steps[at] = quad.0 as u64 + CUT as u64 * 4_294_967_296;
+    steps[at] = quad.0;
+    steps[at + 1] = CUT;
     Tally {
         quads: count - 1,
         moved: moved,
@@ -76,17 +77,17 @@ fn remove_quad(
 fn append_quad(
     links: &mut [u32],
     slots: &mut [u32],
-    steps: &mut [u64],
+    steps: &mut [u32],
     key: u32,
     voxel: u8,
     tally: Tally,
 ) -> Tally
-    requires { ⌜ Drawable key (indexOf (now links) (now slots) (now steps) tally) × (tally .steps < length (now steps)) ⌝ }
+    requires { ⌜ Drawable key (indexOf (now links) (now slots) (now steps) tally) × (2 * tally .steps + 2 ≤ length (now steps)) ⌝ }
     ensures { λ r. ⌜ indexOf (now (links .exit)) (now (slots .exit)) (now (steps .exit)) r
         ≡ cameAt key voxel (indexOf (now (links .entry)) (now (slots .entry)) (now (steps .entry)) tally) ⌝ }
 {
     let count = tally.quads;
-    let at = tally.steps;
+    let at = 2 * tally.steps;
     insert(
         links,
         slots,
@@ -94,7 +95,8 @@ fn append_quad(
         Cell(key / 6),
         Quad(count as u32),
     );
-    steps[at] = key as u64 + voxel as u64 * 4_294_967_296;
+    steps[at] = key;
+    steps[at + 1] = voxel as u32;
     Tally {
         quads: count + 1,
         moved: tally.moved,
@@ -107,7 +109,7 @@ fn append_quad(
 fn do_face(
     links: &mut [u32],
     slots: &mut [u32],
-    steps: &mut [u64],
+    steps: &mut [u32],
     key: u32,
     cuts: bool,
     voxel: u8,
@@ -128,7 +130,7 @@ fn do_face(
 pub fn index_work(
     links: &mut [u32],
     slots: &mut [u32],
-    steps: &mut [u64],
+    steps: &mut [u32],
     keys: &[u32; 12],
     entry: Entry,
     sides: u32,

@@ -1,5 +1,5 @@
 -- The steps of an update, and what each does to one list. Definitions only.
-use Prim.Native.Nat.{ℕ, _+_, _-_, _*_, _/_, _%_, _<_}
+use Prim.Native.Nat.{ℕ, _+_, _-_, _*_, _<_}
 use mathlib.Core.Bool.{cond}
 use mathlib.Core.List.{List, [], _∷_, map}
 use lib.ListN.{getD}
@@ -15,16 +15,19 @@ pub data Step : Type 0 where
   gone : ℕ → Step
   came : ℕ → ℕ → Step
 
--- a word a step: a key and, 2³² times, a type's code; or a place and CUT
+-- two words a step: a key and a type's code, or a place and CUT
 abbrev pub CUT : ℕ
 CUT = 256
 
-abbrev pub stepIn : ℕ → Step
-stepIn w = cond (ltb (w / 4294967296) CUT) (came (w % 4294967296) (w / 4294967296)) (gone (w % 4294967296))
+abbrev pub stepIn : ℕ → ℕ → Step
+stepIn a b = cond (ltb b CUT) (came a b) (gone a)
+
+abbrev pub stepAt : List ℕ → ℕ → Step
+stepAt xs i = stepIn (getD xs (2 * i) 0) (getD xs (2 * i + 1) 0)
 
 -- the first n steps
 abbrev pub stepsIn : ℕ → List ℕ → List Step
-stepsIn n xs = table n (λ i. stepIn (getD xs i 0))
+stepsIn n xs = table n (stepAt xs)
 
 -- ---- on a list of s words a quad
 

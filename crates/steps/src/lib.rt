@@ -9,7 +9,7 @@ use vav::free_row;
 use voxel_mesh::floats_of;
 ghost use mathlib.Core.Path.{_≡_};
 ghost use mathlib.Core.List.{[], _∷_};
-ghost use Prim.Native.Nat.{_≤_};
+ghost use Prim.Native.Nat.{_*_, _≤_};
 ghost use lib.ListN.{length};
 ghost use Rattle.util.specs.Grid.{sizeOf, Inverts};
 ghost use Rattle.terms.specs.Scenes.{sceneOf};
@@ -19,22 +19,21 @@ ghost use Rattle.steps.specs.Rows.{runOf, Replaying};
 // Marks a step that is a cut.
 pub const CUT: u32 = 256;
 
-// Does a step, and answers the number of quads.
+// Does the step of two words, a key and a type or a place and the mark, and answers the number of quads.
 pub fn replay_one(
     vertices: &mut [u32],
     scene: Scene,
     cubes: &[u32],
     inverse: Inverse,
-    step: u64,
+    a: u32,
+    b: u32,
     count: usize,
 ) -> usize
-    requires { ⌜ Replaying (sceneOf scene [] [] (now cubes)) (stepIn step ∷ []) (shelf (now vertices) count) × Inverts (sizeOf (scene .dims)) inverse ⌝ }
+    requires { ⌜ Replaying (sceneOf scene [] [] (now cubes)) (stepIn a b ∷ []) (shelf (now vertices) count) × Inverts (sizeOf (scene .dims)) inverse ⌝ }
     ensures { λ r. ⌜ shelf (now (vertices .exit)) r
-        ≡ runOf (sceneOf scene [] [] (now (cubes .entry))) (stepIn step ∷ []) (shelf (now (vertices .entry)) count) ⌝ }
+        ≡ runOf (sceneOf scene [] [] (now (cubes .entry))) (stepIn a b ∷ []) (shelf (now (vertices .entry)) count) ⌝ }
 {
     let floats = floats_of(scene.coloured);
-    let a = (step % 4_294_967_296) as u32;
-    let b = (step / 4_294_967_296) as u32;
     if b >= CUT {
         free_row(vertices, 4 * floats, a as usize, count);
         return count - 1;
@@ -53,11 +52,11 @@ pub fn replay(
     scene: Scene,
     cubes: &[u32],
     inverse: Inverse,
-    steps: &[u64],
+    steps: &[u32],
     n: usize,
     count: usize,
 ) -> usize
-    requires { ⌜ (n ≤ length (now steps)) × Replaying (sceneOf scene [] [] (now cubes)) (stepsIn n (now steps)) (shelf (now vertices) count)
+    requires { ⌜ (2 * n ≤ length (now steps)) × Replaying (sceneOf scene [] [] (now cubes)) (stepsIn n (now steps)) (shelf (now vertices) count)
         × Inverts (sizeOf (scene .dims)) inverse ⌝ }
     ensures { λ r. ⌜ shelf (now (vertices .exit)) r
         ≡ runOf (sceneOf scene [] [] (now (cubes .entry))) (stepsIn n (now (steps .entry))) (shelf (now (vertices .entry)) count) ⌝ }
@@ -65,7 +64,9 @@ pub fn replay(
     let mut left = count;
     let mut i = 0;
     while i < n {
-        left = replay_one(vertices, scene, cubes, inverse, steps[i], left);
+        let a = steps[2 * i];
+        let b = steps[2 * i + 1];
+        left = replay_one(vertices, scene, cubes, inverse, a, b, left);
         i += 1;
     }
     left

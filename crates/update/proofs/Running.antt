@@ -168,7 +168,7 @@ module _ (tested : Tested) {S : Scene} {room : ℕ} {log vs₀ ls₀ ss₀ : Lis
       run-room = let n = r .holds .count in (λ i. fitsIn (around i) (n i) room) ∙ room-told (world S) e (g .within) inside m (sane .once) w ss told no-face means room
 
       -- ---- an entry that finds its room
-      module _ (fit : needed (works k) m ≤ room) (xs : List ℕ) (long : length xs ≡ 24) where
+      module _ (fit : needed (works k) m ≤ room) (xs : List ℕ) (long : length xs ≡ 48) where
         abbrev ds : List Deed
         ds = deeds ks e (packed d)
 
@@ -236,7 +236,7 @@ module _ (tested : Tested) {S : Scene} {room : ℕ} {log vs₀ ls₀ ss₀ : Lis
         steps-are : done .steps ≡ steps
         steps-are = ap (λ (I : Index). I .steps) ran
 
-        pub run-few : length (done .steps) ≤ length xs
+        pub run-few : 2 * length (done .steps) ≤ length xs
         run-few = let z = ready-rest ds (run-ready .0) _ (run-ready .1) .steps in omega arith
 
         replayed-now : Can (Drawn (bare S)) room steps (length m) × (replayed (span S) (wordsBy (bare S)) steps (shelf (laid (span S) (λ q x. x .words) h m vs₀) (length m))

@@ -80,7 +80,7 @@ fn run_log(
     let tested = task.tested;
     let inverse = inverted(scene.dims);
     let entries = log.len() / Entry::BYTES;
-    let mut steps: [u64; 24] = [0; 24];
+    let mut steps: [u32; 48] = [0; 48];
     let mut quads = task.quads;
     let mut moved: u64 = 0;
     let mut highest = task.quads;

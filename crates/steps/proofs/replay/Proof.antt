@@ -3,11 +3,11 @@ use mathlib.Core.Path.{_≡_, refl, _∙_}
 use mathlib.Core.List.{List, [], _∷_, _++_}
 use Prim.Native.Nat.{ℕ, _-_, _≤_}
 use native.Mathlib.Omega.{arith}
-use lib.ListN.{length, getD}
+use lib.ListN.{length}
 use borrow.Author.Needs.{needs}
 use Rattle.rules.specs.Calls.{Scene}
 use Rattle.terms.specs.Scenes.{sceneOf}
-use Rattle.steps.specs.Steps.{Step, gone, came, stepIn, Shelf, shelf, Can}
+use Rattle.steps.specs.Steps.{Step, gone, came, stepAt, Shelf, shelf, Can}
 use Rattle.steps.specs.Rows.{runOf, Drawn, Replaying}
 use Rattle.steps.proofs.Turning.{Turning, Piecewise, start, this, turn, done}
 use Rattle.steps.proofs.replay.Statement.{statement}
@@ -43,14 +43,14 @@ piecewise S vs = record {
 abbrev Inv-loop : tie.InvT-loop
 Inv-loop vertices₀ scene cubes inverse steps n count left₀ i₀ vertices left i =
     let S = sceneOf scene [] [] cubes in
-    Turning (runOf S) (Ready S vertices₀) n (λ k. stepIn (getD steps k 0) ∷ []) i (shelf vertices₀ left₀) (shelf vertices left) × (length vertices ≡ length vertices₀)
+    Turning (runOf S) (Ready S vertices₀) n (λ k. stepAt steps k ∷ []) i (shelf vertices₀ left₀) (shelf vertices left) × (length vertices ≡ length vertices₀)
 
 abbrev μ-loop : tie.MeasureT-loop
 μ-loop vertices₀ scene cubes inverse steps n count left₀ i₀ vertices left i = n - i
 
 replay-one-requires : tie.Need-replay-one-requires Inv-loop μ-loop
 replay-one-requires c κs =
-    let i = c .before .before in
+    let i = c .before .before .before in
     let l = i .before .loop in
     let p = this (l .inv .0) (piecewise _ _) (i .loop-test .taken) in
     (other p (l .inv .1) (p .here) (p .can), i .before .before .before .before .before .pre .2)
@@ -58,12 +58,13 @@ replay-one-requires c κs =
 loop-again : tie.Need-loop-again Inv-loop μ-loop
 loop-again c =
     let went = c .before .before in
-    let i = went .before .before .before in
+    let i = went .before .before .before .before in
     let l = i .before .loop in
     (turn (l .inv .0) (piecewise _ _) (i .loop-test .taken) (went .replay-one .ensures), went .replay-one .kept .0 ∙ l .inv .1)
 
 pub replay-spec : {M : Type 1} → statement M
 replay-spec =
     tie.close
-    (tie.spec Inv-loop μ-loop (λ c. (start (c .before .before .before .pre .1), refl)) (λ c. search needs) (λ c. search needs) replay-one-requires (λ c. omega arith) (λ c. omega arith)
+    (tie.spec Inv-loop μ-loop (λ c. (start (c .before .before .before .pre .1), refl)) (λ c. search needs) (λ c. search needs) (λ c. search needs)
+    (λ c. search needs) (λ c. search needs) (λ c. search needs) (λ c. search needs) replay-one-requires (λ c. omega arith) (λ c. omega arith)
     loop-again (λ c. c .before .loop .inv .1) (λ c. done (c .before .loop .inv .0) (λ s. refl) (c .loop-test .left)))

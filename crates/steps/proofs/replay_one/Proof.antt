@@ -1,7 +1,7 @@
 -- `steps::replay_one` meets its contract. Assumes nothing.
 use mathlib.Core.Path.{_≡_, ap, _∙_}
 use mathlib.Core.List.{List, [], _∷_}
-use Prim.Native.Nat.{ℕ, suc, _+_, _-_, _*_, _/_, _%_, _≤_, _<_}
+use Prim.Native.Nat.{ℕ, suc, _+_, _-_, _*_, _≤_, _<_}
 use native.Mathlib.Nat.{mul-le-mul-left}
 use native.Mathlib.Omega.{arith}
 use lib.ListN.{length, take, drop}
@@ -54,13 +54,6 @@ module _ {S : Scene} {t : ℕ} (k : Shaped S t) {n : ℕ} (e : n ≡ floats (S .
 abbrev scene : tie.Start → Scene
 scene t = sceneOf (t .args .scene) [] [] (t .args .cubes .now)
 
--- the two halves of the step
-abbrev low : tie.Start → ℕ
-low t = t .args .step % 4294967296
-
-abbrev high : tie.Start → ℕ
-high t = t .args .step / 4294967296
-
 abbrev Doing : tie.Start → Step → Type 0
 Doing t x = Replaying (scene t) (x ∷ []) (shelf (t .args .vertices .now) (t .args .count))
 
@@ -69,8 +62,8 @@ module _ (c : tie.Then1) where
   abbrev cutting : tie.Start
   cutting = c .before .before .before .before
 
-  cut : Doing cutting (gone (low cutting))
-  cut = rw (le-ltb (high cutting) CUT (c .if1 .taken)) at (cutting .pre .0)
+  cut : Doing cutting (gone (cutting .args .a))
+  cut = rw (le-ltb (cutting .args .b) CUT (c .if1 .taken)) at (cutting .pre .0)
 
 mul-free-row : tie.Need-mul-free-row
 mul-free-row c =
@@ -90,19 +83,19 @@ returns c =
     let went = c .before .before in
     let test = went .before .before in
     let a = cutting test .args in
-    rw (le-ltb (high (cutting test)) CUT (test .if1 .taken))
+    rw (le-ltb (a .b) CUT (test .if1 .taken))
     (ap (λ (xs : List ℕ). shelf xs (a .count - 1))
-    (went .free-row .ensures ∙ ap (λ (n : ℕ). freed (4 * n) (low (cutting test)) (a .count) (a .vertices .now)) (test .before .floats-of .ensures)))
+    (went .free-row .ensures ∙ ap (λ (n : ℕ). freed (4 * n) (a .a) (a .count) (a .vertices .now)) (test .before .floats-of .ensures)))
 
 -- ---- a draw
 module _ (c : tie.Else1) where
   abbrev drawing : tie.Start
   drawing = c .before .before .before .before
 
-  drawn : Doing drawing (came (low drawing) (high drawing))
-  drawn = rw (lt-ltb (high drawing) CUT (c .if1 .left)) at (drawing .pre .0)
+  drawn : Doing drawing (came (drawing .args .a) (drawing .args .b))
+  drawn = rw (lt-ltb (drawing .args .b) CUT (c .if1 .left)) at (drawing .pre .0)
 
-  fits : let n = c .before .floats-of .result in (n ≤ 12) × (24 * n * high drawing + 24 * n ≤ length (drawing .args .cubes .now))
+  fits : let n = c .before .floats-of .result in (n ≤ 12) × (24 * n * drawing .args .b + 24 * n ≤ length (drawing .args .cubes .now))
   fits = ends (drawn .can .1 .1) (c .before .floats-of .ensures)
 
   room : span (scene drawing) * suc (drawing .args .count) ≤ length (drawing .args .vertices .now)
@@ -134,13 +127,13 @@ returns-2 c =
     let cube = lent (drawn test .can .1 .1) n in
     let at = placed .cords-of .ensures in
     let f = placed .before .face-at .ensures in
-    rw (lt-ltb (high (drawing test)) CUT (test .if1 .left))
+    rw (lt-ltb (a .b) CUT (test .if1 .left))
     (ap (λ (xs : List ℕ). shelf xs (a .count + 1))
     (wrote .write-place .ensures ∙ (λ i. put (4 * n i * a .count) (quadWords (cube i) (n i) (scene (drawing test) .d) (f i) (at i)) (a .vertices .now))))
 
 pub replay-one-spec : {M : Type 1} → statement M
 replay-one-spec =
     tie.close
-    (tie.spec (λ c κs. search needs) (λ c. search needs) (λ c. search needs) mul-free-row (λ c. search needs) free-row-requires sub-result (λ c. search needs) returns (λ c. omega (arith, fits c)) (λ c. search needs) (λ c. omega (arith, fits c))
+    (tie.spec (λ c κs. search needs) mul-free-row free-row-requires sub-result (λ c. search needs) returns (λ c. omega (arith, fits c)) (λ c. omega (arith, fits c))
     (λ c. omega (arith, fits c)) (λ c. omega (arith, fits c)) (λ c. omega (arith, fits c)) (λ c. search needs) (λ c. search needs) (λ c. omega (arith, fits c))
     (λ c κs. search needs) cords-of-requires write-place-requires add-result (λ c. search needs) returns-2)

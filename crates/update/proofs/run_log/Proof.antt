@@ -4,14 +4,14 @@ use mathlib.Core.List.{List}
 use Prim.Native.Nat.{ℕ, _-_, _/_, _≤_, _<_}
 use native.Mathlib.Omega.{arith}
 use lib.Dec.{leb}
-use lib.ListN.{length, getD}
+use lib.ListN.{length}
 use borrow.Author.Tests.{leb-true, leb-false}
 use Rattle.rules.specs.Update.{Tested, Work, entryAt, work, needed}
 use Rattle.rules.specs.Calls.{Scene, world, span}
 use Rattle.rules.proofs.ListLaws.{length-table, not-true, not-false}
 use Rattle.terms.specs.Modes.{testedBy}
 use Rattle.terms.specs.Scenes.{sceneOf}
-use Rattle.steps.specs.Steps.{Step, stepIn, shelf, replayed}
+use Rattle.steps.specs.Steps.{Step, shelf, stepAt, replayed}
 use Rattle.steps.specs.Rows.{wordsBy, Replaying}
 use Rattle.entries.specs.Log.{entryIn}
 use Rattle.works.specs.Sets.{setIn, packed, deeds}
@@ -25,7 +25,7 @@ use Rattle.update.proofs.run_log.Tie as tie
 abbrev Inv-loop : tie.InvT-loop
 Inv-loop vertices₀ links₀ slots₀ kinds covers cubes log task scene tested inverse entries steps₀ quads₀ moved₀ highest₀ k₀ vertices links slots steps quads moved highest k =
     Running (testedBy (task .tested)) (sceneOf (task .scene) kinds covers cubes) (task .room) log vertices₀ links₀ (task .quads) k highest vertices links slots quads moved
-    × (length vertices ≡ length vertices₀) × (length links ≡ length links₀) × (length slots ≡ length slots₀) × (length steps ≡ 24)
+    × (length vertices ≡ length vertices₀) × (length links ≡ length links₀) × (length slots ≡ length slots₀) × (length steps ≡ 48)
 
 abbrev μ-loop : tie.MeasureT-loop
 μ-loop vertices₀ links₀ slots₀ kinds covers cubes log task scene tested inverse entries steps₀ quads₀ moved₀ highest₀ k₀ vertices links slots steps quads moved highest k =
@@ -161,7 +161,7 @@ replay-requires c κs =
     let l = i .before .loop in
     let is = ap (λ (I : Index). I .steps) (worked went) in
     let few = run-few (side t) (t .pre) (l .inv .0) (found w) (fits test) (l .steps) (l .inv .4) in
-    let n = length-table (λ j. stepIn (getD (went .index-work .last .1 .1 .0) j 0)) (went .index-work .result .steps) in
+    let n = length-table (stepAt (went .index-work .last .1 .1 .0)) (went .index-work .result .steps) in
     let long = went .index-work .kept .1 .1 .0 in (
       omega (arith, ap length is, n, few, long),
       subst (λ (xs : List Step). Replaying (bare (scene-of t)) xs (shelf (l .vertices) (l .quads))) (sym is)
