@@ -13,8 +13,8 @@ use Rattle.rules.specs.Cells.{cells, has, opposite, neighbour, keyOf, quadsOf}
 use Rattle.rules.specs.Mesh.{Quad, World, NONE, there}
 use Rattle.rules.specs.Update as rule
 use Rattle.rules.specs.Update.{Entry, Op, run, ops, needed}
-use Rattle.rules.proofs.ListLaws.{All, all-kept, all-each, split, each-same, count-each, members, read-one, read-none}
-use Rattle.rules.proofs.Sets.{has-setOf}
+use Rattle.rules.proofs.ListLaws.{All, and-true, all-kept, all-each, split, each-same, count-each, members, read-one, read-none}
+use Rattle.rules.proofs.Sets.{setOf-lt, has-setOf}
 use Rattle.rules.proofs.Neighbours.{beside, opposite-lt}
 use Rattle.rules.proofs.Quads.{Once, run-once}
 use Rattle.rules.proofs.Acting.{faceOf, acts, acting, acting-same, acting-acts, acting-all, acting-append, acting-count, there-run, acting-sides}
@@ -22,11 +22,25 @@ use Rattle.rules.proofs.Acting as acting
 use Rattle.util.specs.Grid.{Within}
 use Rattle.steps.specs.Steps.{opOf, opsOf}
 use Rattle.works.specs.declared.Work.{Work}
-use Rattle.works.specs.Sets.{setIn, packed, keyOr, keysAround, keyMet, cutting, typeAt, deedBy, partDeeds, deeds, quadIn}
+use Rattle.works.specs.Sets.{setIn, packed, keyOr, keysAround, keyMet, cutting, typeAt, deedBy, partDeeds, deeds, quadIn, Cubes}
 use Rattle.works.proofs.Works.{deeds-parts, facing, own-key, near-key, near-all}
 use Rattle.works.proofs.Meant.{map-each, spotIn, opAt, opsAt, partOps, Means, parts-ops, needed-parts}
-use Rattle.indexing.proofs.Sets.{due-few}
 use Rattle.indexing.specs.Due.{isEmpty, dueAt, dueOf, fitsIn}
+
+-- LAW: what is due are sets of six sides
+pub due-few : (slots keys : List ℕ) (c : ℕ) (w : Work) (j : ℕ) → setIn (dueOf slots keys c w) j < 64
+due-few slots keys c w zero = setOf-lt (dueAt slots keys c w 0)
+due-few slots keys c w (suc zero) = setOf-lt (dueAt slots keys c w 1)
+due-few slots keys c w (suc (suc zero)) = setOf-lt (dueAt slots keys c w 2)
+due-few slots keys c w (suc (suc (suc j))) = setOf-lt (dueAt slots keys c w 3)
+
+-- LAW: and of cubes, if the work's are
+pub due-cubes : (kinds slots keys : List ℕ) (c : ℕ) (e : Entry) (w : Work) → Cubes kinds e w → Cubes kinds e (dueOf slots keys c w)
+due-cubes kinds slots keys c e w k =
+    record {
+      shown = λ i l h. k .shown i l (and-true _ _ (sym (has-setOf (dueAt slots keys c w 1) i l) ∙ h) .0);
+      drawn = λ i l h. k .drawn i l (and-true _ _ (sym (has-setOf (dueAt slots keys c w 2) i l) ∙ h) .0);
+    }
 
 all-map : {A B : Type 0} (P : B → Type 0) (g : A → B) (xs : List A) → All (λ x. P (g x)) xs → All P (map g xs)
 all-map P g [] a = tt

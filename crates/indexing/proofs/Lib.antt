@@ -1,4 +1,3 @@
 pub mod Booking
 pub mod Doing
 pub mod Due
-pub mod Sets

@@ -25,7 +25,7 @@ use Rattle.steps.specs.Rows.{wordsBy, Shaped, Drawn}
 use Rattle.works.specs.declared.Work.{Work}
 use Rattle.works.specs.Sets.{setIn, packed, keyMet, cutting, typeAt, deedBy, deeds, Cubes}
 use Rattle.rules.proofs.Courses.{Good}
-use Rattle.indexing.proofs.Sets.{all-deeds}
+use Rattle.works.proofs.Works.{all-deeds}
 
 -- the scene without its tables of types: what a list of vertices is drawn from
 abbrev pub bare : Scene → Scene

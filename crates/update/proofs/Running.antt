@@ -27,14 +27,13 @@ use Rattle.steps.proofs.Replaying.{replay-run}
 use Rattle.steps.specs.Rows.{wordsBy, Drawn, Replaying}
 use Rattle.works.specs.declared.Work.{Work}
 use Rattle.works.specs.Sets.{meant, setIn, packed, keyOr, keysAround, keyMet, deeds, Cubes}
-use Rattle.works.proofs.Works.{near-key}
+use Rattle.works.proofs.Works.{all-few, near-key}
 use Rattle.works.proofs.Meant.{Means, meant-work, meant-cubes}
 use Rattle.indexing.specs.Index.{Index, indexRun, bookOf, Ground, Ready, Begun}
 use Rattle.indexing.specs.Due.{isEmpty, dueOf, fitsIn, Gridded}
-use Rattle.indexing.proofs.Sets.{all-few, due-few, due-cubes}
 use Rattle.indexing.proofs.Booking.{slot-none, run-booked}
 use Rattle.indexing.proofs.Doing.{ready-rest}
-use Rattle.indexing.proofs.Due.{due-ops, room-told}
+use Rattle.indexing.proofs.Due.{due-few, due-cubes, due-ops, room-told}
 use Rattle.update.specs.Runs.{Ended, laidOut, meshIn, courseIn, Holds, Logging}
 use Rattle.update.proofs.Drawing.{bare, deeds-able}
 

@@ -1,25 +1,27 @@
 -- What an entry tells of a side, and the keys around its cell. Assumes nothing.
-use mathlib.Core.Path.{_≡_, refl, ap, _∙_}
+use mathlib.Core.Path.{_≡_, refl, sym, ap, _∙_, subst}
 use mathlib.Core.Bool.{Bool, true, false, cond, not}
 use mathlib.Core.List.{List, [], _∷_, _++_, append-assoc, append-nil}
 use mathlib.Core.Option.{Option, none, some}
-use Prim.Native.Nat.{ℕ, zero, suc, _+_, _-_, _*_, _/_, _%_, _<_}
+use Prim.Native.Nat.{ℕ, zero, suc, _+_, _-_, _*_, _/_, _%_, _≤_, _<_}
 use native.Mathlib.Omega.{arith}
 use lib.Dec.{eqb}
-use lib.ListN.{getD}
-use Rattle.rules.specs.Lists.{each, only}
+use lib.ListN.{length, getD}
+use Rattle.rules.specs.Lists.{each, only, count}
 use Rattle.rules.specs.Cells.{Size, cells, opposite, neighbour, keyOf, has}
 use Rattle.rules.specs.Mesh.{World}
 use Rattle.rules.specs.Update.{Entry, givenAt, outside, isOpen}
-use Rattle.rules.proofs.ListLaws.{All, split, each-same, getD-table}
+use Rattle.rules.proofs.ListLaws.{All, all-append, all-each, all-if, split, each-same, count-each, getD-table}
+use Rattle.rules.proofs.Index.{count-le}
 use Rattle.rules.proofs.Neighbours.{beside, opposite-lt, opposite-twice}
 use Rattle.face.proofs.Lowest.{half}
 use Rattle.util.specs.Grid.{Within}
 use borrow.Author.Tests.{lt-ltb, le-ltb}
 use Rattle.entries.specs.Log.{neighbourOf}
 use Rattle.entries.specs.declared.Neighbour.the-variants.{Outside, Voxel}
+use Rattle.steps.specs.Steps.{Deed}
 use Rattle.works.specs.declared.Work.{Work}
-use Rattle.works.specs.Sets.{setIn, packed, keyOr, keyAt, keysAround, keyMet, deedBy, partDeeds, cutAt, typeIn, placeIn, deedAt, deeds}
+use Rattle.works.specs.Sets.{setIn, packed, keyOr, keyAt, keysAround, keyMet, cutting, typeAt, deedBy, partDeeds, cutAt, typeIn, placeIn, deedAt, deeds}
 
 -- ---- types and neighbours
 given-outside : (g : ℕ) → neighbourOf g ≡ Outside → outside g ≡ true
@@ -74,6 +76,26 @@ deeds-parts keys e w few =
     each-same 24 0 (deedAt keys e (packed w)) (λ i. only (has (setIn w (i / 6)) (i % 6)) (deedBy (cutAt i) (typeIn e i) (getD keys (placeIn i) 0)))
     (λ i _ l. ap (λ (b : Bool). only b (deedBy (cutAt i) (typeIn e i) (getD keys (placeIn i) 0))) (ap (has (packed w)) (omega arith) ∙ has-packed w few (i / 6) (i % 6) (omega arith) (omega arith)))
     ∙ simp (append-assoc, append-nil)
+
+module _ (keys : List ℕ) (e : Entry) where
+  -- LAW: an entry's work is 24 deeds at most
+  pub all-few : (sides : ℕ) → length (deeds keys e sides) ≤ 24
+  unfolding count
+  all-few sides = omega (arith, count-each (has sides) (λ i. deedBy (cutAt i) (typeIn e i) (getD keys (placeIn i) 0)) 24 0, count-le 24 (has sides))
+
+  -- LAW: what holds at each face of the four sets holds of every deed
+  pub all-deeds : (P : Deed → Type 0) (w : Work) → ((j : ℕ) → setIn w j < 64) → ((j f : ℕ) → j < 4 → f < 6 → has (setIn w j) f ≡ true → P (deedBy (cutting j) (typeAt e j f) (keyMet keys j f))) → All P (deeds keys e (packed w))
+  all-deeds P w few holds =
+      subst (All P) (sym (deeds-parts keys e w few))
+      (all-append P (of 0) (of 1 ++ (of 2 ++ of 3)) (part 0 (omega arith)) (all-append P (of 1) (of 2 ++ of 3) (part 1 (omega arith)) (all-append P (of 2) (of 3) (part 2 (omega arith)) (part 3 (omega arith)))))
+    where
+      of : ℕ → List Deed
+      of j = partDeeds keys e (setIn w j) j
+
+      part : (j : ℕ) → j < 4 → All P (partDeeds keys e (setIn w j) j)
+      part j a =
+          all-each P 6 0 (λ f. only (has (setIn w j) f) (deedBy (cutting j) (typeAt e j f) (keyMet keys j f)))
+          (λ f _ b. all-if P (has (setIn w j) f) (deedBy (cutting j) (typeAt e j f) (keyMet keys j f)) (holds j f a (omega arith)))
 
 -- ---- the keys around a cell
 -- the facing side of a neighbour, if the grid has it

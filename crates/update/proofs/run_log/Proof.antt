@@ -11,7 +11,7 @@ use Rattle.rules.specs.Calls.{Scene, world, span}
 use Rattle.rules.proofs.ListLaws.{length-table, not-true, not-false}
 use Rattle.terms.specs.Modes.{testedBy}
 use Rattle.terms.specs.Scenes.{sceneOf}
-use Rattle.steps.specs.Steps.{Step, shelf, stepAt, replayed}
+use Rattle.steps.specs.Steps.{Step, Deed, shelf, stepAt, replayed}
 use Rattle.steps.specs.Rows.{wordsBy, Replaying}
 use Rattle.entries.specs.Log.{entryIn}
 use Rattle.works.specs.Sets.{setIn, packed, deeds}
@@ -122,29 +122,29 @@ passed c = c .before .before .before .before .before
 abbrev due : tie.After-word Inv-loop μ-loop → tie.After-due-work Inv-loop μ-loop
 due c = passed c .before .before
 
+-- the index as the entry finds it, and the deeds of sides that are due
+abbrev index : tie.After-due-work Inv-loop μ-loop → Index
+index c = let l = looped (keyed c) .before .loop in indexAt (l .links) (l .slots) (l .quads) (l .moved) (l .highest) (l .steps)
+
+abbrev doing : tie.After-due-work Inv-loop μ-loop → ℕ → List Deed
+doing c = let b = keyed c in deeds (b .keys-around .result) (entryIn (b .before .before .read-entry .result))
+
 index-work-requires : tie.Need-index-work-requires Inv-loop μ-loop
 index-work-requires c κs =
-    let i = looped (keyed (due c)) in
+    let w = due c in
+    let i = looped (keyed w) in
     let t = begun i in
     let l = i .before .loop in
-    let few = dues (due c) in
-    let sides = c .word .ensures in (
-      omega (arith, sides, few 0, few 1, few 2, few 3),
-      subst (λ (n : ℕ). Begun (length (l .steps)) (deeds (keyed (due c) .keys-around .result) (entryIn (keyed (due c) .before .before .read-entry .result)) n) (indexAt (l .links) (l .slots) (l .quads) (l .moved) (l .highest) (l .steps))) (sym sides)
-          (run-ready (side t) (t .pre) (l .inv .0) (found (due c)) (fits (passed c)) (l .steps) (l .inv .4)),
+    let few = dues w in (
+      omega (arith, c .word .ensures, few 0, few 1, few 2, few 3),
+      subst (λ (n : ℕ). Begun (length (l .steps)) (doing w n) (index w)) (sym (c .word .ensures)) (run-ready (side t) (t .pre) (l .inv .0) (found w) (fits (passed c)) (l .steps) (l .inv .4)),
     )
 
 -- what the index is then
 worked : (c : tie.After-index-work Inv-loop μ-loop) →
     let w = due (c .before) in
-    let l = looped (keyed w) .before .loop in
-    indexOf (c .index-work .last .0) (c .index-work .last .1 .0) (c .index-work .last .1 .1 .0) (c .index-work .result)
-    ≡ indexRun (deeds (keyed w .keys-around .result) (entryIn (keyed w .before .before .read-entry .result)) (packed (w .due-work .result))) (indexAt (l .links) (l .slots) (l .quads) (l .moved) (l .highest) (l .steps))
-worked c =
-    let w = due (c .before) in
-    let l = looped (keyed w) .before .loop in
-    c .index-work .ensures
-    ∙ ap (λ (n : ℕ). indexRun (deeds (keyed w .keys-around .result) (entryIn (keyed w .before .before .read-entry .result)) n) (indexAt (l .links) (l .slots) (l .quads) (l .moved) (l .highest) (l .steps))) (c .before .word .ensures)
+    indexOf (c .index-work .last .0) (c .index-work .last .1 .0) (c .index-work .last .1 .1 .0) (c .index-work .result) ≡ indexRun (doing w (packed (w .due-work .result))) (index w)
+worked c = let w = due (c .before) in c .index-work .ensures ∙ ap (λ (n : ℕ). indexRun (doing w n) (index w)) (c .before .word .ensures)
 
 slice-aggregate-replay : tie.Need-slice-aggregate-replay Inv-loop μ-loop
 slice-aggregate-replay c =
