@@ -11,7 +11,11 @@ use Rattle.works.proofs.type_of.Statement.{statement}
 use Rattle.works.proofs.type_of.Tie as tie
 
 between : (c : tie.Then1) → (5 < c .before .args .i) × (c .before .args .i < 12)
-between c = let b = and-true _ _ (c .if1 .taken) in (ltb-true _ _ (b .0), ltb-true _ _ (b .1))
+between c =
+    let b = and-true _ _ (c .if1 .taken) in
+    let low = ltb-true _ _ (b .0) in
+    let high = ltb-true _ _ (b .1) in
+    (omega arith, omega arith)
 
 returns : tie.Need-returns
 returns c =
