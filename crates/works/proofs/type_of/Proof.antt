@@ -3,6 +3,7 @@ use mathlib.Core.Path.{sym, ap, _∙_}
 use mathlib.Core.Bool.{Bool, cond}
 use Prim.Native.Nat.{_-_, _<_}
 use native.Mathlib.Omega.{arith}
+use lib.Dec.{ltb}
 use borrow.Author.Tests.{ltb-true}
 use Rattle.rules.specs.Update.{givenAt}
 use Rattle.rules.proofs.ListLaws.{and-true}
@@ -11,11 +12,7 @@ use Rattle.works.proofs.type_of.Statement.{statement}
 use Rattle.works.proofs.type_of.Tie as tie
 
 between : (c : tie.Then1) → (5 < c .before .args .i) × (c .before .args .i < 12)
-between c =
-    let b = and-true _ _ (c .if1 .taken) in
-    let low = ltb-true _ _ (b .0) in
-    let high = ltb-true _ _ (b .1) in
-    (omega arith, omega arith)
+between c = let b = and-true (ltb 5 (c .before .args .i)) (ltb (c .before .args .i) 12) (c .if1 .taken) in (ltb-true _ _ (b .0), ltb-true _ _ (b .1))
 
 returns : tie.Need-returns
 returns c =
