@@ -37,9 +37,8 @@ module _ (G : Ground) where
         (split (λ t. there j m ≡ t → eqb (cond t (firstVertex (placeOf j m)) NONE) NONE ≡ not t) (there j m)
         (λ a e. let w = placed j m e .within in let z = small in ne-eqb (firstVertex (placeOf j m)) NONE (λ y. omega arith)) (λ a e. refl) refl)
 
-    pub slot-place : (j : ℕ) → j < G .faces → there j m ≡ true → getD (table (G .faces) (slotOf m)) j NONE / 4 ≡ placeOf j m
-    slot-place j l e =
-        let a : getD (table (G .faces) (slotOf m)) j NONE ≡ 4 * placeOf j m = getD-table (slotOf m) (G .faces) j NONE l ∙ rw e in rw a (omega arith)
+    pub slot-place : (j : ℕ) → j < G .faces → there j m ≡ true → getD (table (G .faces) (slotOf m)) j NONE ≡ 4 * placeOf j m
+    slot-place j l e = getD-table (slotOf m) (G .faces) j NONE l ∙ rw e
 
     pub there-inside : (j : ℕ) → there j m ≡ true → j < G .faces
     there-inside j e = let p = placed j m e in subst (λ (i : ℕ). i < G .faces) (p .key) (all-at (Fits (G .faces) (G .span)) m (placeOf j m) blank (k .fits) (p .within) .0)
@@ -80,7 +79,8 @@ module _ (G : Ground) where
       let z : v ≡ v + 0 = omega arith in
       rw new (came-booked m h k j t v xs (f .0) (f .1) new (omega (arith, length-append m (quad j t ∷ [])))
       ∙ ap (λ (u : ℕ). bookOf (G .faces) (max h (length (m ++ (quad j t ∷ [])))) (m ++ (quad j t ∷ [])) (G .old) u (xs ++ (came j t ∷ []))) z)
-  one-booked (hide j) m h v xs f a k fit = rw (slot-place m h k j (there-inside m h k j a) a, a) (gone-booked m h k (placeOf j m) v xs (placed j m a .within))
+  one-booked (hide j) m h v xs f a k fit =
+      let q : 4 * placeOf j m / 4 ≡ placeOf j m = omega arith in rw (slot-place m h k j (there-inside m h k j a) a, q, a) (gone-booked m h k (placeOf j m) v xs (placed j m a .within))
 
   -- LAW: a run on the index is the index of the run on the quads, with the run's steps
   pub run-booked : (ds : List Deed) (m : List Quad) (h v : ℕ) (xs : List Step) → All (Good (G .faces) (G .span)) (opsOf quad ds) → Acts (opsOf quad ds) m → Sane (G .faces) (G .span) (G .room) m h → highest h (opsOf quad ds) m ≤ G .room

@@ -1,5 +1,6 @@
 -- Deeds done on the index of a mesh, one after the other. Assumes nothing.
 use mathlib.Core.Path.{_≡_, refl, sym, ap, _∙_, subst}
+use mathlib.Core.Logic.{⊎-elim}
 use mathlib.Core.Bool.{true, false, not}
 use mathlib.Core.List.{List, [], _∷_, _++_, append-assoc}
 use mathlib.Core.Option.{none, some}
@@ -10,7 +11,7 @@ use lib.ListN.{length, getD, set, length-append, length-set}
 use lib.Seq.{getD-set-same, getD-set-other}
 use borrow.Author.Tests.{lt-ltb}
 use Rattle.rules.specs.Lists.{each}
-use Rattle.rules.specs.Cells.{onlyIf}
+use Rattle.rules.specs.Cells.{keyIn, onlyIf}
 use Rattle.rules.specs.Mesh.{Quad, NONE, slotOf, listsOf}
 use Rattle.rules.specs.Update.{step, movedIn}
 use Rattle.rules.proofs.ListLaws.{within, split, length-table, each-same, each-split}
@@ -90,14 +91,21 @@ some-told w v = split (λ b. onlyIf (not b) w ≡ some v → (b ≡ false) × (w
 pub slotted : {space k : ℕ} {ds : List Deed} {B : Index} → Ready space (hide k ∷ ds) B → k < length (B .slots)
 slotted {k = k} r = let b = there-inside (r .ground) (r .mesh) (r .top) (r .sane) k (r .acts .0) in let z = long-slots r in omega arith
 
-pub removable : {space k : ℕ} {ds : List Deed} {B : Index} → Ready space (hide k ∷ ds) B → Removable (slotIn B k / 4) B
+pub removable : {space k : ℕ} {ds : List Deed} {B : Index} → Ready space (hide k ∷ ds) B → Removable k (slotIn B k / 4) B
 removable {k = k} {B = B} r =
     let l = linked r in
     let m = r .moves in
     let b = there-inside (r .ground) (r .mesh) (r .top) (r .sane) k (r .acts .0) in
-    let s = ap (λ (I : Index). slotIn I k / 4) (r .is) ∙ slot-place (r .ground) (r .mesh) (r .top) (r .sane) k b (r .acts .0) in
+    let w = ap (λ (I : Index). slotIn I k) (r .is) ∙ slot-place (r .ground) (r .mesh) (r .top) (r .sane) k b (r .acts .0) in
     let p = placed k (r .mesh) (r .acts .0) .within in
-    record { within = omega (arith, s, quads-are r); linked = l; moves = omega arith }
+    let e = within (B .slots) k NONE 0 (slotted r) in
+    record {
+      within = omega (arith, w, quads-are r);
+      named = ⊎-elim (λ n. absurd (omega (arith, n, e, w, l .small, quads-are r)))
+          (λ x. ap (λ (q : ℕ). keyIn (getD (B .links) q 0)) (omega (arith, e, x .2)) ∙ x .3) (l .back k (slotted r));
+      linked = l;
+      moves = omega arith;
+    }
 
 moved-few : (words : ℕ → ℕ → List ℕ) (d : Deed) (m : List Quad) → movedIn (opOf (quadBy words) d) m ≤ 5
 moved-few words (show k t) m = omega arith

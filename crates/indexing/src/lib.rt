@@ -45,15 +45,16 @@ fn larger(a: usize, b: usize) -> usize
     if a <= b { b } else { a }
 }
 
-// Removes quad q: the links of those that move go along, their slots name the new places. The step is its place and the mark.
+// Removes the quad of the face of a key: the links of those that move go along, their slots name the new places. The step is its place and the mark.
 fn remove_quad(
     links: &mut [u32],
     slots: &mut [u32],
     steps: &mut [u32],
+    key: u32,
     quad: Quad,
     tally: Tally,
 ) -> Tally
-    requires { ⌜ Removable (quad .0) (indexOf (now links) (now slots) (now steps) tally) × (2 * tally .steps + 2 ≤ length (now steps)) ⌝ }
+    requires { ⌜ Removable key (quad .0) (indexOf (now links) (now slots) (now steps) tally) × (2 * tally .steps + 2 ≤ length (now steps)) ⌝ }
     ensures { λ r. ⌜ indexOf (now (links .exit)) (now (slots .exit)) (now (steps .exit)) r
         ≡ goneAt (quad .0) (indexOf (now (links .entry)) (now (slots .entry)) (now (steps .entry)) tally) ⌝ }
 {
@@ -61,7 +62,7 @@ fn remove_quad(
     let at = 2 * tally.steps;
     let place = quad.0 as usize;
     let moved = tally.moved + moved_by(place, count) as u64;
-    renumber(slots, links, place, count);
+    renumber(slots, links, key, place, count);
     free_row(links, 1, place, count);
     steps[at] = quad.0;
     steps[at + 1] = CUT;
@@ -121,7 +122,7 @@ fn do_face(
 {
     if cuts {
         let quad = quad_of(slots, key);
-        return remove_quad(links, slots, steps, quad, tally);
+        return remove_quad(links, slots, steps, key, quad, tally);
     }
     append_quad(links, slots, steps, key, voxel, tally)
 }

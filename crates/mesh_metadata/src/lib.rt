@@ -99,12 +99,12 @@ pub fn change_quad_index(slots: &mut [u32], links: &[u32], old: Quad, new: Quad)
     fill(slots, slot, new);
 }
 
-pub fn remove_quad(slots: &mut [u32], links: &[u32], quad: Quad)
-    requires { ⌜ (quad .0 < length (now links)) × (codeIn (getD (now links) (quad .0) 0) ≤ 5)
-        × (keyIn (getD (now links) (quad .0) 0) < length (now slots)) ⌝ }
-    ensures { λ _. ⌜ now (slots .exit) ≡ set (now (slots .entry)) (keyIn (getD (now (links .entry)) (quad .0) 0)) NONE ⌝ }
+// The slot of a removed quad's face, by its key, names none.
+pub fn remove_quad(slots: &mut [u32], key: u32)
+    requires { ⌜ key < length (now slots) ⌝ }
+    ensures { λ _. ⌜ now (slots .exit) ≡ set (now (slots .entry)) key NONE ⌝ }
 {
-    let slot = slot_of(links, quad);
+    let slot = wide(key);
     slots[slot] = NONE;
 }
 
@@ -132,12 +132,12 @@ fn rename_from(slots: &mut [u32], links: &[u32], q: usize, from: usize, count: u
     rename(slots, links, q, from, count);
 }
 
-// Mends the slots where quad q of `count` is removed: that of q, and those of the quads that move, which are five at most.
-pub fn renumber(slots: &mut [u32], links: &[u32], q: usize, count: usize)
-    requires { ⌜ (q < count) × Linked count (now links) (now slots) ⌝ }
+// Mends the slots where quad q of `count` is removed, which shows the face of a key: that slot, and those of the quads that move, which are five at most.
+pub fn renumber(slots: &mut [u32], links: &[u32], key: u32, q: usize, count: usize)
+    requires { ⌜ (q < count) × Linked count (now links) (now slots) × (keyIn (getD (now links) q 0) ≡ key) ⌝ }
     ensures { λ _. ⌜ now (slots .exit) ≡ map (renum q count) (now (slots .entry)) ⌝ }
 {
     let from = vav::source(q, count);
     rename_from(slots, links, q, from, count);
-    remove_quad(slots, links, Quad(q as u32));
+    remove_quad(slots, key);
 }

@@ -30,7 +30,7 @@ remove-quad-requires c κs =
     let found = c .before .before .before in
     let test = found .before .before in
     let t = cutting test in
-    (subst (λ (q : ℕ). Removable q (there t)) (sym (found .quad-of .ensures)) (removable (known t (test .if1 .taken) .1)), space-left (t .args .steps .now) (t .args .tally) (known t refl .1))
+    (subst (λ (q : ℕ). Removable (t .args .key) q (there t)) (sym (found .quad-of .ensures)) (removable (known t (test .if1 .taken) .1)), space-left (t .args .steps .now) (t .args .tally) (known t refl .1))
 
 returns : tie.Need-returns
 returns c =

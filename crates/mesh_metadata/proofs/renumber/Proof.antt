@@ -1,10 +1,9 @@
 -- `mesh_metadata::renumber` meets its contract. Assumes nothing.
-use mathlib.Core.Path.{ap, _∙_}
-use mathlib.Core.List.{List, map}
+use mathlib.Core.Path.{sym, ap, _∙_}
+use mathlib.Core.List.{map}
 use Prim.Native.Nat.{ℕ}
 use native.Mathlib.Omega.{arith}
-use lib.ListN.{getD, set}
-use Rattle.rules.specs.Cells.{keyIn}
+use lib.ListN.{set}
 use Rattle.rules.specs.Mesh.{NONE}
 use Rattle.vav.proofs.Laws.{source-bounds}
 use Rattle.mesh_metadata.specs.Index.{shifted}
@@ -23,11 +22,9 @@ rename-from-requires c κs =
 remove-quad-requires : tie.Need-remove-quad-requires
 remove-quad-requires c κs =
     let t = c .before .before .before .before .before .before .before .before in
-    let k = t .pre .1 in
-    let r = k .room in
-    let m = k .slot (t .args .q) (t .pre .0) in
+    let m = t .pre .1 .slot (t .args .q) (t .pre .0) in
     let l = c .before .before .before .rename-from .kept .0 in
-    (omega arith, k .code (t .args .q) (t .pre .0), omega arith)
+    omega (arith, t .pre .2)
 
 returns : tie.Need-returns
 returns c =
@@ -36,10 +33,9 @@ returns c =
     let t = found .before .before .before in
     let a = t .args in
     c .before .before .remove-quad .ensures
-    ∙ ap (λ (x : List ℕ). set x (keyIn (getD (a .links .now) (a .q) 0)) NONE)
-    (named .rename-from .ensures ∙ ap (λ (from : ℕ). map (shifted (a .q) from (a .count)) (a .slots .now)) (found .source .ensures))
+    ∙ (λ i. set ((named .rename-from .ensures ∙ ap (λ (from : ℕ). map (shifted (a .q) from (a .count)) (a .slots .now)) (found .source .ensures)) i) (sym (t .pre .2) i) NONE)
     ∙ gone (a .count) (a .links .now) (a .slots .now) (t .pre .1) (a .q) (t .pre .0)
 
 pub renumber-spec : {M : Type 1} → statement M
 renumber-spec =
-    tie.close (tie.spec (λ c κs. search needs) rename-from-requires (λ c. search needs) remove-quad-requires (λ c. search needs) returns)
+    tie.close (tie.spec (λ c κs. search needs) rename-from-requires remove-quad-requires (λ c. search needs) returns)
