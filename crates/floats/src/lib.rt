@@ -109,13 +109,12 @@ fn moved_by(moves: bool, word: u32, shift: f32) -> u32
     }
 }
 
-// A position that is moved by coordinate · d, or a word that stays. What is moved may be infinite. Of 16 bits, so that the processor's signed conversion serves.
+// A position that is moved by coordinate · d, or a word that stays. What is moved may be infinite.
 pub fn moved_if(moves: bool, word: u32, coordinate: u32, d: u32) -> u32
     requires { ⌜ (moves ≡ true → T (finite word)) × (coordinate ≤ 1024) × T (finite d) ⌝ }
     ensures { λ r. ⌜ r ≡ cond moves (movedWord word coordinate d) word ⌝ }
 {
-    let along = coordinate as u16;
-    moved_by(moves, word, (along as f32) * f32::from_bits(d))
+    moved_by(moves, word, (coordinate as f32) * f32::from_bits(d))
 }
 
 pub fn moved_word(word: u32, coordinate: u32, d: u32) -> u32

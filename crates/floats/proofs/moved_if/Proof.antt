@@ -2,7 +2,7 @@
 -- nothing.
 use native.Mathlib.Omega.{arith}
 use Rattle.rules.specs.Types.{movedWord}
-use Rattle.floats.proofs.Numbers.{bits-finite, no-nan-bits, no-nan, whole-finite, mul-number, add-number}
+use Rattle.floats.proofs.Numbers.{bits-finite, no-nan-bits, no-nan, whole-finite, whole-casts, mul-number, add-number}
 use Rattle.floats.proofs.moved_if.Statement.{statement}
 use Rattle.floats.proofs.moved_if.Tie as tie
 
@@ -17,4 +17,4 @@ unfolding movedWord
 returns c = c .moved-by .ensures
 
 pub moved-if-spec : {M : Type 1} → statement M
-moved-if-spec = tie.close (tie.spec (λ c. omega arith) (λ c. tt) (λ c. no-nan-bits _ (c .before .pre .2)) moved-by-requires returns)
+moved-if-spec = tie.close (tie.spec (λ c. whole-casts _ (omega arith)) (λ c. no-nan-bits _ (c .before .pre .2)) moved-by-requires returns)
