@@ -15,12 +15,11 @@ use Rattle.rules.proofs.ListLaws.{All, all-at, all-kept, split, not-false, getD
 use Rattle.rules.proofs.Quads.{placed, length-removeAt}
 use Rattle.rules.proofs.Laying.{Fits}
 use Rattle.rules.proofs.Acting.{acts, Acts}
-use Rattle.rules.proofs.Courses.{Sane, Good, sane-one}
+use Rattle.rules.proofs.Courses.{Sane, Good, sane-one, highest-ge}
 use Rattle.vav.proofs.Laid.{remove-laid}
 use Rattle.mesh_metadata.proofs.Meshes as meshes
 use Rattle.mesh_metadata.proofs.Layouts as layouts
 use Rattle.steps.specs.Steps.{Step, gone, came, Deed, show, hide, quadBy, opOf, opsOf, stepOf, stepsOf}
-use Rattle.steps.proofs.Replaying.{highest-ge}
 use Rattle.indexing.specs.Index.{goneAt, cameAt, indexOne, indexRun, bookOf, Ground}
 
 module _ (G : Ground) where

@@ -17,11 +17,10 @@ use Rattle.rules.specs.Update.{step, movedIn}
 use Rattle.rules.proofs.ListLaws.{within, split, length-table, each-same, each-split}
 use Rattle.rules.proofs.Quads.{placed, moved-le}
 use Rattle.rules.proofs.Laying.{length-links}
-use Rattle.rules.proofs.Courses.{sane-one}
+use Rattle.rules.proofs.Courses.{sane-one, highest-ge}
 use Rattle.mesh_metadata.specs.Index.{Linked, vertexOf}
 use Rattle.mesh_metadata.proofs.Layouts as layouts
 use Rattle.steps.specs.Steps.{Step, came, CUT, stepIn, stepAt, stepsIn, Deed, show, hide, quadBy, opOf, opsOf, stepOf}
-use Rattle.steps.proofs.Replaying.{highest-ge}
 use Rattle.steps.proofs.Turning.{Piecewise}
 use Rattle.indexing.specs.declared.Tally.{Tally}
 use Rattle.indexing.specs.Index.{Index, indexOf, slotIn, cameAt, indexOne, indexRun, bookOf, Ready, Begun, Removable, Drawable}

@@ -13,19 +13,18 @@ use Rattle.rules.specs.Cells.{cells, has, opposite, neighbour, keyOf, quadsOf}
 use Rattle.rules.specs.Mesh.{Quad, World, NONE, there}
 use Rattle.rules.specs.Update as rule
 use Rattle.rules.specs.Update.{Entry, Op, run, ops, needed}
-use Rattle.rules.proofs.ListLaws.{All, and-true, all-kept, all-each, split, each-same, count-each, members, read-one, read-none}
+use Rattle.rules.proofs.ListLaws.{All, and-true, all-kept, all-map, all-each, not-member, map-each, split, each-same, count-each, members, read-one, read-none}
 use Rattle.rules.proofs.Sets.{setOf-lt, has-setOf}
 use Rattle.rules.proofs.Neighbours.{beside, opposite-lt}
 use Rattle.rules.proofs.Quads.{Once, run-once}
-use Rattle.rules.proofs.Acting.{faceOf, acts, acting, acting-same, acting-acts, acting-all, acting-append, acting-count, there-run, acting-sides}
-use Rattle.rules.proofs.Acting as acting
+use Rattle.rules.proofs.Acting.{faceOf, isCut, acts, acting, acting-same, acting-acts, acting-all, acting-append, acting-count, there-run, acting-sides}
 use Rattle.util.specs.Grid.{Within}
 use Rattle.steps.specs.Steps.{opOf, opsOf}
 use Rattle.works.specs.declared.Work.{Work}
 use Rattle.works.specs.Sets.{setIn, packed, keyOr, keysAround, keyMet, cutting, typeAt, deedBy, partDeeds, deeds, quadIn, Cubes}
 use Rattle.works.proofs.Works.{deeds-parts, facing, own-key, near-key, near-all}
-use Rattle.works.proofs.Meant.{map-each, spotIn, opAt, opsAt, partOps, Means, parts-ops, needed-parts}
-use Rattle.indexing.specs.Due.{isEmpty, dueAt, dueOf, fitsIn}
+use Rattle.works.proofs.Meant.{spotIn, opAt, opsAt, partOps, Means, parts-ops, needed-parts}
+use Rattle.indexing.specs.Due.{isBare, dueAt, dueOf, fitsIn}
 
 -- LAW: what is due are sets of six sides
 pub due-few : (slots keys : List ℕ) (c : ℕ) (w : Work) (j : ℕ) → setIn (dueOf slots keys c w) j < 64
@@ -42,25 +41,20 @@ due-cubes kinds slots keys c e w k =
       drawn = λ i l h. k .drawn i l (and-true _ _ (sym (has-setOf (dueAt slots keys c w 2) i l) ∙ h) .0);
     }
 
-all-map : {A B : Type 0} (P : B → Type 0) (g : A → B) (xs : List A) → All (λ x. P (g x)) xs → All P (map g xs)
-all-map P g [] a = tt
-all-map P g (x ∷ xs) a = (a .0, all-map P g xs (a .1))
-
-not-in : (k : ℕ) (b : Bool) (ks : List ℕ) → All (λ x. eqb k x ≡ false) ks → member k (cond b ks []) ≡ false
-not-in k false ks a = refl
-not-in k true [] a = refl
-not-in k true (x ∷ ks) a = rw (a .0) (not-in k true ks (a .1))
-
 leb-plus : (a b c : ℕ) → leb (a + c) (b + c) ≡ leb a b
 leb-plus a b c = split (λ t. leb (a + c) (b + c) ≡ t → t ≡ leb a b) (leb (a + c) (b + c))
     (λ s e. let l = leb-true (a + c) (b + c) e in sym (le-leb a b (omega arith))) (λ s e. let l = leb-false (a + c) (b + c) e in sym (lt-leb a b (omega arith))) refl
+
+unless : (k : ℕ) (b : Bool) (ks : List ℕ) → All (λ x. eqb k x ≡ false) ks → member k (cond b ks []) ≡ false
+unless k true ks a = not-member k ks a
+unless k false ks a = refl
 
 -- the operation of a part at a face is about that face, and cuts if the part does
 face-of : (W : World) (e : Entry) (j f k : ℕ) → faceOf (opAt W e j f k) ≡ k
 face-of W e j f k = split (λ b. faceOf (opOf (quadIn W) (deedBy b (typeAt e j f) k)) ≡ k) (cutting j) (λ _. refl) (λ _. refl)
 
-kind-of : (W : World) (e : Entry) (j f k : ℕ) → acting.cutting (opAt W e j f k) ≡ cutting j
-kind-of W e j f k = split (λ b. acting.cutting (opOf (quadIn W) (deedBy b (typeAt e j f) k)) ≡ b) (cutting j) (λ _. refl) (λ _. refl)
+kind-of : (W : World) (e : Entry) (j f k : ℕ) → isCut (opAt W e j f k) ≡ cutting j
+kind-of W e j f k = split (λ b. isCut (opOf (quadIn W) (deedBy b (typeAt e j f) k)) ≡ b) (cutting j) (λ _. refl) (λ _. refl)
 
 -- the side at which a part is about a face
 abbrev sideIn : ℕ → ℕ → ℕ
@@ -99,9 +93,9 @@ module _ (W : World) (e : Entry) (grid : Within (W .size)) (inside : e .cell < c
   few-ops : (set j f : ℕ) → length (opsAt W e set j f) ≤ 1
   few-ops set j f = split (λ b. length (cond b (map (opAt W e j f) (spots j f)) []) ≤ 1) (has set f) (λ _. omega (arith, length-map (spots j f) (opAt W e j f), one-spot j f)) (λ _. omega arith)
 
-  kinds : (set j : ℕ) → All (λ o. acting.cutting o ≡ cutting j) (partOps W e set j)
+  kinds : (set j : ℕ) → All (λ o. isCut o ≡ cutting j) (partOps W e set j)
   kinds set j =
-      all-each (λ o. acting.cutting o ≡ cutting j) 6 0 (opsAt W e set j) (λ f _ l. on-spot (λ o. acting.cutting o ≡ cutting j) set j f (all-kept (λ k _. kind-of W e j f k) (spots j f) (at-side j f (omega arith))))
+      all-each (λ o. isCut o ≡ cutting j) 6 0 (opsAt W e set j) (λ f _ l. on-spot (λ o. isCut o ≡ cutting j) set j f (all-kept (λ k _. kind-of W e j f k) (spots j f) (at-side j f (omega arith))))
 
   -- ---- the faces of a part, and what is there after it
   abbrev faces : ℕ → ℕ → List ℕ
@@ -131,14 +125,14 @@ module _ (W : World) (e : Entry) (grid : Within (W .size)) (inside : e .cell < c
       here : member k (faces set j) ≡ has set f
       here =
           read-one (members k) 6 0 f (λ g. cond (has set g) (spots j g) []) (omega arith) (omega arith)
-          (λ g b d. not-in k (has set g) (spots j g) (all-kept (λ x s. ne-eqb k x (λ z. d (sym s ∙ ap (sideIn j) (sym z) ∙ mine))) (spots j g) (at-side j g (omega arith))))
+          (λ g b d. unless k (has set g) (spots j g) (all-kept (λ x s. ne-eqb k x (λ z. d (sym s ∙ ap (sideIn j) (sym z) ∙ mine))) (spots j g) (at-side j g (omega arith))))
           ∙ rw s (split (λ b. member k (cond b (k ∷ []) []) ≡ b) (has set f) (λ _. rw (eq-eqb k k refl)) (λ _. refl))
 
   -- LAW: another stays
   seen-far : (set j k : ℕ) → ((g : ℕ) → g < 6 → All (λ x. eqb k x ≡ false) (spots j g)) → (x : List Quad) → Once x → there k (run (partOps W e set j) x) ≡ there k x
   seen-far set j k d x o =
       seen set j k x o ∙ ap (λ (b : Bool). cond b (not (cutting j)) (there k x))
-      (read-none (members k) 6 0 (λ g. cond (has set g) (spots j g) []) (λ g _ b. not-in k (has set g) (spots j g) (d g (omega arith))))
+      (read-none (members k) 6 0 (λ g. cond (has set g) (spots j g) []) (λ g _ b. unless k (has set g) (spots j g) (d g (omega arith))))
 
   own-far : (f g : ℕ) → f < 6 → g < 6 → All (λ x. eqb (keyOf (e .cell) f) x ≡ false) (spots 1 g)
   own-far f g l b = near (λ x. eqb (keyOf (e .cell) f) x ≡ false) g b (λ x i d s. ne-eqb (keyOf (e .cell) f) x (λ z. d (omega arith)))
@@ -147,7 +141,7 @@ module _ (W : World) (e : Entry) (grid : Within (W .size)) (inside : e .cell < c
   near-far k g b d = (ne-eqb k (keyOf (e .cell) g) (λ z. d (omega arith)), tt)
 
   -- ---- a work on a mesh that the slots tell
-  module _ (m : List Quad) (once : Once m) (w : Work) (slots : List ℕ) (told : (k : ℕ) → k < 6 * cells (W .size) → isEmpty slots k ≡ not (there k m)) (no-face : isEmpty slots NONE ≡ true) where
+  module _ (m : List Quad) (once : Once m) (w : Work) (slots : List ℕ) (told : (k : ℕ) → k < 6 * cells (W .size) → isBare slots k ≡ not (there k m)) (no-face : isBare slots NONE ≡ true) where
     -- after the first j parts
     abbrev before : ℕ → List Quad
     before zero = m
@@ -157,7 +151,7 @@ module _ (W : World) (e : Entry) (grid : Within (W .size)) (inside : e .cell < c
     once-at zero = once
     once-at (suc j) = run-once (partOps W e (setIn w j) j) (before j) (once-at j)
 
-    sees : (k : ℕ) → k < 6 * cells (W .size) → there k m ≡ not (isEmpty slots k)
+    sees : (k : ℕ) → k < 6 * cells (W .size) → there k m ≡ not (isBare slots k)
     sees k l = split (λ b. b ≡ not (not b)) (there k m) (λ _. refl) (λ _. refl) ∙ ap not (sym (told k l))
 
     abbrev due : ℕ → ℕ → Bool
@@ -181,8 +175,8 @@ module _ (W : World) (e : Entry) (grid : Within (W .size)) (inside : e .cell < c
       spot : spots 1 f ≡ k ∷ []
       far : (g : ℕ) → g < 6 → All (λ x. eqb k x ≡ false) (spots 0 g)
       met : keyMet keys 1 f ≡ k
-      there-yet : there k (before 1) ≡ not (isEmpty slots k)
-      due-now : due 1 f ≡ (has (w .shown) f && isEmpty slots k)
+      there-yet : there k (before 1) ≡ not (isBare slots k)
+      due-now : due 1 f ≡ (has (w .shown) f && isBare slots k)
 
     near-is : (f n : ℕ) → f < 6 → neighbour (W .size) (e .cell) f ≡ some n → Near f (keyOf n (opposite f))
     near-is f n l q =
@@ -198,7 +192,7 @@ module _ (W : World) (e : Entry) (grid : Within (W .size)) (inside : e .cell < c
           far = far;
           met = met;
           there-yet = seen-far (w .own) 0 k far m once ∙ sees k low;
-          due-now = rw (met, ne-eqb k NONE (λ z. omega (arith, grid .most))) (ap (λ (y : Bool). has (w .shown) f && y) (split (λ y. (y && true) ≡ y) (isEmpty slots k) (λ _. refl) (λ _. refl)));
+          due-now = rw (met, ne-eqb k NONE (λ z. omega (arith, grid .most))) (ap (λ (y : Bool). has (w .shown) f && y) (split (λ y. (y && true) ≡ y) (isBare slots k) (λ _. refl) (λ _. refl)));
         }
 
     -- where the grid has no neighbour nothing is due
@@ -216,12 +210,12 @@ module _ (W : World) (e : Entry) (grid : Within (W .size)) (inside : e .cell < c
       where
         go : (o : Option ℕ) → neighbour (W .size) (e .cell) f ≡ o → acting (opsAt W e (w .shown) 1 f) (before 1) ≡ opsOf (quadIn W) (only (due 1 f) (deedBy false (typeAt e 1 f) (keyMet keys 1 f)))
         go none q = at-none 1 f (ap (facing f) q) (none-due f l q .0)
-        go (some n) q = let x = near-is f n l q in at-one 1 f (keyOf n (opposite f)) (x .spot) (x .met) (ap not (x .there-yet) ∙ split (λ b. not (not b) ≡ b) (isEmpty slots (keyOf n (opposite f))) (λ _. refl) (λ _. refl)) (x .due-now)
+        go (some n) q = let x = near-is f n l q in at-one 1 f (keyOf n (opposite f)) (x .spot) (x .met) (ap not (x .there-yet) ∙ split (λ b. not (not b) ≡ b) (isBare slots (keyOf n (opposite f))) (λ _. refl) (λ _. refl)) (x .due-now)
     due-at (suc (suc zero)) f _ l =
         let k = keyOf (e .cell) f in
         at-one 2 f k refl (own-key (W .size) (e .cell) 2 f refl l)
         (ap not (seen-far (w .shown) 1 k (λ g b. own-far f g l b) (before 1) (once-at 1) ∙ seen-at (w .own) 0 f k l refl m once ∙ ap (cond (has (w .own) f) false) (sees k (omega arith)))
-        ∙ gone (has (w .own) f) (isEmpty slots k)) refl
+        ∙ gone (has (w .own) f) (isBare slots k)) refl
       where
         gone : (x y : Bool) → not (cond x false (not y)) ≡ ((x && not y) || y)
         gone true true = refl
@@ -242,8 +236,8 @@ module _ (W : World) (e : Entry) (grid : Within (W .size)) (inside : e .cell < c
             let k = keyOf n (opposite f) in
             let x = near-is f n l q in
             at-one 3 f k (x .spot) (x .met)
-            (seen-far (w .drawn) 2 k (x .far) (before 2) (once-at 2) ∙ seen-at (w .shown) 1 f k l (x .spot) (before 1) (once-at 1) ∙ ap (cond (has (w .shown) f) true) (x .there-yet) ∙ come (has (w .shown) f) (isEmpty slots k))
-            (λ i. has (w .hidden) f && (not (isEmpty slots (x .met i)) || x .due-now i))
+            (seen-far (w .drawn) 2 k (x .far) (before 2) (once-at 2) ∙ seen-at (w .shown) 1 f k l (x .spot) (before 1) (once-at 1) ∙ ap (cond (has (w .shown) f) true) (x .there-yet) ∙ come (has (w .shown) f) (isBare slots k))
+            (λ i. has (w .hidden) f && (not (isBare slots (x .met i)) || x .due-now i))
     due-at (suc (suc (suc (suc j)))) f b l = absurd (omega arith)
 
     abbrev d : Work
@@ -284,7 +278,7 @@ module _ (W : World) (e : Entry) (grid : Within (W .size)) (inside : e .cell < c
           let many : length (acting os (before j)) ≡ quadsOf (setIn d j) =
           ap length (part-due j b) ∙ length-map (partDeeds keys e (setIn d j) j) (opOf (quadIn W)) ∙ omega (arith, count-each (has (setIn d j)) (λ f. deedBy (cutting j) (typeAt e j f) (keyMet keys j f)) 6 0) in
           let same = ap (λ (x : ℕ × ℕ × List Quad). length (x .2)) (acting-same os (length (before j)) (before j) (omega arith)) in
-          (λ i. sym same i + cond (cutting j) (sym many i) 0) ∙ acting-count (cutting j) (acting os (before j)) (before j) (acting-all (λ o. acting.cutting o ≡ cutting j) os (before j) (kinds (setIn w j) j)) (acting-acts os (before j))
+          (λ i. sym same i + cond (cutting j) (sym many i) 0) ∙ acting-count (cutting j) (acting os (before j)) (before j) (acting-all (λ o. isCut o ≡ cutting j) os (before j) (kinds (setIn w j) j)) (acting-acts os (before j))
           ∙ ap (λ (n : ℕ). length (before j) + cond (cutting j) 0 n) many
 
       -- LAW: the room holds it exactly if the rule says so

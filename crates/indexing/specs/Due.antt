@@ -11,8 +11,8 @@ use Rattle.works.specs.declared.Work.{Work}
 use Rattle.works.specs.Sets.{sets, keyMet}
 
 -- a face that has no quad, as one that the grid does not have
-abbrev pub isEmpty : List ℕ → ℕ → Bool
-isEmpty slots k = eqb (getD slots k NONE) NONE
+abbrev pub isBare : List ℕ → ℕ → Bool
+isBare slots k = eqb (getD slots k NONE) NONE
 
 -- a facing side that the grid has
 abbrev pub isMet : List ℕ → ℕ → Bool
@@ -20,18 +20,18 @@ isMet keys f = not (eqb (keyMet keys 1 f) NONE)
 
 -- of a work w at cell c: an own quad that is there goes
 abbrev pub goes : List ℕ → ℕ → Work → ℕ → Bool
-goes slots c w f = has (w .own) f && not (isEmpty slots (keyOf c f))
+goes slots c w f = has (w .own) f && not (isBare slots (keyOf c f))
 
 -- a facing side that is not there comes
 abbrev pub comes : List ℕ → List ℕ → Work → ℕ → Bool
-comes slots keys w f = has (w .shown) f && (isEmpty slots (keyMet keys 1 f) && isMet keys f)
+comes slots keys w f = has (w .shown) f && (isBare slots (keyMet keys 1 f) && isMet keys f)
 
 -- an own side is drawn that has gone, or is not there; a facing one goes that is there, or has come
 abbrev pub dueAt : List ℕ → List ℕ → ℕ → Work → ℕ → ℕ → Bool
 dueAt slots keys c w zero f = goes slots c w f
 dueAt slots keys c w (suc zero) f = comes slots keys w f
-dueAt slots keys c w (suc (suc zero)) f = has (w .drawn) f && (goes slots c w f || isEmpty slots (keyOf c f))
-dueAt slots keys c w (suc (suc (suc j))) f = has (w .hidden) f && (not (isEmpty slots (keyMet keys 1 f)) || comes slots keys w f)
+dueAt slots keys c w (suc (suc zero)) f = has (w .drawn) f && (goes slots c w f || isBare slots (keyOf c f))
+dueAt slots keys c w (suc (suc (suc j))) f = has (w .hidden) f && (not (isBare slots (keyMet keys 1 f)) || comes slots keys w f)
 
 abbrev pub dueOf : List ℕ → List ℕ → ℕ → Work → Work
 dueOf slots keys c w = let at = dueAt slots keys c w in sets (setOf (at 0)) (setOf (at 1)) (setOf (at 2)) (setOf (at 3))

@@ -17,7 +17,7 @@ use vav::free_row;
 use vav::moved_by;
 use works::Work;
 use works::does_cut;
-use works::place_of;
+use works::key_place;
 use works::type_of;
 ghost use mathlib.Core.Path.{_≡_};
 ghost use mathlib.Core.List.{[], _∷_};
@@ -28,7 +28,7 @@ ghost use Rattle.rules.specs.Mesh.{NONE};
 ghost use Rattle.face.specs.Face.{number};
 ghost use Rattle.entries.specs.Log.{entryIn};
 ghost use Rattle.works.specs.Sets.{setIn, keyMet, deedBy, deeds};
-ghost use Rattle.indexing.specs.Due.{isEmpty, isMet, dueOf, fitsIn, Gridded};
+ghost use Rattle.indexing.specs.Due.{isBare, isMet, dueOf, fitsIn, Gridded};
 ghost use Rattle.indexing.specs.Index.{indexOf, goneAt, cameAt, indexRun, Begun, Removable, Drawable};
 
 // The number of quads, how many have changed their place, the highest number of quads on the way, and the number of steps.
@@ -145,7 +145,7 @@ pub fn index_work(
     let mut rest = sides;
     while rest != 0 {
         let i = u32::trailing_zeros(rest);
-        let at = place_of(i);
+        let at = key_place(i);
         let cuts = does_cut(i);
         let voxel = type_of(entry, i);
         left = do_face(links, slots, steps, keys[at], cuts, voxel, left);
@@ -157,7 +157,7 @@ pub fn index_work(
 // Whether a side of a cell has no quad.
 fn lacks(slots: &[u32], cell: Cell, face: Face) -> bool
     requires { ⌜ (cell .0 < UNIT) × (keyOf (cell .0) (number face) < length (now slots)) ⌝ }
-    ensures { λ r. ⌜ r ≡ isEmpty (now (slots .entry)) (keyOf (cell .0) (number face)) ⌝ }
+    ensures { λ r. ⌜ r ≡ isBare (now (slots .entry)) (keyOf (cell .0) (number face)) ⌝ }
 {
     match get_quad_index(slots, face, cell) {
         QuadIndex::Nothing => true,
@@ -168,7 +168,7 @@ fn lacks(slots: &[u32], cell: Cell, face: Face) -> bool
 // Whether the face of a key has none. NONE is no face, so it has none.
 fn is_bare(slots: &[u32], key: u32) -> bool
     requires { ⌜ ((key ≡ NONE → ⊥) → key < length (now slots)) × (length (now slots) ≤ NONE) ⌝ }
-    ensures { λ r. ⌜ r ≡ isEmpty (now (slots .entry)) key ⌝ }
+    ensures { λ r. ⌜ r ≡ isBare (now (slots .entry)) key ⌝ }
 {
     if key == NONE {
         return true;
@@ -177,9 +177,9 @@ fn is_bare(slots: &[u32], key: u32) -> bool
     slots[at] == NONE
 }
 
-fn empty_sides(slots: &[u32], cell: Cell) -> u8
+fn own_bare(slots: &[u32], cell: Cell) -> u8
     requires { ⌜ (cell .0 < UNIT) × (6 * cell .0 + 6 ≤ length (now slots)) ⌝ }
-    ensures { λ r. ⌜ r ≡ setOf (λ f. isEmpty (now (slots .entry)) (keyOf (cell .0) f)) ⌝ }
+    ensures { λ r. ⌜ r ≡ setOf (λ f. isBare (now (slots .entry)) (keyOf (cell .0) f)) ⌝ }
 {
     side_set(
         lacks(slots, cell, Face::Top),
@@ -191,9 +191,9 @@ fn empty_sides(slots: &[u32], cell: Cell) -> u8
     )
 }
 
-fn bare_sides(slots: &[u32], keys: &[u32; 12]) -> u8
+fn facing_bare(slots: &[u32], keys: &[u32; 12]) -> u8
     requires { ⌜ Gridded (now keys) (now slots) ⌝ }
-    ensures { λ r. ⌜ r ≡ setOf (λ f. isEmpty (now (slots .entry)) (keyMet (now (keys .entry)) 1 f)) ⌝ }
+    ensures { λ r. ⌜ r ≡ setOf (λ f. isBare (now (slots .entry)) (keyMet (now (keys .entry)) 1 f)) ⌝ }
 {
     side_set(
         is_bare(slots, keys[6]),
@@ -224,15 +224,15 @@ pub fn due_work(slots: &[u32], keys: &[u32; 12], cell: Cell, work: Work) -> Work
     requires { ⌜ Gridded (now keys) (now slots) × (6 * cell .0 + 6 ≤ length (now slots)) ⌝ }
     ensures { λ r. ⌜ r ≡ dueOf (now (slots .entry)) (now (keys .entry)) (cell .0) work ⌝ }
 {
-    let empty = empty_sides(slots, cell);
-    let bare = bare_sides(slots, keys);
-    let own = work.own & (63 - empty);
-    let shown = work.shown & bare & met_sides(keys);
+    let bare = own_bare(slots, cell);
+    let facing = facing_bare(slots, keys);
+    let own = work.own & (63 - bare);
+    let shown = work.shown & facing & met_sides(keys);
     Work {
         own: own,
         shown: shown,
-        drawn: work.drawn & (own | empty),
-        hidden: work.hidden & ((63 - bare) | shown),
+        drawn: work.drawn & (own | bare),
+        hidden: work.hidden & ((63 - facing) | shown),
     }
 }
 

@@ -11,7 +11,8 @@ use borrow.Author.Tests.{eq-eqb, ne-eqb}
 use Rattle.rules.specs.Lists.{only, member, count}
 use Rattle.rules.specs.Cells.{has, rank, quadsOf, neighbour}
 use Rattle.rules.specs.Mesh.{World, isNormalCube, typeAt, shown}
-use Rattle.rules.proofs.ListLaws.{members, read-one, split}
+use Rattle.rules.proofs.Index.{count-le}
+use Rattle.rules.proofs.ListLaws.{members, read-one}
 use Rattle.rules.proofs.Sets.{has-setOf, set-is, setOf-lt}
 use Rattle.culling.specs.Culling.{outerSet}
 use Rattle.culling.proofs.Sides.{setOf-cong}
@@ -63,14 +64,8 @@ unfolding setAt
 set-below culling W outer g c = setOf-lt (sideDrawn culling W outer g c)
 
 -- ---- counting, cell by cell
-pub few-below : (p : ℕ → Bool) (n : ℕ) → count n p ≤ n
-unfolding count
-few-below p zero = omega arith
-few-below p (suc n) =
-    split (λ t. count n p + cond t 1 0 ≤ suc n) (p n) (λ e. omega (arith, few-below p n)) (λ e. omega (arith, few-below p n))
-
 pub quads-le : (set : ℕ) → quadsOf set ≤ 6
-quads-le set = few-below (has set) 6
+quads-le set = count-le 6 (has set)
 
 -- a face of the set is one of its quads
 count-more : (p : ℕ → Bool) (k n : ℕ) → count k p ≤ count (k + n) p

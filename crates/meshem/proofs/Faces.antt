@@ -1,7 +1,7 @@
 -- The faces that side sets draw: their order, and their quads. Assumes nothing.
 use mathlib.Core.Path.{_≡_, refl, sym, ap, _∙_, subst}
 use mathlib.Core.Bool.{Bool, true, false}
-use mathlib.Core.List.{List, _++_, map, map-append}
+use mathlib.Core.List.{List, map}
 use Prim.Native.Nat.{ℕ, zero, suc, _+_, _*_, _/_, _%_, _<_}
 use native.Mathlib.Omega.{arith}
 use lib.ListN.{length, length-map}
@@ -9,7 +9,7 @@ use Rattle.rules.specs.Lists.{each, only}
 use Rattle.rules.specs.Cells.{cells, keyOf, has}
 use Rattle.rules.specs.Mesh.{Quad, World, quadAt, quadsBy, meshBy}
 use Rattle.rules.specs.Calls.{Scene, world, freshMesh}
-use Rattle.rules.proofs.ListLaws.{each-same}
+use Rattle.rules.proofs.ListLaws.{each-same, map-each}
 use Rattle.rules.proofs.Sets.{has-setOf}
 use Rattle.drawing.proofs.Laid.{Rising, rising-append}
 use Rattle.listing.specs.Fresh.{sideDrawn, setAt, asked, cellKeys, keysOf}
@@ -53,11 +53,6 @@ quadOn W g k = quadAt W g (k / 6) (k % 6)
 map-only : (f : ℕ → Quad) (b : Bool) (k : ℕ) → map f (only b k) ≡ only b (f k)
 map-only f true k = refl
 map-only f false k = refl
-
-map-each : (f : ℕ → Quad) (n i : ℕ) (p : ℕ → List ℕ) → map f (each n i p) ≡ each n i (λ k. map f (p k))
-unfolding each
-map-each f zero i p = refl
-map-each f (suc n) i p = map-append f (p i) (each n (suc i) p) ∙ ap (λ (r : List Quad). map f (p i) ++ r) (map-each f n (suc i) p)
 
 quad-on : (W : World) (g : List ℕ) (c f : ℕ) → f < 6 → quadOn W g (keyOf c f) ≡ quadAt W g c f
 quad-on W g c f h =

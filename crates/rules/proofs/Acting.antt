@@ -18,9 +18,9 @@ abbrev pub faceOf : Op → ℕ
 faceOf (put x) = x .key
 faceOf (cut k) = k
 
-abbrev pub cutting : Op → Bool
-cutting (put x) = false
-cutting (cut k) = true
+abbrev pub isCut : Op → Bool
+isCut (put x) = false
+isCut (cut k) = true
 
 -- a face that is drawn is not there, one that is removed is
 abbrev pub acts : Op → List Quad → Bool
@@ -78,13 +78,13 @@ acting-append (o ∷ a) b m =
     ap (λ (r : List Op). only (acts o m) o ++ r) (acting-append a b (step o m)) ∙ sym (append-assoc (only (acts o m) o) (acting a (step o m)) (acting b (run a (step o m))))
 
 -- ---- how many quads they leave
-length-step : (o : Op) (m : List Quad) {c : Bool} → cutting o ≡ c → acts o m ≡ true → length (step o m) + cond c 1 0 ≡ length m + cond c 0 1
+length-step : (o : Op) (m : List Quad) {c : Bool} → isCut o ≡ c → acts o m ≡ true → length (step o m) + cond c 1 0 ≡ length m + cond c 0 1
 unfolding remove
 length-step (put x) m k e = rw (← k, not-false (there (x .key) m) e) (omega (arith, length-append m (x ∷ [])))
 length-step (cut j) m k e = let p = placed j m e .within in rw (← k, e) (omega (arith, length-removeAt (placeOf j m) m p))
 
 -- LAW: each cut one less, each draw one more
-pub acting-count : (c : Bool) (os : List Op) (m : List Quad) → All (λ o. cutting o ≡ c) os → Acts os m
+pub acting-count : (c : Bool) (os : List Op) (m : List Quad) → All (λ o. isCut o ≡ c) os → Acts os m
     → length (run os m) + cond c (length os) 0 ≡ length m + cond c 0 (length os)
 acting-count true [] m k a = refl
 acting-count false [] m k a = refl
@@ -92,7 +92,7 @@ acting-count true (o ∷ os) m k a = omega (arith, length-step o m (k .0) (a .0)
 acting-count false (o ∷ os) m k a = omega (arith, length-step o m (k .0) (a .0), acting-count false os (step o m) (k .1) (a .1))
 
 -- ---- seen from a face
-there-step : (j : ℕ) (o : Op) (m : List Quad) → Once m → there j (step o m) ≡ cond (eqb j (faceOf o)) (not (cutting o)) (there j m)
+there-step : (j : ℕ) (o : Op) (m : List Quad) → Once m → there j (step o m) ≡ cond (eqb j (faceOf o)) (not (isCut o)) (there j m)
 there-step j (put x) m once = rw (at-draw j x m) (go (at j m) (eqb j (x .key)))
   where
     go : (y : List (List ℕ)) (b : Bool) → not (isNil (orElse y (only b (x .words)))) ≡ cond b true (not (isNil y))
@@ -103,7 +103,7 @@ there-step j (put x) m once = rw (at-draw j x m) (go (at j m) (eqb j (x .key)))
 there-step j (cut k) m once = rw (at-remove j k m (once j)) (split (λ b. not (isNil (cond b [] (at j m))) ≡ cond b false (there j m)) (eqb j k) (λ _. refl) (λ _. refl))
 
 -- LAW: what cuts alone, or draws alone, are about is gone, or there
-pub there-run : (j : ℕ) (c : Bool) (os : List Op) (m : List Quad) → Once m → All (λ o. cutting o ≡ c) os → there j (run os m) ≡ cond (member j (map faceOf os)) (not c) (there j m)
+pub there-run : (j : ℕ) (c : Bool) (os : List Op) (m : List Quad) → Once m → All (λ o. isCut o ≡ c) os → there j (run os m) ≡ cond (member j (map faceOf os)) (not c) (there j m)
 there-run j c [] m once k = refl
 there-run j c (o ∷ os) m once k =
     there-run j c os (step o m) (run-once (o ∷ []) m once) (k .1)

@@ -253,6 +253,22 @@ course-sane n s room work i (suc k) m v p f h =
     here : Course
     here = record { full = some i; quads = m; moved = v; highest = p }
 
+pub highest-ge : (os : List Op) (h : ℕ) (m : List Quad) → h ≤ highest h os m
+highest-ge [] h m = omega arith
+highest-ge (o ∷ os) h m = let a = highest-ge os (max h (length (step o m))) (step o m) in omega arith
+
+-- LAW: the highest count is not below the first
+pub course-past : (room : ℕ) (works : ℕ → Work) (i k : ℕ) (m : List Quad) (v p : ℕ) → length m ≤ p → p ≤ (courseFrom room works i k m v p) .highest
+unfolding courseFrom
+course-past room works i zero m v p h = omega arith
+course-past room works i (suc k) m v p h =
+    split (λ t. p ≤ (cond t (courseFrom room works (suc i) k (run (ops (works i)) m) (v + moves (ops (works i)) m) (highest p (ops (works i)) m))
+    (record { full = some i; quads = m; moved = v; highest = p })) .highest) (leb (needed (works i) m) room)
+    (λ e. let t = highest-needed (works i) p m h in
+    let l = run-le (works i) m in
+    let b = course-past room works (suc i) k (run (ops (works i)) m) (v + moves (ops (works i)) m) (highest p (ops (works i)) m) (omega arith) in omega arith)
+    (λ e. omega arith)
+
 -- ---- which entries find room
 
 -- a log that comes through: each entry found its room in the mesh that those before it left, and it leaves what all of them leave

@@ -2,7 +2,7 @@
 use mathlib.Core.Path.{_≡_, refl, sym, ap, _∙_}
 use mathlib.Core.Logic.{_≢_}
 use mathlib.Core.Bool.{Bool, true, false, cond, not, _&&_, _||_, true≢false, false≢true}
-use mathlib.Core.List.{List, [], _∷_, _++_, append-assoc}
+use mathlib.Core.List.{List, [], _∷_, _++_, append-assoc, map, map-append}
 use Prim.Native.Nat.{ℕ, zero, suc, _+_, _-_, _*_, _≤_, _<_}
 use native.Mathlib.Omega.{arith}
 use native.Mathlib.Decide.{ℕ-discrete}
@@ -124,6 +124,11 @@ unfolding each
 length-each s zero i p h = omega arith
 length-each s (suc n) i p h = length-append (p i) (each n (suc i) p) ∙ omega (arith, h i, length-each s n (suc i) p h)
 
+pub map-each : {A B : Type 0} (g : A → B) (n i : ℕ) (p : ℕ → List A) → map g (each n i p) ≡ each n i (λ k. map g (p k))
+unfolding each
+map-each g zero i p = refl
+map-each {B = B} g (suc n) i p = map-append g (p i) (each n (suc i) p) ∙ ap (λ (r : List B). map g (p i) ++ r) (map-each g n (suc i) p)
+
 -- at most m in each piece
 pub each-few {ℓ} : {A : Type ℓ} (m n i : ℕ) (p : ℕ → List A) → ((k : ℕ) → length (p k) ≤ m) → length (each n i p) ≤ m * n
 unfolding each
@@ -244,6 +249,15 @@ All P (x ∷ xs) = P x × All P xs
 pub all-kept {ℓ} : {A : Type ℓ} {P R : A → Type 0} → ((x : A) → P x → R x) → (xs : List A) → All P xs → All R xs
 all-kept h [] a = tt
 all-kept h (x ∷ xs) a = (h x (a .0), all-kept h xs (a .1))
+
+pub all-map : {A B : Type 0} (P : B → Type 0) (g : A → B) (xs : List A) → All (λ x. P (g x)) xs → All P (map g xs)
+all-map P g [] a = tt
+all-map P g (x ∷ xs) a = (a .0, all-map P g xs (a .1))
+
+-- another number than all of them is none of them
+pub not-member : (k : ℕ) (ks : List ℕ) → All (λ x. eqb k x ≡ false) ks → member k ks ≡ false
+not-member k [] a = refl
+not-member k (x ∷ ks) a = rw (a .0) (not-member k ks (a .1))
 
 module _ {ℓ} {A : Type ℓ} (P : A → Type 0) where
   pub all-append : (a b : List A) → All P a → All P b → All P (a ++ b)

@@ -2,6 +2,7 @@
 use mathlib.Core.Path.{_≡_, refl, sym, ap, _∙_}
 use mathlib.Core.Bool.{Bool, true, false, cond, not, _&&_, _||_}
 use Prim.Native.Nat.{ℕ, zero, suc, _+_, _-_, _*_, _/_, _%_, _^_, _≤_, _<_}
+use native.Mathlib.Nat.{zero-div}
 use native.Mathlib.Omega.{arith}
 use lib.Bits.{bitAnd, bitOr, and-shr, or-shr, and-mod, or-mod}
 use lib.Dec.{eqb, eqb→eq}
@@ -75,6 +76,10 @@ module _ (p : ℕ → Bool) where
       whole : (n m k j i h a b c d e f : ℕ) → n ≡ 2 * m + a → m ≡ 2 * k + b → k ≡ 2 * j + c → j ≡ 2 * i + d → i ≡ 2 * h + e → h ≡ f
           → n ≡ a + 2 * b + 4 * c + 8 * d + 16 * e + 32 * f
       whole n m k j i h a b c d e f p q r s t u = omega arith
+
+-- nothing is in the empty set
+pub zero-has : (f : ℕ) → has 0 f ≡ false
+zero-has f = rw (zero-div (2 ^ f))
 
 -- ---- sets made bit by bit
 and-bits : (m n : ℕ) → m < 2 → n < 2 → eqb (bitAnd m n) 1 ≡ (eqb m 1 && eqb n 1)

@@ -6,18 +6,14 @@ use native.Mathlib.Nat.{mul-le-mul-left}
 use native.Mathlib.Omega.{arith}
 use lib.ListN.{length, length-append}
 use Rattle.rules.specs.Mesh.{Quad, there, placeOf, laid}
-use Rattle.rules.specs.Update.{removeAt, remove, step, run, highest, Op}
+use Rattle.rules.specs.Update.{removeAt, remove, step, run, highest}
 use Rattle.rules.proofs.ListLaws.{All, all-append, not-false}
 use Rattle.rules.proofs.Acting.{Acts}
 use Rattle.rules.proofs.Quads.{placed, length-removeAt}
 use Rattle.rules.proofs.Laying.{Sized}
-use Rattle.rules.proofs.Courses.{all-removed}
+use Rattle.rules.proofs.Courses.{highest-ge, all-removed}
 use Rattle.vav.proofs.Laid.{draw-laid, remove-laid}
 use Rattle.steps.specs.Steps.{Step, gone, came, shelf, replayed, Can, quadBy, Deed, show, hide, opOf, opsOf, stepsOf, Able}
-
-pub highest-ge : (os : List Op) (h : ℕ) (m : List Quad) → h ≤ highest h os m
-highest-ge [] h m = omega arith
-highest-ge (o ∷ os) h m = let a = highest-ge os (max h (length (step o m))) (step o m) in omega arith
 
 -- ---- one list, over the words a quad
 module _ (s : ℕ) (e : Quad → List ℕ) (words : ℕ → ℕ → List ℕ) (P : ℕ → ℕ → Type 0) (wide : (k t : ℕ) → P k t → length (e (quadBy words k t)) ≡ s)

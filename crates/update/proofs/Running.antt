@@ -1,9 +1,9 @@
 -- A log on the index and the vertices, entry by entry: the lists stay the layout of the rule's mesh. Assumes nothing.
 use mathlib.Core.Path.{_≡_, refl, sym, ap, _∙_, subst}
-use mathlib.Core.Bool.{true, cond, not}
+use mathlib.Core.Bool.{true, not}
 use mathlib.Core.List.{List, [], append-nil}
 use mathlib.Core.Option.{Option, none, some}
-use Prim.Native.Nat.{ℕ, zero, suc, _+_, _-_, _*_, _/_, _%_, _^_, _≤_, _<_}
+use Prim.Native.Nat.{ℕ, suc, _+_, _-_, _*_, _/_, _%_, _^_, _≤_, _<_}
 use native.Mathlib.Omega.{arith}
 use lib.Dec.{leb}
 use lib.ListN.{length, getD, List·getD-eq-default}
@@ -14,12 +14,12 @@ use Rattle.rules.specs.Mesh.{Quad, NONE, there, laid, slotOf}
 use Rattle.rules.specs.Update as rule
 use Rattle.rules.specs.Update.{Tested, Entry, Op, run, moves, highest, ops, needed, work, entryAt, courseFrom}
 use Rattle.rules.specs.Calls.{Scene, world, span, faces}
-use Rattle.rules.proofs.ListLaws.{All, all-kept, split, length-table}
+use Rattle.rules.proofs.ListLaws.{All, all-kept, length-table}
 use Rattle.rules.proofs.Neighbours.{beside, opposite-lt}
 use Rattle.rules.proofs.Acting.{acting, Acts, after, acting-same, acting-acts, acting-all}
 use Rattle.rules.proofs.Laying.{Fits}
 use Rattle.rules.proofs.Mending.{Sound}
-use Rattle.rules.proofs.Courses.{Sane, sane-step, Good, good-ops, highest-needed, run-le, fits-new, entry-moves}
+use Rattle.rules.proofs.Courses.{Sane, sane-step, Good, good-ops, highest-needed, fits-new, entry-moves}
 use Rattle.rules.proofs.Demands.{words-sized}
 use Rattle.mesh_metadata.proofs.Meshes as meshes
 use Rattle.steps.specs.Steps.{Step, Deed, stepsIn, Shelf, shelf, replayed, quadBy, opsOf, stepsOf, Can, Able}
@@ -30,24 +30,12 @@ use Rattle.works.specs.Sets.{meant, setIn, packed, keyOr, keysAround, keyMet, d
 use Rattle.works.proofs.Works.{all-few, near-key}
 use Rattle.works.proofs.Meant.{Means, meant-work, meant-cubes}
 use Rattle.indexing.specs.Index.{Index, indexRun, bookOf, Ground, Ready, Begun}
-use Rattle.indexing.specs.Due.{isEmpty, dueOf, fitsIn, Gridded}
+use Rattle.indexing.specs.Due.{isBare, dueOf, fitsIn, Gridded}
 use Rattle.indexing.proofs.Booking.{slot-none, run-booked}
 use Rattle.indexing.proofs.Doing.{ready-rest}
 use Rattle.indexing.proofs.Due.{due-few, due-cubes, due-ops, room-told}
 use Rattle.update.specs.Runs.{Ended, laidOut, meshIn, courseIn, Holds, Logging}
 use Rattle.update.proofs.Drawing.{bare, deeds-able}
-
--- LAW: the highest count is past the first
-pub course-past : (room : ℕ) (works : ℕ → rule.Work) (i k : ℕ) (m : List Quad) (v p : ℕ) → length m ≤ p → p ≤ (courseFrom room works i k m v p) .highest
-unfolding courseFrom
-course-past room works i zero m v p h = omega arith
-course-past room works i (suc k) m v p h =
-    split (λ t. p ≤ (cond t (courseFrom room works (suc i) k (run (ops (works i)) m) (v + moves (ops (works i)) m) (highest p (ops (works i)) m))
-    (record { full = some i; quads = m; moved = v; highest = p })) .highest) (leb (needed (works i) m) room)
-    (λ e. let t = highest-needed (works i) p m h in
-    let l = run-le (works i) m in
-    let b = course-past room works (suc i) k (run (ops (works i)) m) (v + moves (ops (works i)) m) (highest p (ops (works i)) m) (omega arith) in omega arith)
-    (λ e. omega arith)
 
 -- the index, before an entry
 abbrev pub indexAt : List ℕ → List ℕ → ℕ → ℕ → ℕ → List ℕ → Index
@@ -109,8 +97,8 @@ module _ (tested : Tested) {S : Scene} {room : ℕ} {log vs₀ ls₀ ss₀ : Lis
     pub run-small : q < 2 ^ 32
     run-small = omega (arith, meshes.small (faces S) (span S) m grid-small (sane .fits) (sane .once), r .holds .count)
 
-    told : (j : ℕ) → j < faces S → isEmpty ss j ≡ not (there j m)
-    told j l = ap (λ (xs : List ℕ). isEmpty xs j) (r .holds .slots) ∙ slot-none ground m h sane j l
+    told : (j : ℕ) → j < faces S → isBare ss j ≡ not (there j m)
+    told j l = ap (λ (xs : List ℕ). isBare xs j) (r .holds .slots) ∙ slot-none ground m h sane j l
 
     course-on : needed (works k) m ≤ room → k < length log / 12 → courseFrom room works k (length log / 12 - k) m v h
         ≡ courseFrom room works (k + 1) (length log / 12 - (k + 1)) (run (ops (works k)) m) (v + moves (ops (works k)) m) (highest h (ops (works k)) m)
@@ -157,7 +145,7 @@ module _ (tested : Tested) {S : Scene} {room : ℕ} {log vs₀ ls₀ ss₀ : Lis
       around : d ≡ dueOf ss (keysAround (S .size) (e .cell)) (e .cell) w
       around = f .due ∙ ap (λ (x : List ℕ). dueOf ss x (e .cell) w) (f .keys)
 
-      no-face : isEmpty ss NONE ≡ true
+      no-face : isBare ss NONE ≡ true
       no-face = eq-eqb (getD ss NONE NONE) NONE (List·getD-eq-default ss NONE (omega (arith, length-slots, grid-small)))
 
       pub run-dues : (j : ℕ) → setIn d j < 64

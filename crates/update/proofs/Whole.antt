@@ -17,7 +17,7 @@ use Rattle.rules.specs.Answers.{fine, badEntry, BAD-ENTRY}
 use Rattle.rules.specs.Calls.{Scene, Answer, world, span, faces, room, updateVerdict, course, courseAnswer, updateMesh}
 use Rattle.rules.proofs.ListLaws.{length-table, each-split, all-kept}
 use Rattle.rules.proofs.Checking.{then-fine, if-fine, lowest-fine, book-of-fine, length-decode}
-use Rattle.rules.proofs.Courses.{Sane}
+use Rattle.rules.proofs.Courses.{Sane, course-past}
 use Rattle.rules.proofs.Demands.{limits, room-for, lent-sane, entry-inside, Asked, asked-of, ran-sane}
 use Rattle.rules.proofs.Idle.{layout-stands}
 use Rattle.lent.proofs.Admitted.{sized, typed}
@@ -26,7 +26,6 @@ use Rattle.mesh_metadata.proofs.Meshes as meshes
 use Rattle.vav.specs.Rows.{put, zeros}
 use Rattle.drawing.proofs.Patterns.{length-patterns}
 use Rattle.update.specs.Runs.{Ended, laidOut, courseIn, Logging, patternsMended}
-use Rattle.update.proofs.Running.{course-past}
 
 -- ---- the triangles by their counts
 patterns-are : (i : ℕ) (m : List Quad) → rows (λ q x. pattern q) i m ≡ each (length m) i pattern

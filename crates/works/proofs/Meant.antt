@@ -1,10 +1,9 @@
 -- The four side sets of an entry are the rule's work, and their deeds, face by face, its operations. Assumes nothing.
 use mathlib.Core.Path.{_≡_, refl, sym, ap, _∙_}
 use mathlib.Core.Bool.{Bool, true, false, cond, _&&_, false≢true}
-use mathlib.Core.List.{List, [], _∷_, _++_, append-nil, append-assoc, map, map-append}
+use mathlib.Core.List.{List, [], _∷_, _++_, append-nil, append-assoc, map}
 use mathlib.Core.Option.{Option, none, some}
-use Prim.Native.Nat.{ℕ, zero, suc, _/_, _%_, _^_, _<_}
-use native.Mathlib.Nat.{zero-div}
+use Prim.Native.Nat.{ℕ, zero, suc, _/_, _%_, _<_}
 use native.Mathlib.Omega.{arith}
 use lib.ListN.{length, getD}
 use Rattle.rules.specs.Lists.{each, only}
@@ -12,24 +11,14 @@ use Rattle.rules.specs.Cells.{Size, opposite, neighbour, keyOf, has, setOf}
 use Rattle.rules.specs.Mesh.{Quad, World, isNormalCube, covering, quadOf}
 use Rattle.rules.specs.Update as rule
 use Rattle.rules.specs.Update.{Entry, Change, Tested, Broken, Added, CullFaces, AddFaces, Op, put, cut, run, cuts, puts, ops, needed, givenAt, sides, quads, all, isOpen, withGiven, reveal, nothing, added, workBy, work}
-use Rattle.rules.proofs.Sets.{has-setOf}
+use Rattle.rules.proofs.Sets.{zero-has, has-setOf}
 use Rattle.rules.proofs.Neighbours.{opposite-lt}
-use Rattle.rules.proofs.ListLaws.{split, and-true, each-same}
+use Rattle.rules.proofs.ListLaws.{split, and-true, map-each, each-same}
 use Rattle.rules.proofs.Quads.{run-append}
 use Rattle.steps.specs.Steps.{opOf}
 use Rattle.works.specs.declared.Work.{Work}
 use Rattle.works.specs.Sets.{typesBy, sets, noWork, isShown, meantBy, meant, cutting, typeAt, deedBy, quadIn, Cubes}
 use Rattle.works.proofs.Works.{facing}
-
--- ---- lists made face by face
-pub map-each : {A B : Type 0} (g : A → B) (n i : ℕ) (p : ℕ → List A) → map g (each n i p) ≡ each n i (λ k. map g (p k))
-unfolding each
-map-each g zero i p = refl
-map-each {B = B} g (suc n) i p = map-append g (p i) (each n (suc i) p) ∙ ap (λ (r : List B). map g (p i) ++ r) (map-each g n (suc i) p)
-
--- nothing is in the empty set
-zero-has : (f : ℕ) → has 0 f ≡ false
-zero-has f = rw (zero-div (2 ^ f))
 
 -- the faces that a part is about at side f, if the grid has them
 abbrev pub spotIn : Size → ℕ → ℕ → ℕ → List ℕ
@@ -84,7 +73,7 @@ module _ (W : World) (e : Entry) where
       one f l true q (some n) = ap (λ (o : Op). o ∷ []) (is f n l) ∙ sym (ap (map g) (met f n ∙ ap (λ (b : Bool). only b (x f n)) q))
       one f l false q (some n) = sym (ap (map g) (met f n ∙ ap (λ (b : Bool). only b (x f n)) q))
 
-  pub own-cut : (set : ℕ) (p : ℕ → Bool) → ((f : ℕ) → f < 6 → has set f ≡ p f) → partOps W e set 0 ≡ cuts (sides (e .cell) p)
+  own-cut : (set : ℕ) (p : ℕ → Bool) → ((f : ℕ) → f < 6 → has set f ≡ p f) → partOps W e set 0 ≡ cuts (sides (e .cell) p)
   own-cut set p h = own-part cut (keyOf (e .cell)) 0 set p (λ f. refl) h (λ f l. refl)
 
   own-put : (p : ℕ → Bool) → partOps W e (setOf p) 2 ≡ puts (quads W (e .type) (e .cell) p)

@@ -1,4 +1,4 @@
--- What an entry tells of a side, and the keys around its cell. Assumes nothing.
+-- What an entry tells of a side; its four sets as one, and the deeds of that; the keys around its cell. Assumes nothing.
 use mathlib.Core.Path.{_≡_, refl, sym, ap, _∙_, subst}
 use mathlib.Core.Bool.{Bool, true, false, cond, not}
 use mathlib.Core.List.{List, [], _∷_, _++_, append-assoc, append-nil}
@@ -21,7 +21,7 @@ use Rattle.entries.specs.Log.{neighbourOf}
 use Rattle.entries.specs.declared.Neighbour.the-variants.{Outside, Voxel}
 use Rattle.steps.specs.Steps.{Deed}
 use Rattle.works.specs.declared.Work.{Work}
-use Rattle.works.specs.Sets.{setIn, packed, keyOr, keyAt, keysAround, keyMet, cutting, typeAt, deedBy, partDeeds, cutAt, typeIn, placeIn, deedAt, deeds}
+use Rattle.works.specs.Sets.{setIn, packed, keyOr, keyAt, keysAround, keyMet, cutting, typeAt, deedBy, partDeeds, deedBySide, deedAt, deeds}
 
 -- ---- types and neighbours
 given-outside : (g : ℕ) → neighbourOf g ≡ Outside → outside g ≡ true
@@ -58,7 +58,7 @@ module _ (r a : ℕ) (h : r < 64) where
       ap (has n) z ∙ half n _ ∙ half (n / 2) _ ∙ half (n / 2 / 2) _ ∙ half (n / 2 / 2 / 2) _ ∙ half (n / 2 / 2 / 2 / 2) _ ∙ half (n / 2 / 2 / 2 / 2 / 2) i ∙ ap (λ (m : ℕ). has m i) e
 
 -- LAW: a side of a part is one of the 24
-pub has-packed : (w : Work) → ((j : ℕ) → setIn w j < 64) → (j f : ℕ) → j < 4 → f < 6 → has (packed w) (6 * j + f) ≡ has (setIn w j) f
+has-packed : (w : Work) → ((j : ℕ) → setIn w j < 64) → (j f : ℕ) → j < 4 → f < 6 → has (packed w) (6 * j + f) ≡ has (setIn w j) f
 has-packed w few zero f _ l = let z : 6 * 0 + f ≡ f = omega arith in ap (has (packed w)) z ∙ low-has (w .own) _ (few 0) f l
 has-packed w few (suc zero) f _ l = high-has (w .own) _ (few 0) f ∙ low-has (w .shown) _ (few 1) f l
 has-packed w few (suc (suc zero)) f _ l =
@@ -73,15 +73,15 @@ pub deeds-parts : (keys : List ℕ) (e : Entry) (w : Work) → ((j : ℕ) → se
     → deeds keys e (packed w) ≡ partDeeds keys e (w .own) 0 ++ (partDeeds keys e (w .shown) 1 ++ (partDeeds keys e (w .drawn) 2 ++ partDeeds keys e (w .hidden) 3))
 unfolding each
 deeds-parts keys e w few =
-    each-same 24 0 (deedAt keys e (packed w)) (λ i. only (has (setIn w (i / 6)) (i % 6)) (deedBy (cutAt i) (typeIn e i) (getD keys (placeIn i) 0)))
-    (λ i _ l. ap (λ (b : Bool). only b (deedBy (cutAt i) (typeIn e i) (getD keys (placeIn i) 0))) (ap (has (packed w)) (omega arith) ∙ has-packed w few (i / 6) (i % 6) (omega arith) (omega arith)))
+    each-same 24 0 (deedAt keys e (packed w)) (λ i. only (has (setIn w (i / 6)) (i % 6)) (deedBySide keys e i))
+    (λ i _ l. ap (λ (b : Bool). only b (deedBySide keys e i)) (ap (has (packed w)) (omega arith) ∙ has-packed w few (i / 6) (i % 6) (omega arith) (omega arith)))
     ∙ simp (append-assoc, append-nil)
 
 module _ (keys : List ℕ) (e : Entry) where
   -- LAW: an entry's work is 24 deeds at most
   pub all-few : (sides : ℕ) → length (deeds keys e sides) ≤ 24
   unfolding count
-  all-few sides = omega (arith, count-each (has sides) (λ i. deedBy (cutAt i) (typeIn e i) (getD keys (placeIn i) 0)) 24 0, count-le 24 (has sides))
+  all-few sides = omega (arith, count-each (has sides) (deedBySide keys e) 24 0, count-le 24 (has sides))
 
   -- LAW: what holds at each face of the four sets holds of every deed
   pub all-deeds : (P : Deed → Type 0) (w : Work) → ((j : ℕ) → setIn w j < 64) → ((j f : ℕ) → j < 4 → f < 6 → has (setIn w j) f ≡ true → P (deedBy (cutting j) (typeAt e j f) (keyMet keys j f))) → All P (deeds keys e (packed w))

@@ -1,7 +1,7 @@
 -- What an entry means, as four side sets, and face by face. Definitions only.
 use Prim.Native.Nat.{ℕ, zero, suc, _+_, _-_, _*_, _/_, _%_, _<_}
 use mathlib.Core.Path.{_≡_}
-use mathlib.Core.Bool.{Bool, true, cond, not, _&&_, _||_}
+use mathlib.Core.Bool.{Bool, true, cond, not, _&&_}
 use mathlib.Core.List.{List, []}
 use mathlib.Core.Option.{Option, none, some}
 use lib.ListN.{getD}
@@ -77,17 +77,11 @@ abbrev pub partDeeds : List ℕ → Entry → ℕ → ℕ → List Deed
 partDeeds keys e set part = each 6 0 (λ f. only (has set f) (deedBy (cutting part) (typeAt e part f) (keyMet keys part f)))
 
 -- the same by the one number, 6 · part + face
-abbrev pub cutAt : ℕ → Bool
-cutAt i = ltb i 6 || ltb 17 i
-
-abbrev pub typeIn : Entry → ℕ → ℕ
-typeIn e i = cond (ltb 5 i && ltb i 12) (givenAt e (i - 6)) (e .type)
-
-abbrev pub placeIn : ℕ → ℕ
-placeIn i = cond (ltb i 12) i (i - 12)
+abbrev pub deedBySide : List ℕ → Entry → ℕ → Deed
+deedBySide keys e i = deedBy (cutting (i / 6)) (typeAt e (i / 6) (i % 6)) (keyMet keys (i / 6) (i % 6))
 
 abbrev pub deedAt : List ℕ → Entry → ℕ → ℕ → List Deed
-deedAt keys e sides i = only (has sides i) (deedBy (cutAt i) (typeIn e i) (getD keys (placeIn i) 0))
+deedAt keys e sides i = only (has sides i) (deedBySide keys e i)
 
 abbrev pub deeds : List ℕ → Entry → ℕ → List Deed
 deeds keys e sides = each 24 0 (deedAt keys e sides)

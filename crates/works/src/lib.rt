@@ -18,7 +18,7 @@ use util::neighbor_at;
 ghost use mathlib.Core.Path.{_≡_};
 ghost use mathlib.Core.Bool.{cond};
 ghost use mathlib.Core.List.{[]};
-ghost use Prim.Native.Nat.{ℕ, _<_};
+ghost use Prim.Native.Nat.{ℕ, _+_, _*_, _/_, _%_, _<_};
 ghost use lib.ListN.{getD};
 ghost use Rattle.rules.specs.Cells as rule;
 ghost use Rattle.rules.specs.Cells.{cells, coordinates, neighbour, setOf};
@@ -27,7 +27,7 @@ ghost use Rattle.face.specs.Face.{number};
 ghost use Rattle.util.specs.Grid.{sizeOf, tripleOf, Within, Inverts};
 ghost use Rattle.entries.specs.Log.{entryIn};
 ghost use Rattle.terms.specs.Modes.{testedBy};
-ghost use Rattle.works.specs.Sets.{typesBy, isShown, sets, noWork, meant, setIn, packed, keyOr, keysAround, cutAt, typeIn, placeIn};
+ghost use Rattle.works.specs.Sets.{typesBy, isShown, sets, noWork, meant, setIn, packed, keyOr, keysAround, cutting, typeAt};
 
 // All six sides.
 const ALL_SIDES: u8 = 63;
@@ -69,7 +69,7 @@ fn is_open(covers: &[u8], entry: Entry, face: Face) -> bool
     }
 }
 
-// Whether the side that goes covered it, and what is given there is a NormalCube.
+// Whether the voxel that goes covers this side, and what is given there is a NormalCube.
 fn is_shown(kinds: &[u8], cover: u8, entry: Entry, face: Face) -> bool
     ensures { λ r. ⌜ r ≡ isShown (now (kinds .entry)) cover (entryIn entry) (number face) ⌝ }
 {
@@ -219,24 +219,26 @@ pub fn keys_around(dims: Dimensions, inverse: Inverse, cell: Cell) -> [u32; 12]
 
 // Of the 24: whether it is a cut.
 pub fn does_cut(i: u32) -> bool
-    ensures { λ r. ⌜ r ≡ cutAt i ⌝ }
+    requires { ⌜ i < 24 ⌝ }
+    ensures { λ r. ⌜ r ≡ cutting (i / 6) ⌝ }
 {
     (i < 6) | (17 < i)
 }
 
 // The type that is drawn there.
 pub fn type_of(entry: Entry, i: u32) -> u8
-    ensures { λ r. ⌜ r ≡ typeIn (entryIn entry) i ⌝ }
+    ensures { λ r. ⌜ r ≡ typeAt (entryIn entry) (i / 6) (i % 6) ⌝ }
 {
-    if (5 < i) & (i < 12) {
-        return given(entry, i - 6);
+    if i / 6 == 1 {
+        return given(entry, i % 6);
     }
     entry.voxel
 }
 
-// The place of its key around the cell.
-pub fn place_of(i: u32) -> usize
-    ensures { λ r. ⌜ r ≡ placeIn i ⌝ }
+// Where its key stands among those around the cell.
+pub fn key_place(i: u32) -> usize
+    requires { ⌜ i < 24 ⌝ }
+    ensures { λ r. ⌜ (r ≡ 6 * (i / 6 % 2) + i % 6) × (r < 12) ⌝ }
 {
     if i < 12 {
         return i as usize;

@@ -9,7 +9,7 @@ use Rattle.rules.specs.Cells.{has, keyOf, setOf}
 use Rattle.rules.proofs.Sets.{setOf-lt, has-setOf, set-is, has-and, has-or, has-others}
 use Rattle.works.specs.declared.Work.{Work}
 use Rattle.works.specs.Sets.{sets, keyMet}
-use Rattle.indexing.specs.Due.{isEmpty, isMet, goes, comes, dueOf}
+use Rattle.indexing.specs.Due.{isBare, isMet, goes, comes, dueOf}
 use borrow.Author.Needs.{needs}
 use Rattle.indexing.proofs.due_work.Statement.{statement}
 use Rattle.indexing.proofs.due_work.Tie as tie
@@ -30,12 +30,12 @@ and-assoc true y z = refl
 and-assoc false y z = refl
 
 -- the sets that the code makes of a work, of the sides that are empty, of those that are bare and of those that the grid has
-module _ (slots keys : List ℕ) (c : ℕ) (w : Work) {empty bare met : ℕ} (e : empty ≡ setOf (λ f. isEmpty slots (keyOf c f))) (b : bare ≡ setOf (λ f. isEmpty slots (keyMet keys 1 f))) (t : met ≡ setOf (isMet keys)) where
+module _ (slots keys : List ℕ) (c : ℕ) (w : Work) {empty bare met : ℕ} (e : empty ≡ setOf (λ f. isBare slots (keyOf c f))) (b : bare ≡ setOf (λ f. isBare slots (keyMet keys 1 f))) (t : met ≡ setOf (isMet keys)) where
   abbrev lone : ℕ → Bool
-  lone f = isEmpty slots (keyOf c f)
+  lone f = isBare slots (keyOf c f)
 
   abbrev none : ℕ → Bool
-  none f = isEmpty slots (keyMet keys 1 f)
+  none f = isBare slots (keyMet keys 1 f)
 
   -- within sets of sides, whatever the work's are
   inside : (a : ℕ) {d : ℕ} → d < 64 → bitAnd a d < 64
@@ -72,21 +72,21 @@ module _ (slots keys : List ℕ) (c : ℕ) (w : Work) {empty bare met : ℕ} (e 
       λ i. sets (own i) (shown i) (drawn i) (hidden i)
 
 -- no set has more than six sides
-few-empty : (c : tie.After-empty-sides) → c .empty-sides .result ≤ 63
-few-empty c = let a = c .before .before .args in omega (arith, c .empty-sides .ensures, setOf-lt (λ f. isEmpty (a .slots .now) (keyOf (a .cell .0) f)))
+few-own : (c : tie.After-own-bare) → c .own-bare .result ≤ 63
+few-own c = let a = c .before .before .args in omega (arith, c .own-bare .ensures, setOf-lt (λ f. isBare (a .slots .now) (keyOf (a .cell .0) f)))
 
-few-bare : (c : tie.After-bare-sides) → c .bare-sides .result ≤ 63
-few-bare c = let a = c .before .before .before .args in omega (arith, c .bare-sides .ensures, setOf-lt (λ f. isEmpty (a .slots .now) (keyMet (a .keys .now) 1 f)))
+few-facing : (c : tie.After-facing-bare) → c .facing-bare .result ≤ 63
+few-facing c = let a = c .before .before .before .args in omega (arith, c .facing-bare .ensures, setOf-lt (λ f. isBare (a .slots .now) (keyMet (a .keys .now) 1 f)))
 
 returns : tie.Need-returns
 returns c =
     let met = c .before .before in
     let bare = met .before .before .before in
     let t = bare .before .before .before in
-    made (t .args .slots .now) (t .args .keys .now) (t .args .cell .0) (t .args .work) (bare .before .empty-sides .ensures) (bare .bare-sides .ensures) (met .met-sides .ensures)
+    made (t .args .slots .now) (t .args .keys .now) (t .args .cell .0) (t .args .work) (bare .before .own-bare .ensures) (bare .facing-bare .ensures) (met .met-sides .ensures)
 
 pub due-work-spec : {M : Type 1} → statement M
 due-work-spec =
     tie.close
-    (tie.spec (λ c κs. (let p = c .before .pre in (omega (arith, p .0 .small, p .1), p .1))) (λ c κs. c .before .before .pre .0) (λ c. omega (arith, few-empty (c .before))) (λ c κs. search needs)
-    (λ c. omega (arith, few-bare (c .before .before .before .before))) returns)
+    (tie.spec (λ c κs. (let p = c .before .pre in (omega (arith, p .0 .small, p .1), p .1))) (λ c κs. c .before .before .pre .0) (λ c. omega (arith, few-own (c .before))) (λ c κs. search needs)
+    (λ c. omega (arith, few-facing (c .before .before .before .before))) returns)

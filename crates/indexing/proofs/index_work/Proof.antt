@@ -1,21 +1,18 @@
 -- `indexing::index_work` meets its contract: what is left to do on what is there is the whole work on what was there. Assumes nothing.
 use mathlib.Core.Path.{_≡_, refl, sym, ap, _∙_, subst}
-use mathlib.Core.Bool.{Bool, cond}
+use mathlib.Core.Bool.{Bool}
 use mathlib.Core.List.{List, [], _∷_}
 use Prim.Native.Nat.{ℕ, _+_, _-_, _≤_, _<_}
 use native.Mathlib.Omega.{arith}
 use lib.Bits.{and-le-r}
 use lib.Count.{trailingZeros}
 use lib.ListN.{length, getD}
-use lib.Dec.{ltb}
-use borrow.Author.Tests.{ltb-true, ltb-false}
 use Rattle.rules.specs.Lists.{only}
-use Rattle.rules.proofs.ListLaws.{split}
 use Rattle.face.proofs.Lowest.{Rest, rest-start, rest-none, rest-below, rest-from, rest-at, rest-skip, rest-next}
 use Rattle.entries.specs.Log.{entryIn}
 use Rattle.steps.specs.Steps.{Deed}
 use Rattle.steps.proofs.Turning.{Turning, start, this, skip, turn, done}
-use Rattle.works.specs.Sets.{deedBy, cutAt, typeIn, placeIn, deedAt}
+use Rattle.works.specs.Sets.{deedBy, deedBySide, deedAt}
 use Rattle.indexing.specs.Index.{Index, indexOf, indexRun, Begun}
 use Rattle.indexing.proofs.Doing.{piecewise}
 use borrow.Author.Needs.{needs}
@@ -45,7 +42,7 @@ here i = let l = i .before .loop in indexOf (l .links) (l .slots) (l .steps) (l 
 
 -- one that is not to be done asks for nothing
 abbrev deed-if : tie.Start Inv-loop μ-loop → ℕ → Bool → List Deed
-deed-if t k on = let a = t .args in only on (deedBy (cutAt k) (typeIn (entryIn (a .entry)) k) (getD (a .keys .now) (placeIn k) 0))
+deed-if t k on = let a = t .args in only on (deedBySide (a .keys .now) (entryIn (a .entry)) k)
 
 turned-to : (i : tie.In-loop Inv-loop μ-loop) →
     let a = begun i .args in
@@ -61,19 +58,13 @@ told : (c : tie.After-type-of Inv-loop μ-loop) →
     let cut = c .before in
     let i = cut .before .before in
     let a = begun i .args in
-    deedBy (cut .does-cut .result) (c .type-of .result) (getD (a .keys .now) (cut .before .place-of .result) 0) ∷ [] ≡ deedAt (a .keys .now) (entryIn (a .entry)) (a .sides) (low i)
+    deedBy (cut .does-cut .result) (c .type-of .result) (getD (a .keys .now) (cut .before .key-place .result) 0) ∷ [] ≡ deedAt (a .keys .now) (entryIn (a .entry)) (a .sides) (low i)
 told c =
     let cut = c .before in
     let i = cut .before .before in
     let a = begun i .args in
-    (λ j. deedBy (cut .does-cut .ensures j) (c .type-of .ensures j) (getD (a .keys .now) (cut .before .place-of .ensures j) 0) ∷ [])
+    (λ j. deedBy (cut .does-cut .ensures j) (c .type-of .ensures j) (getD (a .keys .now) (cut .before .key-place .ensures .0 j) 0) ∷ [])
     ∙ ap (deed-if (begun i) (low i)) (sym (rest-at (i .before .loop .inv .2) (i .loop-test .taken) refl))
-
-placed : (c : tie.After-place-of Inv-loop μ-loop) → c .place-of .result < 12
-placed c = let b = below (c .before) in omega (arith, c .place-of .ensures, few (low (c .before)) (below (c .before)))
-  where
-    few : (k : ℕ) → k < 24 → placeIn k < 12
-    few k l = split (λ b. ltb k 12 ≡ b → cond b k (k - 12) < 12) (ltb k 12) (λ _ t. ltb-true k 12 t) (λ _ t. let g = ltb-false k 12 t in omega arith) refl
 
 do-face-requires : tie.Need-do-face-requires Inv-loop μ-loop
 do-face-requires c κs =
@@ -115,6 +106,6 @@ returns c =
 pub index-work-spec : {M : Type 1} → statement M
 index-work-spec =
     tie.close
-    (tie.spec Inv-loop μ-loop (λ c. let t = c .before .before .before in (0, start (t .pre .1), rest-start (omega arith) (t .pre .0), refl, refl, refl)) (λ c κs. search needs) (λ c κs. search needs) (λ c κs. search needs)
-    (λ c. omega (arith, placed (c .before .before .before .before .before))) (λ c. omega (arith, placed (c .before .before .before .before .before))) do-face-requires (λ c. some (into c)) loop-less loop-again (λ c. c .before .loop .inv .3) (λ c. c .before .loop .inv .4)
+    (tie.spec Inv-loop μ-loop (λ c. let t = c .before .before .before in (0, start (t .pre .1), rest-start (omega arith) (t .pre .0), refl, refl, refl)) (λ c κs. below c) (λ c κs. below (c .before)) (λ c κs. search needs)
+    (λ c. omega (arith, c .before .before .before .before .before .key-place .ensures .1)) (λ c. omega (arith, c .before .before .before .before .before .key-place .ensures .1)) do-face-requires (λ c. some (into c)) loop-less loop-again (λ c. c .before .loop .inv .3) (λ c. c .before .loop .inv .4)
     (λ c. c .before .loop .inv .5) returns)
