@@ -81,6 +81,10 @@ module _ (G : Ground) where
   one-booked (hide j) m h v xs f a k fit =
       let q : 4 * placeOf j m / 4 ≡ placeOf j m = omega arith in rw (slot-place m h k j (there-inside m h k j a) a, q, a) (gone-booked m h k (placeOf j m) v xs (placed j m a .within))
 
+  pub length-steps : (ds : List Deed) (m : List Quad) → length (stepsOf quad ds m) ≡ length ds
+  length-steps [] m = refl
+  length-steps (d ∷ ds) m = ap suc (length-steps ds (step (opOf quad d) m))
+
   -- LAW: a run on the index is the index of the run on the quads, with the run's steps
   pub run-booked : (ds : List Deed) (m : List Quad) (h v : ℕ) (xs : List Step) → All (Good (G .faces) (G .span)) (opsOf quad ds) → Acts (opsOf quad ds) m → Sane (G .faces) (G .span) (G .room) m h → highest h (opsOf quad ds) m ≤ G .room
       → indexRun ds (bookOf (G .faces) h m (G .old) v xs)

@@ -2,7 +2,7 @@
 use mathlib.Core.Path.{_≡_, refl, sym, ap, _∙_, subst}
 use mathlib.Core.Logic.{⊎-elim}
 use mathlib.Core.Bool.{true, false, not}
-use mathlib.Core.List.{List, [], _∷_, _++_, append-assoc}
+use mathlib.Core.List.{List, [], _∷_, _++_}
 use mathlib.Core.Option.{none, some}
 use Prim.Native.Nat.{ℕ, _+_, _*_, _/_, _≤_, _<_, max}
 use native.Mathlib.Omega.{arith}
@@ -13,17 +13,18 @@ use borrow.Author.Tests.{lt-ltb}
 use Rattle.rules.specs.Lists.{each}
 use Rattle.rules.specs.Cells.{keyIn, onlyIf}
 use Rattle.rules.specs.Mesh.{Quad, NONE, slotOf, listsOf}
-use Rattle.rules.specs.Update.{step, movedIn}
-use Rattle.rules.proofs.ListLaws.{within, split, length-table, each-same, each-split}
+use Rattle.rules.specs.Update.{Op, step, movedIn, highest}
+use Rattle.rules.proofs.Acting.{Acts}
+use Rattle.rules.proofs.ListLaws.{All, within, split, length-table, each-same, each-split}
 use Rattle.rules.proofs.Quads.{placed, moved-le}
 use Rattle.rules.proofs.Laying.{length-links}
-use Rattle.rules.proofs.Courses.{sane-one, highest-ge}
+use Rattle.rules.proofs.Courses.{Good, sane-one, highest-ge}
 use Rattle.mesh_metadata.specs.Index.{Linked, vertexOf}
 use Rattle.mesh_metadata.proofs.Layouts as layouts
 use Rattle.steps.specs.Steps.{Step, came, CUT, stepIn, stepAt, stepsIn, Deed, show, hide, quadBy, opOf, opsOf, stepOf}
 use Rattle.steps.proofs.Turning.{Piecewise}
 use Rattle.indexing.specs.declared.Tally.{Tally}
-use Rattle.indexing.specs.Index.{Index, indexOf, slotIn, cameAt, indexOne, indexRun, bookOf, Ready, Begun, Removable, Drawable}
+use Rattle.indexing.specs.Index.{Index, indexOf, slotIn, cameAt, indexOne, indexRun, bookOf, Ready, Removable, Drawable}
 use Rattle.indexing.proofs.Booking.{there-inside, slot-place, one-booked}
 
 pub same-index : {l l′ s s′ : List ℕ} {q q′ v v′ h h′ : ℕ} {x x′ : List Step} → l ≡ l′ → s ≡ s′ → q ≡ q′ → v ≡ v′ → h ≡ h′ → x ≡ x′
@@ -165,8 +166,27 @@ run-append : (a b : List Deed) (B : Index) → indexRun (a ++ b) B ≡ indexRun 
 run-append [] b B = refl
 run-append (d ∷ a) b B = run-append a b (indexOne d B)
 
-pub piecewise : (space : ℕ) → Piecewise indexRun (Begun space)
-piecewise space = record { joined = run-append; front = λ a b B r. (b ++ r .0, parted a b r); rest = λ a b B r. (r .0, ready-rest a (b ++ r .0) B (parted a b r)) }
-  where
-    parted : (a b : List Deed) {B : Index} (r : Begun space (a ++ b) B) → Ready space (a ++ (b ++ r .0)) B
-    parted a b {B} r = subst (λ (ds : List Deed). Ready space ds B) (append-assoc a b (r .0)) (r .1)
+-- the first of them can be done by themselves
+module _ (n s : ℕ) (words : ℕ → ℕ → List ℕ) where
+  abbrev of : List Deed → List Op
+  of = opsOf (quadBy words)
+
+  front : (a b : List Deed) (h : ℕ) (m : List Quad) → All (Good n s) (of (a ++ b)) → Acts (of (a ++ b)) m → All (Good n s) (of a) × Acts (of a) m × (highest h (of a) m ≤ highest h (of (a ++ b)) m)
+  front [] b h m g c = (tt, tt, highest-ge (of b) h m)
+  front (d ∷ a) b h m g c =
+      let o = opOf (quadBy words) d in
+      let r = front a b (max h (length (step o m))) (step o m) (g .1) (c .1) in
+      ((g .0, r .0), (c .0, r .1), r .2)
+
+ready-front : {space : ℕ} (a b : List Deed) (B : Index) → Ready space (a ++ b) B → Ready space a B
+ready-front a b B r =
+    let f = front (r .ground .faces) (r .ground .span) (r .ground .words) a b (r .top) (r .mesh) (r .good) (r .acts) in
+    let n = length-append a b in
+    let most = r .moves in
+    let space = r .steps in
+    let low = r .fits in
+    let less = f .2 in
+    record { ground = r .ground; top = r .top; mesh = r .mesh; sane = r .sane; is = r .is; good = f .0; acts = f .1; fits = omega arith; moves = omega arith; steps = omega arith }
+
+pub piecewise : (space : ℕ) → Piecewise indexRun (Ready space)
+piecewise space = record { joined = run-append; front = ready-front; rest = ready-rest }

@@ -29,7 +29,7 @@ ghost use Rattle.face.specs.Face.{number};
 ghost use Rattle.entries.specs.Log.{entryIn};
 ghost use Rattle.works.specs.Sets.{setIn, keyMet, deedBy, deeds};
 ghost use Rattle.indexing.specs.Due.{isBare, isMet, dueOf, fitsIn, Gridded};
-ghost use Rattle.indexing.specs.Index.{indexOf, goneAt, cameAt, indexRun, Begun, Removable, Drawable};
+ghost use Rattle.indexing.specs.Index.{indexOf, goneAt, cameAt, indexRun, Ready, Removable, Drawable};
 
 // The number of quads, how many have changed their place, the highest number of quads on the way, and the number of steps.
 pub struct Tally {
@@ -116,7 +116,7 @@ fn do_face(
     voxel: u8,
     tally: Tally,
 ) -> Tally
-    requires { ⌜ Begun (length (now steps)) (deedBy cuts voxel key ∷ []) (indexOf (now links) (now slots) (now steps) tally) ⌝ }
+    requires { ⌜ Ready (length (now steps)) (deedBy cuts voxel key ∷ []) (indexOf (now links) (now slots) (now steps) tally) ⌝ }
     ensures { λ r. ⌜ indexOf (now (links .exit)) (now (slots .exit)) (now (steps .exit)) r
         ≡ indexRun (deedBy cuts voxel key ∷ []) (indexOf (now (links .entry)) (now (slots .entry)) (now (steps .entry)) tally) ⌝ }
 {
@@ -137,7 +137,7 @@ pub fn index_work(
     sides: u32,
     tally: Tally,
 ) -> Tally
-    requires { ⌜ (sides < 2 ^ 24) × Begun (length (now steps)) (deeds (now keys) (entryIn entry) sides) (indexOf (now links) (now slots) (now steps) tally) ⌝ }
+    requires { ⌜ (sides < 2 ^ 24) × Ready (length (now steps)) (deeds (now keys) (entryIn entry) sides) (indexOf (now links) (now slots) (now steps) tally) ⌝ }
     ensures { λ r. ⌜ indexOf (now (links .exit)) (now (slots .exit)) (now (steps .exit)) r
         ≡ indexRun (deeds (now (keys .entry)) (entryIn entry) sides) (indexOf (now (links .entry)) (now (slots .entry)) (now (steps .entry)) tally) ⌝ }
 {

@@ -1,7 +1,7 @@
 -- A log on the index and the vertices, entry by entry: the lists stay the layout of the rule's mesh. Assumes nothing.
 use mathlib.Core.Path.{_≡_, refl, sym, ap, _∙_, subst}
 use mathlib.Core.Bool.{true, not}
-use mathlib.Core.List.{List, [], append-nil}
+use mathlib.Core.List.{List, []}
 use mathlib.Core.Option.{Option, none, some}
 use Prim.Native.Nat.{ℕ, suc, _+_, _-_, _*_, _/_, _%_, _^_, _≤_, _<_}
 use native.Mathlib.Omega.{arith}
@@ -29,10 +29,9 @@ use Rattle.works.specs.declared.Work.{Work}
 use Rattle.works.specs.Sets.{meant, setIn, packed, keyOr, keysAround, keyMet, deeds, Cubes}
 use Rattle.works.proofs.Works.{all-few, near-key}
 use Rattle.works.proofs.Meant.{Means, meant-work, meant-cubes}
-use Rattle.indexing.specs.Index.{Index, indexRun, bookOf, Ground, Ready, Begun}
+use Rattle.indexing.specs.Index.{Index, indexRun, bookOf, Ground, Ready}
 use Rattle.indexing.specs.Due.{isBare, dueOf, fitsIn, Gridded}
-use Rattle.indexing.proofs.Booking.{slot-none, run-booked}
-use Rattle.indexing.proofs.Doing.{ready-rest}
+use Rattle.indexing.proofs.Booking.{slot-none, length-steps, run-booked}
 use Rattle.indexing.proofs.Due.{due-few, due-cubes, due-ops, room-told}
 use Rattle.update.specs.Runs.{Ended, laidOut, meshIn, courseIn, Holds, Logging}
 use Rattle.update.proofs.Drawing.{bare, deeds-able}
@@ -185,9 +184,9 @@ module _ (tested : Tested) {S : Scene} {room : ℕ} {log vs₀ ls₀ ss₀ : Lis
         index : indexAt ls ss q v h xs ≡ bookOf (faces S) h m ls₀ v (stepsIn 0 xs)
         index = let a = r .holds .links in let b = r .holds .slots in let c = r .holds .count in λ i. record { links = a i; slots = b i; quads = c i; moved = v; top = h; steps = stepsIn 0 xs }
 
-        ready : Ready (length xs) ds (indexAt ls ss q v h xs)
+        pub run-ready : Ready (length xs) ds (indexAt ls ss q v h xs)
         unfolding each
-        ready =
+        run-ready =
             let few = g .few in
             let mv = r .moves in
             let a = all-few ks e (packed d) in
@@ -203,9 +202,6 @@ module _ (tested : Tested) {S : Scene} {room : ℕ} {log vs₀ ls₀ ss₀ : Lis
               moves = omega arith;
               steps = omega arith;
             }
-
-        pub run-ready : Begun (length xs) ds (indexAt ls ss q v h xs)
-        run-ready = ([], subst (λ (x : List Deed). Ready (length xs) x (indexAt ls ss q v h xs)) (sym (append-nil ds)) ready)
 
         abbrev done : Index
         done = indexRun ds (indexAt ls ss q v h xs)
@@ -224,7 +220,7 @@ module _ (tested : Tested) {S : Scene} {room : ℕ} {log vs₀ ls₀ ss₀ : Lis
         steps-are = ap (λ (I : Index). I .steps) ran
 
         pub run-few : 2 * length (done .steps) ≤ length xs
-        run-few = let z = ready-rest ds (run-ready .0) _ (run-ready .1) .steps in omega arith
+        run-few = let n = ap length steps-are ∙ length-steps ground ds m in omega (arith, n, all-few ks e (packed d))
 
         replayed-now : Can (Drawn (bare S)) room steps (length m) × (replayed (span S) (wordsBy (bare S)) steps (shelf (laid (span S) (λ q x. x .words) h m vs₀) (length m))
             ≡ shelf (laid (span S) (λ q x. x .words) (highest h os m) (run os m) vs₀) (length (run os m)))

@@ -1,12 +1,11 @@
 -- `indexing::do_face` meets its contract. Assumes nothing.
-use mathlib.Core.Path.{_≡_, refl, sym, ap, _∙_, subst}
+use mathlib.Core.Path.{_≡_, sym, ap, _∙_, subst}
 use mathlib.Core.Bool.{Bool}
-use mathlib.Core.List.{List, [], _∷_}
+use mathlib.Core.List.{[], _∷_}
 use Prim.Native.Nat.{ℕ}
 use lib.ListN.{length}
-use Rattle.steps.specs.Steps.{Deed}
 use Rattle.works.specs.Sets.{deedBy}
-use Rattle.indexing.specs.Index.{Index, indexOf, goneAt, indexRun, Ready, Begun, Removable}
+use Rattle.indexing.specs.Index.{Index, indexOf, goneAt, indexRun, Ready, Removable}
 use Rattle.indexing.proofs.Doing.{space-left, slotted, removable, drawable}
 use borrow.Author.Needs.{needs}
 use Rattle.indexing.proofs.do_face.Statement.{statement}
@@ -15,8 +14,8 @@ use Rattle.indexing.proofs.do_face.Tie as tie
 abbrev there : tie.Start → Index
 there t = indexOf (t .args .links .now) (t .args .slots .now) (t .args .steps .now) (t .args .tally)
 
-known : (t : tie.Start) {b : Bool} → t .args .cuts ≡ b → (rest : List Deed) × Ready (length (t .args .steps .now)) (deedBy b (t .args .voxel) (t .args .key) ∷ rest) (there t)
-known t e = subst (λ (b : Bool). Begun (length (t .args .steps .now)) (deedBy b (t .args .voxel) (t .args .key) ∷ []) (there t)) e (t .pre)
+known : (t : tie.Start) {b : Bool} → t .args .cuts ≡ b → Ready (length (t .args .steps .now)) (deedBy b (t .args .voxel) (t .args .key) ∷ []) (there t)
+known t e = subst (λ (b : Bool). Ready (length (t .args .steps .now)) (deedBy b (t .args .voxel) (t .args .key) ∷ []) (there t)) e (t .pre)
 
 ran : (t : tie.Start) {b : Bool} → t .args .cuts ≡ b → indexRun (deedBy b (t .args .voxel) (t .args .key) ∷ []) (there t) ≡ indexRun (deedBy (t .args .cuts) (t .args .voxel) (t .args .key) ∷ []) (there t)
 ran t e = sym (ap (λ (b : Bool). indexRun (deedBy b (t .args .voxel) (t .args .key) ∷ []) (there t)) e)
@@ -30,7 +29,7 @@ remove-quad-requires c κs =
     let found = c .before .before .before in
     let test = found .before .before in
     let t = cutting test in
-    (subst (λ (q : ℕ). Removable (t .args .key) q (there t)) (sym (found .quad-of .ensures)) (removable (known t (test .if1 .taken) .1)), space-left (t .args .steps .now) (t .args .tally) (known t refl .1))
+    (subst (λ (q : ℕ). Removable (t .args .key) q (there t)) (sym (found .quad-of .ensures)) (removable (known t (test .if1 .taken))), space-left (t .args .steps .now) (t .args .tally) (t .pre))
 
 returns : tie.Need-returns
 returns c =
@@ -48,7 +47,7 @@ append-quad-requires : tie.Need-append-quad-requires
 append-quad-requires c κs =
     let test = c .before .before .before in
     let t = drawing test in
-    (drawable (known t (test .if1 .left) .1), space-left (t .args .steps .now) (t .args .tally) (known t refl .1))
+    (drawable (known t (test .if1 .left)), space-left (t .args .steps .now) (t .args .tally) (t .pre))
 
 returns-2 : tie.Need-returns-2
 returns-2 c =
@@ -59,5 +58,5 @@ returns-2 c =
 pub do-face-spec : {M : Type 1} → statement M
 do-face-spec =
     tie.close
-    (tie.spec (λ c κs. slotted (known (cutting (c .before)) (c .before .if1 .taken) .1)) remove-quad-requires (λ c. search needs) (λ c. search needs) (λ c. search needs) returns
+    (tie.spec (λ c κs. slotted (known (cutting (c .before)) (c .before .if1 .taken))) remove-quad-requires (λ c. search needs) (λ c. search needs) (λ c. search needs) returns
     append-quad-requires (λ c. search needs) (λ c. search needs) (λ c. search needs) returns-2)

@@ -13,7 +13,7 @@ use Rattle.entries.specs.Log.{entryIn}
 use Rattle.steps.specs.Steps.{Deed}
 use Rattle.steps.proofs.Turning.{Turning, start, this, skip, turn, done}
 use Rattle.works.specs.Sets.{deedBy, deedBySide, deedAt}
-use Rattle.indexing.specs.Index.{Index, indexOf, indexRun, Begun}
+use Rattle.indexing.specs.Index.{Index, indexOf, indexRun, Ready}
 use Rattle.indexing.proofs.Doing.{piecewise}
 use borrow.Author.Needs.{needs}
 use Rattle.indexing.proofs.index_work.Statement.{statement}
@@ -21,7 +21,7 @@ use Rattle.indexing.proofs.index_work.Tie as tie
 
 abbrev Inv-loop : tie.InvT-loop
 Inv-loop links₀ slots₀ steps₀ keys entry sides left₀ rest₀ links slots steps left rest =
-    (f : ℕ) × Turning indexRun (Begun (length steps₀)) 24 (deedAt keys (entryIn entry) sides) f (indexOf links₀ slots₀ steps₀ left₀) (indexOf links slots steps left)
+    (f : ℕ) × Turning indexRun (Ready (length steps₀)) 24 (deedAt keys (entryIn entry) sides) f (indexOf links₀ slots₀ steps₀ left₀) (indexOf links slots steps left)
     × Rest 32 24 sides f rest × (length links ≡ length links₀) × (length slots ≡ length slots₀) × (length steps ≡ length steps₀)
 
 abbrev μ-loop : tie.MeasureT-loop
@@ -46,7 +46,7 @@ deed-if t k on = let a = t .args in only on (deedBySide (a .keys .now) (entryIn 
 
 turned-to : (i : tie.In-loop Inv-loop μ-loop) →
     let a = begun i .args in
-    Turning indexRun (Begun (length (a .steps .now))) 24 (deedAt (a .keys .now) (entryIn (a .entry)) (a .sides)) (low i) (indexOf (a .links .now) (a .slots .now) (a .steps .now) (a .tally)) (here i)
+    Turning indexRun (Ready (length (a .steps .now))) 24 (deedAt (a .keys .now) (entryIn (a .entry)) (a .sides)) (low i) (indexOf (a .links .now) (a .slots .now) (a .steps .now) (a .tally)) (here i)
 turned-to i =
     let l = i .before .loop in
     let b = below i in
@@ -72,7 +72,7 @@ do-face-requires c κs =
     let i = s .before .before .before in
     let n = sym (i .before .loop .inv .5) in
     let d = sym (told s) in
-    subst (λ (x : ℕ × List Deed). Begun (x .0) (x .1) (here i)) (λ j. (n j, d j)) (this (turned-to i) (piecewise _) (below i))
+    subst (λ (x : ℕ × List Deed). Ready (x .0) (x .1) (here i)) (λ j. (n j, d j)) (this (turned-to i) (piecewise _) (below i))
 
 abbrev into : tie.After-slice-known6 Inv-loop μ-loop → tie.In-loop Inv-loop μ-loop
 into c = c .before .before .before .before .before .before .before .before .before .before .before .before .before .before

@@ -15,7 +15,7 @@ use Rattle.steps.specs.Steps.{Step, Deed, shelf, stepAt, replayed}
 use Rattle.steps.specs.Rows.{wordsBy, Replaying}
 use Rattle.entries.specs.Log.{entryIn}
 use Rattle.works.specs.Sets.{setIn, packed, deeds}
-use Rattle.indexing.specs.Index.{Index, indexOf, indexRun, Begun}
+use Rattle.indexing.specs.Index.{Index, indexOf, indexRun, Ready}
 use Rattle.update.proofs.Drawing.{bare}
 use Rattle.update.proofs.Running.{indexAt, Running, Found, run-start, run-inside, run-gridded, run-dues, run-small, run-room, run-ready, run-few, run-replaying, run-on, run-full, run-through, run-ended}
 use borrow.Author.Needs.{needs}
@@ -137,7 +137,7 @@ index-work-requires c κs =
     let l = i .before .loop in
     let few = dues w in (
       omega (arith, c .word .ensures, few 0, few 1, few 2, few 3),
-      subst (λ (n : ℕ). Begun (length (l .steps)) (doing w n) (index w)) (sym (c .word .ensures)) (run-ready (side t) (t .pre) (l .inv .0) (found w) (fits (passed c)) (l .steps) (l .inv .4)),
+      subst (λ (n : ℕ). Ready (length (l .steps)) (doing w n) (index w)) (sym (c .word .ensures)) (run-ready (side t) (t .pre) (l .inv .0) (found w) (fits (passed c)) (l .steps) (l .inv .4)),
     )
 
 -- what the index is then
