@@ -229,8 +229,8 @@ pub fn does_cut(i: u32) -> bool
 pub fn type_of(entry: Entry, i: u32) -> u8
     ensures { λ r. ⌜ r ≡ typeAt (entryIn entry) (i / 6) (i % 6) ⌝ }
 {
-    if i / 6 == 1 {
-        return given(entry, i % 6);
+    if (5 < i) & (i < 12) {
+        return given(entry, i - 6);
     }
     entry.voxel
 }
