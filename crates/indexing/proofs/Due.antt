@@ -21,7 +21,7 @@ use Rattle.rules.proofs.Acting.{faceOf, isCut, acts, acting, acting-same, actin
 use Rattle.util.specs.Grid.{Within}
 use Rattle.steps.specs.Steps.{opOf, opsOf}
 use Rattle.works.specs.declared.Work.{Work}
-use Rattle.works.specs.Sets.{setIn, packed, keyOr, keysAround, keyMet, cutting, typeAt, deedBy, partDeeds, deeds, quadIn, Cubes}
+use Rattle.works.specs.Sets.{setIn, packed, keyOr, keysAround, keyMet, cutting, typeDrawn, deedBy, partDeeds, deeds, quadIn, CubesDrawn}
 use Rattle.works.proofs.Works.{deeds-parts, facing, own-key, near-key, near-all}
 use Rattle.works.proofs.Meant.{spotIn, opAt, opsAt, partOps, Means, parts-ops, needed-parts}
 use Rattle.indexing.specs.Due.{isBare, dueAt, dueOf, fitsIn}
@@ -34,7 +34,7 @@ due-few slots keys c w (suc (suc zero)) = setOf-lt (dueAt slots keys c w 2)
 due-few slots keys c w (suc (suc (suc j))) = setOf-lt (dueAt slots keys c w 3)
 
 -- LAW: and of cubes, if the work's are
-pub due-cubes : (kinds slots keys : List ℕ) (c : ℕ) (e : Entry) (w : Work) → Cubes kinds e w → Cubes kinds e (dueOf slots keys c w)
+pub due-cubes : (kinds slots keys : List ℕ) (c : ℕ) (e : Entry) (w : Work) → CubesDrawn kinds e w → CubesDrawn kinds e (dueOf slots keys c w)
 due-cubes kinds slots keys c e w k =
     record {
       shown = λ i l h. k .shown i l (and-true _ _ (sym (has-setOf (dueAt slots keys c w 1) i l) ∙ h) .0);
@@ -51,10 +51,10 @@ unless k false ks a = refl
 
 -- the operation of a part at a face is about that face, and cuts if the part does
 face-of : (W : World) (e : Entry) (j f k : ℕ) → faceOf (opAt W e j f k) ≡ k
-face-of W e j f k = split (λ b. faceOf (opOf (quadIn W) (deedBy b (typeAt e j f) k)) ≡ k) (cutting j) (λ _. refl) (λ _. refl)
+face-of W e j f k = split (λ b. faceOf (opOf (quadIn W) (deedBy b (typeDrawn e j f) k)) ≡ k) (cutting j) (λ _. refl) (λ _. refl)
 
 kind-of : (W : World) (e : Entry) (j f k : ℕ) → isCut (opAt W e j f k) ≡ cutting j
-kind-of W e j f k = split (λ b. isCut (opOf (quadIn W) (deedBy b (typeAt e j f) k)) ≡ b) (cutting j) (λ _. refl) (λ _. refl)
+kind-of W e j f k = split (λ b. isCut (opOf (quadIn W) (deedBy b (typeDrawn e j f) k)) ≡ b) (cutting j) (λ _. refl) (λ _. refl)
 
 -- the side at which a part is about a face
 abbrev sideIn : ℕ → ℕ → ℕ
@@ -159,15 +159,15 @@ module _ (W : World) (e : Entry) (grid : Within (W .size)) (inside : e .cell < c
 
     -- what is done at a face that a part is about, and where it is about none
     at-one : (j f k : ℕ) {b : Bool} → spots j f ≡ k ∷ [] → keyMet keys j f ≡ k → acts (opAt W e j f k) (before j) ≡ b → due j f ≡ (has (setIn w j) f && b)
-        → acting (opsAt W e (setIn w j) j f) (before j) ≡ opsOf (quadIn W) (only (due j f) (deedBy (cutting j) (typeAt e j f) (keyMet keys j f)))
+        → acting (opsAt W e (setIn w j) j f) (before j) ≡ opsOf (quadIn W) (only (due j f) (deedBy (cutting j) (typeDrawn e j f) (keyMet keys j f)))
     at-one j f k {b} s met a d = rw (s, met, d) (pick (has (setIn w j) f))
       where
-        pick : (o : Bool) → acting (cond o (opAt W e j f k ∷ []) []) (before j) ≡ opsOf (quadIn W) (only (o && b) (deedBy (cutting j) (typeAt e j f) k))
-        pick true = rw a (split (λ c. only c (opAt W e j f k) ++ [] ≡ opsOf (quadIn W) (only c (deedBy (cutting j) (typeAt e j f) k))) b (λ _. refl) (λ _. refl))
+        pick : (o : Bool) → acting (cond o (opAt W e j f k ∷ []) []) (before j) ≡ opsOf (quadIn W) (only (o && b) (deedBy (cutting j) (typeDrawn e j f) k))
+        pick true = rw a (split (λ c. only c (opAt W e j f k) ++ [] ≡ opsOf (quadIn W) (only c (deedBy (cutting j) (typeDrawn e j f) k))) b (λ _. refl) (λ _. refl))
         pick false = refl
 
     at-none : (j f : ℕ) → spots j f ≡ [] → due j f ≡ false
-        → acting (opsAt W e (setIn w j) j f) (before j) ≡ opsOf (quadIn W) (only (due j f) (deedBy (cutting j) (typeAt e j f) (keyMet keys j f)))
+        → acting (opsAt W e (setIn w j) j f) (before j) ≡ opsOf (quadIn W) (only (due j f) (deedBy (cutting j) (typeDrawn e j f) (keyMet keys j f)))
     at-none j f s d = rw (s, d) (split (λ b. acting (cond b [] []) (before j) ≡ []) (has (setIn w j) f) (λ _. refl) (λ _. refl))
 
     -- a neighbour's facing side: the part meets it, and it is as it was when the cell's own have gone
@@ -204,11 +204,11 @@ module _ (W : World) (e : Entry) (grid : Within (W .size)) (inside : e .cell < c
         never false = refl
 
     -- LAW: what is due is what changes something
-    due-at : (j f : ℕ) → j < 4 → f < 6 → acting (opsAt W e (setIn w j) j f) (before j) ≡ opsOf (quadIn W) (only (due j f) (deedBy (cutting j) (typeAt e j f) (keyMet keys j f)))
+    due-at : (j f : ℕ) → j < 4 → f < 6 → acting (opsAt W e (setIn w j) j f) (before j) ≡ opsOf (quadIn W) (only (due j f) (deedBy (cutting j) (typeDrawn e j f) (keyMet keys j f)))
     due-at zero f _ l = let k = keyOf (e .cell) f in at-one 0 f k refl (own-key (W .size) (e .cell) 0 f refl l) (sees k (omega arith)) refl
     due-at (suc zero) f _ l = go (neighbour (W .size) (e .cell) f) refl
       where
-        go : (o : Option ℕ) → neighbour (W .size) (e .cell) f ≡ o → acting (opsAt W e (w .shown) 1 f) (before 1) ≡ opsOf (quadIn W) (only (due 1 f) (deedBy false (typeAt e 1 f) (keyMet keys 1 f)))
+        go : (o : Option ℕ) → neighbour (W .size) (e .cell) f ≡ o → acting (opsAt W e (w .shown) 1 f) (before 1) ≡ opsOf (quadIn W) (only (due 1 f) (deedBy false (typeDrawn e 1 f) (keyMet keys 1 f)))
         go none q = at-none 1 f (ap (facing f) q) (none-due f l q .0)
         go (some n) q = let x = near-is f n l q in at-one 1 f (keyOf n (opposite f)) (x .spot) (x .met) (ap not (x .there-yet) ∙ split (λ b. not (not b) ≡ b) (isBare slots (keyOf n (opposite f))) (λ _. refl) (λ _. refl)) (x .due-now)
     due-at (suc (suc zero)) f _ l =
@@ -230,7 +230,7 @@ module _ (W : World) (e : Entry) (grid : Within (W .size)) (inside : e .cell < c
         come false true = refl
         come false false = refl
 
-        go : (o : Option ℕ) → neighbour (W .size) (e .cell) f ≡ o → acting (opsAt W e (w .hidden) 3 f) (before 3) ≡ opsOf (quadIn W) (only (due 3 f) (deedBy true (typeAt e 3 f) (keyMet keys 3 f)))
+        go : (o : Option ℕ) → neighbour (W .size) (e .cell) f ≡ o → acting (opsAt W e (w .hidden) 3 f) (before 3) ≡ opsOf (quadIn W) (only (due 3 f) (deedBy true (typeDrawn e 3 f) (keyMet keys 3 f)))
         go none q = at-none 3 f (ap (facing f) q) (none-due f l q .1)
         go (some n) q =
             let k = keyOf n (opposite f) in
@@ -254,9 +254,9 @@ module _ (W : World) (e : Entry) (grid : Within (W .size)) (inside : e .cell < c
     part-due j b =
         acting-sides (sideIn j) (opsAt W e (setIn w j) j) 6 0 (few-ops (setIn w j) j)
         (λ f _ l. on-spot (λ o. sideIn j (faceOf o) ≡ f) (setIn w j) j f (all-kept (λ k s. ap (sideIn j) (face-of W e j f k) ∙ s) (spots j f) (at-side j f (omega arith)))) (before j) (once-at j)
-        ∙ each-same 6 0 (λ f. acting (opsAt W e (setIn w j) j f) (before j)) (λ f. opsOf (quadIn W) (only (has (setIn d j) f) (deedBy (cutting j) (typeAt e j f) (keyMet keys j f))))
-        (λ f _ l. due-at j f b (omega arith) ∙ ap (λ (o : Bool). opsOf (quadIn W) (only o (deedBy (cutting j) (typeAt e j f) (keyMet keys j f)))) (sym (has-due j f b (omega arith))))
-        ∙ sym (map-each (opOf (quadIn W)) 6 0 (λ f. only (has (setIn d j) f) (deedBy (cutting j) (typeAt e j f) (keyMet keys j f))))
+        ∙ each-same 6 0 (λ f. acting (opsAt W e (setIn w j) j f) (before j)) (λ f. opsOf (quadIn W) (only (has (setIn d j) f) (deedBy (cutting j) (typeDrawn e j f) (keyMet keys j f))))
+        (λ f _ l. due-at j f b (omega arith) ∙ ap (λ (o : Bool). opsOf (quadIn W) (only o (deedBy (cutting j) (typeDrawn e j f) (keyMet keys j f)))) (sym (has-due j f b (omega arith))))
+        ∙ sym (map-each (opOf (quadIn W)) 6 0 (λ f. only (has (setIn d j) f) (deedBy (cutting j) (typeDrawn e j f) (keyMet keys j f))))
 
     module _ {R : rule.Work} (r : Means W e w R) where
       -- LAW: the deeds that are due are the rule's operations that change something
@@ -276,7 +276,7 @@ module _ (W : World) (e : Entry) (grid : Within (W .size)) (inside : e .cell < c
       grows j b =
           let os = partOps W e (setIn w j) j in
           let many : length (acting os (before j)) ≡ quadsOf (setIn d j) =
-          ap length (part-due j b) ∙ length-map (partDeeds keys e (setIn d j) j) (opOf (quadIn W)) ∙ omega (arith, count-each (has (setIn d j)) (λ f. deedBy (cutting j) (typeAt e j f) (keyMet keys j f)) 6 0) in
+          ap length (part-due j b) ∙ length-map (partDeeds keys e (setIn d j) j) (opOf (quadIn W)) ∙ omega (arith, count-each (has (setIn d j)) (λ f. deedBy (cutting j) (typeDrawn e j f) (keyMet keys j f)) 6 0) in
           let same = ap (λ (x : ℕ × ℕ × List Quad). length (x .2)) (acting-same os (length (before j)) (before j) (omega arith)) in
           (λ i. sym same i + cond (cutting j) (sym many i) 0) ∙ acting-count (cutting j) (acting os (before j)) (before j) (acting-all (λ o. isCut o ≡ cutting j) os (before j) (kinds (setIn w j) j)) (acting-acts os (before j))
           ∙ ap (λ (n : ℕ). length (before j) + cond (cutting j) 0 n) many

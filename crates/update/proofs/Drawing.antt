@@ -23,7 +23,7 @@ use Rattle.lent.specs.Scenes.{Typed}
 use Rattle.steps.specs.Steps.{Deed, show, hide, quadBy, opsOf, Able}
 use Rattle.steps.specs.Rows.{wordsBy, Shaped, Drawn}
 use Rattle.works.specs.declared.Work.{Work}
-use Rattle.works.specs.Sets.{setIn, packed, keyMet, cutting, typeAt, deedBy, deeds, Cubes}
+use Rattle.works.specs.Sets.{setIn, packed, keyMet, cutting, typeDrawn, deedBy, deeds, CubesDrawn}
 use Rattle.rules.proofs.Courses.{Good}
 use Rattle.works.proofs.Works.{all-deeds}
 
@@ -58,10 +58,10 @@ module _ (S : Scene) (k : Typed S) where
       }
 
   -- LAW: deeds that fit, of cubes, can be drawn
-  pub deeds-able : (keys : List ℕ) (e : Entry) (v : Work) → ((j : ℕ) → setIn v j < 64) → Cubes (S .types .kinds) e v → All (Good (faces S) (span S)) (opsOf (quadBy (wordsBy (bare S))) (deeds keys e (packed v))) → All (Able (Drawn (bare S))) (deeds keys e (packed v))
+  pub deeds-able : (keys : List ℕ) (e : Entry) (v : Work) → ((j : ℕ) → setIn v j < 64) → CubesDrawn (S .types .kinds) e v → All (Good (faces S) (span S)) (opsOf (quadBy (wordsBy (bare S))) (deeds keys e (packed v))) → All (Able (Drawn (bare S))) (deeds keys e (packed v))
   deeds-able keys e v few c good = both (deeds keys e (packed v)) good (all-deeds keys e (Able (λ k t. Shaped (bare S) t)) v few made)
     where
-      made : (j f : ℕ) → j < 4 → f < 6 → has (setIn v j) f ≡ true → Able (λ k t. Shaped (bare S) t) (deedBy (cutting j) (typeAt e j f) (keyMet keys j f))
+      made : (j f : ℕ) → j < 4 → f < 6 → has (setIn v j) f ≡ true → Able (λ k t. Shaped (bare S) t) (deedBy (cutting j) (typeDrawn e j f) (keyMet keys j f))
       made zero f _ l on = tt
       made (suc zero) f _ l on = shaped (givenAt e f) (c .shown f l on)
       made (suc (suc zero)) f _ l on = shaped (e .type) (c .drawn f l on)

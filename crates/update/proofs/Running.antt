@@ -26,7 +26,7 @@ use Rattle.steps.specs.Steps.{Step, Deed, stepsIn, Shelf, shelf, replayed, quad
 use Rattle.steps.proofs.Replaying.{replay-run}
 use Rattle.steps.specs.Rows.{wordsBy, Drawn, Replaying}
 use Rattle.works.specs.declared.Work.{Work}
-use Rattle.works.specs.Sets.{meant, setIn, packed, keyOr, keysAround, keyMet, deeds, Cubes}
+use Rattle.works.specs.Sets.{meant, setIn, packed, keyOr, keysAround, keyMet, deeds, CubesDrawn}
 use Rattle.works.proofs.Works.{all-few, near-key}
 use Rattle.works.proofs.Meant.{Means, meant-work, meant-cubes}
 use Rattle.indexing.specs.Index.{Index, indexRun, bookOf, Ground, Ready}
@@ -172,8 +172,8 @@ module _ (tested : Tested) {S : Scene} {room : ℕ} {log vs₀ ls₀ ss₀ : Lis
 
         able : All (Able (Drawn (bare S))) ds
         able =
-            let c = subst (Cubes (S .types .kinds) e) (sym (f .sets)) (meant-cubes (world S) e tested) in
-            deeds-able S (g .typed) ks e d run-dues (subst (Cubes (S .types .kinds) e) (sym (f .due)) (due-cubes (S .types .kinds) ss ks (e .cell) e w c)) good
+            let c = subst (CubesDrawn (S .types .kinds) e) (sym (f .sets)) (meant-cubes (world S) e tested) in
+            deeds-able S (g .typed) ks e d run-dues (subst (CubesDrawn (S .types .kinds) e) (sym (f .due)) (due-cubes (S .types .kinds) ss ks (e .cell) e w c)) good
 
         same : after h m os ≡ after h m (ops (works k))
         same = ap (after h m) acting-now ∙ acting-same (ops (works k)) h m (sane .reached)

@@ -17,7 +17,7 @@ use Rattle.rules.proofs.ListLaws.{split, and-true, map-each, each-same}
 use Rattle.rules.proofs.Quads.{run-append}
 use Rattle.steps.specs.Steps.{opOf}
 use Rattle.works.specs.declared.Work.{Work}
-use Rattle.works.specs.Sets.{typesBy, sets, noWork, isShown, meantBy, meant, cutting, typeAt, deedBy, quadIn, Cubes}
+use Rattle.works.specs.Sets.{typesBy, sets, noWork, isShown, meantBy, meant, cutting, typeDrawn, deedBy, quadIn, CubesDrawn}
 use Rattle.works.proofs.Works.{facing}
 
 -- the faces that a part is about at side f, if the grid has them
@@ -27,7 +27,7 @@ spotIn s c (suc zero) f = facing f (neighbour s c f)
 spotIn s c (suc (suc j)) f = spotIn s c j f
 
 abbrev pub opAt : World → Entry → ℕ → ℕ → ℕ → Op
-opAt W e j f k = opOf (quadIn W) (deedBy (cutting j) (typeAt e j f) k)
+opAt W e j f k = opOf (quadIn W) (deedBy (cutting j) (typeDrawn e j f) k)
 
 -- a part with its set, as operations
 abbrev pub opsAt : World → Entry → ℕ → ℕ → ℕ → List Op
@@ -130,18 +130,18 @@ module _ (W : World) (e : Entry) where
   nothing-in i h = absurd (false≢true (sym (zero-has i) ∙ h))
 
   -- LAW: what is drawn is of cubes
-  pub meant-cubes : (tested : Tested) → Cubes (W .kinds) e (meant tested W e)
+  pub meant-cubes : (tested : Tested) → CubesDrawn (W .kinds) e (meant tested W e)
   meant-cubes tested = go (e .change)
     where
-      idle-cubes : {own : ℕ} → Cubes (W .kinds) e (sets own 0 0 0)
+      idle-cubes : {own : ℕ} → CubesDrawn (W .kinds) e (sets own 0 0 0)
       idle-cubes = record { shown = λ i l h. nothing-in i h; drawn = λ i l h. nothing-in i h }
 
-      own-drawn : (own drawn hidden : ℕ) → Cubes (W .kinds) e (cond (isNormalCube W (e .type)) (sets own 0 drawn hidden) noWork)
+      own-drawn : (own drawn hidden : ℕ) → CubesDrawn (W .kinds) e (cond (isNormalCube W (e .type)) (sets own 0 drawn hidden) noWork)
       own-drawn own drawn hidden =
-          split (λ b. isNormalCube W (e .type) ≡ b → Cubes (W .kinds) e (cond b (sets own 0 drawn hidden) noWork)) (isNormalCube W (e .type))
+          split (λ b. isNormalCube W (e .type) ≡ b → CubesDrawn (W .kinds) e (cond b (sets own 0 drawn hidden) noWork)) (isNormalCube W (e .type))
           (λ _ c. record { shown = λ i l h. nothing-in i h; drawn = λ i l h. c }) (λ _ c. idle-cubes) refl
 
-      go : (k : Change) → Cubes (W .kinds) e (meantBy tested (typesBy (W .kinds) (W .covers)) e k)
+      go : (k : Change) → CubesDrawn (W .kinds) e (meantBy tested (typesBy (W .kinds) (W .covers)) e k)
       go Broken =
           record {
             shown = λ i l h. and-true (covering W (e .type) i) (isNormalCube W (givenAt e i)) (sym (has-setOf (isShown (W .kinds) (getD (W .covers) (e .type) 0) e) i l) ∙ h) .1;

@@ -21,7 +21,7 @@ use Rattle.entries.specs.Log.{neighbourOf}
 use Rattle.entries.specs.declared.Neighbour.the-variants.{Outside, Voxel}
 use Rattle.steps.specs.Steps.{Deed}
 use Rattle.works.specs.declared.Work.{Work}
-use Rattle.works.specs.Sets.{setIn, packed, keyOr, keyAt, keysAround, keyMet, cutting, typeAt, deedBy, partDeeds, deedBySide, deedAt, deeds}
+use Rattle.works.specs.Sets.{setIn, packed, keyOr, keyAround, keysAround, keyMet, cutting, typeDrawn, deedBy, partDeeds, deedBySide, deedAt, deeds}
 
 -- ---- types and neighbours
 given-outside : (g : ℕ) → neighbourOf g ≡ Outside → outside g ≡ true
@@ -84,7 +84,7 @@ module _ (keys : List ℕ) (e : Entry) where
   all-few sides = omega (arith, count-each (has sides) (deedBySide keys e) 24 0, count-le 24 (has sides))
 
   -- LAW: what holds at each face of the four sets holds of every deed
-  pub all-deeds : (P : Deed → Type 0) (w : Work) → ((j : ℕ) → setIn w j < 64) → ((j f : ℕ) → j < 4 → f < 6 → has (setIn w j) f ≡ true → P (deedBy (cutting j) (typeAt e j f) (keyMet keys j f))) → All P (deeds keys e (packed w))
+  pub all-deeds : (P : Deed → Type 0) (w : Work) → ((j : ℕ) → setIn w j < 64) → ((j f : ℕ) → j < 4 → f < 6 → has (setIn w j) f ≡ true → P (deedBy (cutting j) (typeDrawn e j f) (keyMet keys j f))) → All P (deeds keys e (packed w))
   all-deeds P w few holds =
       subst (All P) (sym (deeds-parts keys e w few))
       (all-append P (of 0) (of 1 ++ (of 2 ++ of 3)) (part 0 (omega arith)) (all-append P (of 1) (of 2 ++ of 3) (part 1 (omega arith)) (all-append P (of 2) (of 3) (part 2 (omega arith)) (part 3 (omega arith)))))
@@ -94,8 +94,8 @@ module _ (keys : List ℕ) (e : Entry) where
 
       part : (j : ℕ) → j < 4 → All P (partDeeds keys e (setIn w j) j)
       part j a =
-          all-each P 6 0 (λ f. only (has (setIn w j) f) (deedBy (cutting j) (typeAt e j f) (keyMet keys j f)))
-          (λ f _ b. all-if P (has (setIn w j) f) (deedBy (cutting j) (typeAt e j f) (keyMet keys j f)) (holds j f a (omega arith)))
+          all-each P 6 0 (λ f. only (has (setIn w j) f) (deedBy (cutting j) (typeDrawn e j f) (keyMet keys j f)))
+          (λ f _ b. all-if P (has (setIn w j) f) (deedBy (cutting j) (typeDrawn e j f) (keyMet keys j f)) (holds j f a (omega arith)))
 
 -- ---- the keys around a cell
 -- the facing side of a neighbour, if the grid has it
@@ -108,12 +108,12 @@ module _ (s : Size) (c : ℕ) where
   pub own-key : (j f : ℕ) → j % 2 ≡ 0 → f < 6 → keyMet (keysAround s c) j f ≡ keyOf c f
   own-key j f e l =
       let z : 6 * (j % 2) + f ≡ f = omega arith in
-      getD-table (keyAt s c) 12 (6 * (j % 2) + f) 0 (omega arith) ∙ rw (z, lt-ltb f 6 l)
+      getD-table (keyAround s c) 12 (6 * (j % 2) + f) 0 (omega arith) ∙ rw (z, lt-ltb f 6 l)
 
   pub near-key : (j f : ℕ) → j % 2 ≡ 1 → f < 6 → keyMet (keysAround s c) j f ≡ keyOr f (neighbour s c f)
   near-key j f e l =
       let z : 6 * (j % 2) + f - 6 ≡ f = omega arith in
-      getD-table (keyAt s c) 12 (6 * (j % 2) + f) 0 (omega arith) ∙ rw (le-ltb (6 * (j % 2) + f) 6 (omega arith), z)
+      getD-table (keyAround s c) 12 (6 * (j % 2) + f) 0 (omega arith) ∙ rw (le-ltb (6 * (j % 2) + f) 6 (omega arith), z)
 
   -- LAW: a facing side is another cell's, within the grid
   pub near-all : Within s → c < cells s → (P : ℕ → Type 0) (f : ℕ) → f < 6 → ((k : ℕ) → k < 6 * cells s → (k / 6 ≡ c → ⊥) → opposite (k % 6) ≡ f → P k) → All P (facing f (neighbour s c f))

@@ -54,11 +54,11 @@ keyOr f none = NONE
 keyOr f (some n) = keyOf n (opposite f)
 
 -- the keys of a cell's own sides, then of those facing them
-abbrev pub keyAt : Size → ℕ → ℕ → ℕ
-keyAt s c i = cond (ltb i 6) (keyOf c i) (keyOr (i - 6) (neighbour s c (i - 6)))
+abbrev pub keyAround : Size → ℕ → ℕ → ℕ
+keyAround s c i = cond (ltb i 6) (keyOf c i) (keyOr (i - 6) (neighbour s c (i - 6)))
 
 abbrev pub keysAround : Size → ℕ → List ℕ
-keysAround s c = table 12 (keyAt s c)
+keysAround s c = table 12 (keyAround s c)
 
 -- a part is about own sides, or about facing ones
 abbrev pub keyMet : List ℕ → ℕ → ℕ → ℕ
@@ -67,18 +67,18 @@ keyMet keys part f = getD keys (6 * (part % 2) + f) 0
 abbrev pub cutting : ℕ → Bool
 cutting part = not (eqb part 1) && not (eqb part 2)
 
-abbrev pub typeAt : Entry → ℕ → ℕ → ℕ
-typeAt e part f = cond (eqb part 1) (givenAt e f) (e .type)
+abbrev pub typeDrawn : Entry → ℕ → ℕ → ℕ
+typeDrawn e part f = cond (eqb part 1) (givenAt e f) (e .type)
 
 abbrev pub deedBy : Bool → ℕ → ℕ → Deed
 deedBy cuts t k = cond cuts (hide k) (show k t)
 
 abbrev pub partDeeds : List ℕ → Entry → ℕ → ℕ → List Deed
-partDeeds keys e set part = each 6 0 (λ f. only (has set f) (deedBy (cutting part) (typeAt e part f) (keyMet keys part f)))
+partDeeds keys e set part = each 6 0 (λ f. only (has set f) (deedBy (cutting part) (typeDrawn e part f) (keyMet keys part f)))
 
 -- the same by the one number, 6 · part + face
 abbrev pub deedBySide : List ℕ → Entry → ℕ → Deed
-deedBySide keys e i = deedBy (cutting (i / 6)) (typeAt e (i / 6) (i % 6)) (keyMet keys (i / 6) (i % 6))
+deedBySide keys e i = deedBy (cutting (i / 6)) (typeDrawn e (i / 6) (i % 6)) (keyMet keys (i / 6) (i % 6))
 
 abbrev pub deedAt : List ℕ → Entry → ℕ → ℕ → List Deed
 deedAt keys e sides i = only (has sides i) (deedBySide keys e i)
@@ -90,6 +90,6 @@ abbrev pub quadIn : World → ℕ → ℕ → Quad
 quadIn W = quadBy (λ k t. W .wordsOf t (k % 6) (k / 6))
 
 -- what is drawn is of NormalCubes
-pub record Cubes (kinds : List ℕ) (e : Entry) (w : Work) : Type 0 where
+pub record CubesDrawn (kinds : List ℕ) (e : Entry) (w : Work) : Type 0 where
   pub shown : (i : ℕ) → i < 6 → has (w .shown) i ≡ true → eqb (getD kinds (givenAt e i) 0) 1 ≡ true
   pub drawn : (i : ℕ) → i < 6 → has (w .drawn) i ≡ true → eqb (getD kinds (e .type) 0) 1 ≡ true

@@ -27,7 +27,7 @@ ghost use Rattle.face.specs.Face.{number};
 ghost use Rattle.util.specs.Grid.{sizeOf, tripleOf, Within, Inverts};
 ghost use Rattle.entries.specs.Log.{entryIn};
 ghost use Rattle.terms.specs.Modes.{testedBy};
-ghost use Rattle.works.specs.Sets.{typesBy, isShown, sets, noWork, meant, setIn, packed, keyOr, keysAround, cutting, typeAt};
+ghost use Rattle.works.specs.Sets.{typesBy, isShown, sets, noWork, meant, setIn, packed, keyOr, keysAround, cutting, typeDrawn};
 
 // All six sides.
 const ALL_SIDES: u8 = 63;
@@ -227,7 +227,7 @@ pub fn does_cut(i: u32) -> bool
 
 // The type that is drawn there.
 pub fn type_of(entry: Entry, i: u32) -> u8
-    ensures { λ r. ⌜ r ≡ typeAt (entryIn entry) (i / 6) (i % 6) ⌝ }
+    ensures { λ r. ⌜ r ≡ typeDrawn (entryIn entry) (i / 6) (i % 6) ⌝ }
 {
     if (5 < i) & (i < 12) {
         return given(entry, i - 6);
