@@ -45,8 +45,9 @@ struct chunk {
     struct bytes outer, grid;
 };
 
+/* Without colour `colours` may be no list at all. */
 struct mesh {
-    struct words vertices, triangles, links, slots;
+    struct words positions, normals, uvs, colours, triangles, links, slots;
 };
 
 struct answer {
@@ -88,7 +89,10 @@ static inline struct answer mesh(const struct chunk *c, const struct types *t, e
         bits(t->d[0]), bits(t->d[1]), bits(t->d[2]),
         bits(t->centre[0]), bits(t->centre[1]), bits(t->centre[2]),
         algorithm,
-        m.vertices.at, m.vertices.len,
+        m.positions.at, m.positions.len,
+        m.normals.at, m.normals.len,
+        m.uvs.at, m.uvs.len,
+        m.colours.at, m.colours.len,
         m.triangles.at, m.triangles.len,
         m.links.at, m.links.len,
         m.slots.at, m.slots.len,
@@ -101,7 +105,10 @@ static inline struct answer mend(struct mesh m, uint64_t count, const struct chu
                                  enum meshem_tested tested, const struct types *t) {
     struct answer told = {0, 0, 0, 0};
     told.number = meshem_update_mesh(
-        m.vertices.at, m.vertices.len,
+        m.positions.at, m.positions.len,
+        m.normals.at, m.normals.len,
+        m.uvs.at, m.uvs.len,
+        m.colours.at, m.colours.len,
         m.triangles.at, m.triangles.len,
         m.links.at, m.links.len,
         m.slots.at, m.slots.len,
@@ -131,7 +138,10 @@ static inline struct answer check(const struct chunk *c, const struct types *t, 
         t->coloured,
         bits(t->d[0]), bits(t->d[1]), bits(t->d[2]),
         bits(t->centre[0]), bits(t->centre[1]), bits(t->centre[2]),
-        m.vertices.at, m.vertices.len,
+        m.positions.at, m.positions.len,
+        m.normals.at, m.normals.len,
+        m.uvs.at, m.uvs.len,
+        m.colours.at, m.colours.len,
         m.triangles.at, m.triangles.len,
         m.links.at, m.links.len,
         m.slots.at, m.slots.len,

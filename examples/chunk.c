@@ -7,15 +7,17 @@
 
 enum { AIR, ROCK, SLAB, TYPES };
 enum { WIDTH = 3, HEIGHT = 2, LENGTH = 4, CELLS = WIDTH * HEIGHT * LENGTH };
-enum { QUADS = 16, FLOATS = 12, CUBE = 24 * FLOATS };
+enum { QUADS = 16, CUBE = 24 * 12 };
 
 /* cells go by y, then z, then x. The second of these is to the Right of the first, the third on top of the second */
 enum { DUG = (0 * LENGTH + 2) * WIDTH + 1, KEPT = DUG + 1, ABOVE = KEPT + LENGTH * WIDTH };
 
 static uint32_t cubes[TYPES * CUBE];
-static uint32_t vertices[QUADS * 4 * FLOATS], triangles[QUADS * 6], links[QUADS], slots[CELLS * 6];
+static uint32_t positions[QUADS * 12], normals[QUADS * 12], uvs[QUADS * 8], colours[QUADS * 16];
+static uint32_t triangles[QUADS * 6], links[QUADS], slots[CELLS * 6];
 static const struct mesh lists = {
-    {vertices, QUADS * 4 * FLOATS}, {triangles, QUADS * 6}, {links, QUADS}, {slots, CELLS * 6}};
+    {positions, QUADS * 12}, {normals, QUADS * 12}, {uvs, QUADS * 8},    {colours, QUADS * 16},
+    {triangles, QUADS * 6},  {links, QUADS},        {slots, CELLS * 6}};
 
 static const uint8_t kinds[TYPES] = {NOTHING, NORMAL_CUBE, NORMAL_CUBE};
 static const uint8_t covers[TYPES] = {0, 63, 1 << BOTTOM}; /* nothing, all six sides, its underside */
@@ -62,10 +64,13 @@ static void show(uint32_t cell, enum face face) {
     uint32_t first = slots[6 * cell + face];
     if (first == UINT32_MAX) return;
     for (uint32_t vertex = first; vertex < first + 4; vertex++) {
-        float f[FLOATS];
-        memcpy(f, vertices + FLOATS * vertex, sizeof f);
-        printf("  at %g %g %g facing %g %g %g uv %g %g colour %g %g %g %g\n", f[0], f[1], f[2], f[3], f[4], f[5], f[6], f[7],
-               f[8], f[9], f[10], f[11]);
+        float at[3], facing[3], uv[2], colour[4];
+        memcpy(at, positions + 3 * vertex, sizeof at);
+        memcpy(facing, normals + 3 * vertex, sizeof facing);
+        memcpy(uv, uvs + 2 * vertex, sizeof uv);
+        memcpy(colour, colours + 4 * vertex, sizeof colour);
+        printf("  at %g %g %g facing %g %g %g uv %g %g colour %g %g %g %g\n", at[0], at[1], at[2], facing[0], facing[1],
+               facing[2], uv[0], uv[1], colour[0], colour[1], colour[2], colour[3]);
     }
 }
 

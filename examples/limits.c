@@ -7,7 +7,7 @@
 #include "calls.h"
 
 enum { AIR, ROCK, TYPES };
-enum { FLOATS = 8, CUBE = 24 * FLOATS, CELLS = 1024 * 32 * 33, QUADS = 170000 };
+enum { CUBE = 24 * 8, CELLS = 1024 * 32 * 33, QUADS = 170000 };
 
 static const uint8_t kinds[TYPES] = {NOTHING, NORMAL_CUBE};
 static const uint8_t covers[TYPES] = {0, 63};
@@ -88,13 +88,13 @@ static void refused(uint32_t w, uint32_t h, uint32_t l) {
     struct chunk chunk = chunk_of(w, h, l, AIR);
     struct mesh m = lists_of(&chunk);
     struct bytes no_entry = {NULL, 0};
-    struct words *lists[4] = {&m.vertices, &m.triangles, &m.links, &m.slots};
+    struct words *lists[6] = {&m.positions, &m.normals, &m.uvs, &m.triangles, &m.links, &m.slots};
     int kept = 1;
-    for (uint32_t i = 0; i < 4; i++) fill(*lists[i], i < 3 ? i + 1 : UINT32_MAX);
+    for (uint32_t i = 0; i < 6; i++) fill(*lists[i], i < 5 ? i + 1 : UINT32_MAX);
     printf("%ux%ux%u: mesh %s", w, h, l, name(mesh(&chunk, &types, CULLING, m).number));
     printf(", update %s", name(mend(m, 0, &chunk, no_entry, MESHEM_TESTED_ITSELF, &types).number));
     printf(", check %s", name(check(&chunk, &types, m, 0).number));
-    for (uint32_t i = 0; i < 4; i++) kept = kept && holds_only(*lists[i], i < 3 ? i + 1 : UINT32_MAX);
+    for (uint32_t i = 0; i < 6; i++) kept = kept && holds_only(*lists[i], i < 5 ? i + 1 : UINT32_MAX);
     printf("; lists %s\n", kept ? "as they were" : "changed");
 }
 
@@ -107,7 +107,9 @@ static struct words words_of(size_t len) {
 int main(void) {
     grid = malloc(CELLS);
     if (!grid) return 1;
-    room = (struct mesh){words_of(QUADS * 4 * FLOATS), words_of(QUADS * 6), words_of(QUADS), words_of(6 * (size_t)CELLS)};
+    room = (struct mesh){
+        .positions = words_of(QUADS * 12), .normals = words_of(QUADS * 12), .uvs = words_of(QUADS * 8),
+        .triangles = words_of(QUADS * 6), .links = words_of(QUADS), .slots = words_of(6 * (size_t)CELLS)};
     printf("cube: %s\n", name(build_rock().number));
     solid(1024, 32, 32);
     solid(32, 1024, 32);

@@ -10,6 +10,8 @@
 enum { AIR, ROCK, SLAB, TYPES };
 enum { WIDTH = 3, HEIGHT = 2, LENGTH = 4, CELLS = WIDTH * HEIGHT * LENGTH };
 enum { QUADS = 20, MOST_FLOATS = 12, MOST_CUBE = 24 * MOST_FLOATS };
+/* words of a list past its last quad or cell. Some are lent, of each list another number and none of them a quad; the rest are not */
+enum { PAST = 24, NO_COLOURS = 37 };
 
 static const uint32_t SPARE = 0x5A5A5A5A, NO_QUAD = UINT32_MAX;
 
@@ -18,7 +20,12 @@ static const uint32_t SPARE = 0x5A5A5A5A, NO_QUAD = UINT32_MAX;
 static const uint8_t kinds[TYPES] = {NOTHING, NORMAL_CUBE, NORMAL_CUBE};
 static const uint8_t covers[TYPES] = {0, 63, 1 << BOTTOM};
 static uint32_t cubes[TYPES * MOST_CUBE];
-static uint32_t vertices[QUADS * 4 * MOST_FLOATS], triangles[QUADS * 6], links[QUADS], slots[CELLS * 6];
+
+struct memory {
+    uint32_t positions[QUADS * 12 + PAST], normals[QUADS * 12 + PAST], uvs[QUADS * 8 + PAST], colours[QUADS * 16 + PAST];
+    uint32_t triangles[QUADS * 6 + PAST], links[QUADS + PAST], slots[CELLS * 6 + PAST];
+};
+static struct memory now;
 
 /* by y, then z, then x: a cell's number is y·12 + z·3 + x */
 static const uint8_t ground[CELLS] = {[7] = ROCK, [8] = ROCK, [15] = SLAB};
@@ -52,7 +59,9 @@ static struct types types_of(uint32_t coloured) {
 
 static struct mesh lists_of(uint32_t coloured) {
     return (struct mesh){
-        {vertices, QUADS * 4 * floats(coloured)}, {triangles, QUADS * 6}, {links, QUADS}, {slots, CELLS * 6}};
+        {now.positions, QUADS * 12 + 7}, {now.normals, QUADS * 12 + 11}, {now.uvs, QUADS * 8 + 3},
+        {now.colours, coloured ? QUADS * 16 + 13 : NO_COLOURS},
+        {now.triangles, QUADS * 6 + 5}, {now.links, QUADS}, {now.slots, CELLS * 6 + 2}};
 }
 
 /* a slab is the lower half of its cell */
@@ -124,7 +133,7 @@ static void quad_due(struct side side, const uint8_t *grid, uint32_t coloured, f
 
 static unsigned words_held, answers_held, differences;
 
-static void hold(const char *what, const uint32_t *got, const void *due, size_t count) {
+static void hold(const char *what, const void *got, const void *due, size_t count) {
     words_held += count;
     if (memcmp(got, due, 4 * count) == 0) return;
     differences++;
@@ -148,24 +157,36 @@ static void fill(uint32_t *list, size_t count, uint32_t word) {
     while (count > 0) list[--count] = word;
 }
 
+static void spare(struct memory *lists) {
+    memset(lists, SPARE & 255, sizeof *lists);
+}
+
+/* the floats of an attribute, of the four vertices of a quad */
+static void part(const float *quad, uint32_t coloured, int from, int count, uint32_t *list) {
+    for (int i = 0; i < 4; i++) memcpy(list + count * i, quad + floats(coloured) * i + from, 4 * count);
+}
+
 /* the lists of a mesh: its quads, zeros from there to the highest count that there was, then what was there before */
 static void hold_mesh(const char *what, const struct side *sides, uint32_t count, uint32_t highest, const uint8_t *grid,
                       uint32_t coloured) {
     static const uint32_t pattern[6] = {0, 1, 2, 3, 2, 1};
-    static uint32_t v[QUADS * 4 * MOST_FLOATS], t[QUADS * 6], l[QUADS], s[CELLS * 6];
-    uint32_t size = 4 * floats(coloured);
-    fill(v, QUADS * size, SPARE), fill(t, QUADS * 6, SPARE), fill(l, QUADS, SPARE), fill(s, CELLS * 6, NO_QUAD);
-    fill(v, highest * size, 0), fill(t, highest * 6, 0), fill(l, highest, 0);
+    static struct memory due;
+    spare(&due);
+    fill(due.positions, highest * 12, 0), fill(due.normals, highest * 12, 0), fill(due.uvs, highest * 8, 0);
+    fill(due.triangles, highest * 6, 0), fill(due.links, highest, 0), fill(due.slots, CELLS * 6, NO_QUAD);
+    if (coloured) fill(due.colours, highest * 16, 0);
     for (uint32_t q = 0; q < count; q++) {
         float quad[4 * MOST_FLOATS];
         quad_due(sides[q], grid, coloured, quad);
-        memcpy(v + q * size, quad, 4 * size);
-        for (int i = 0; i < 6; i++) t[6 * q + i] = 4 * q + pattern[i];
-        l[q] = sides[q].cell | (5 - sides[q].face) << 29;
-        s[6 * sides[q].cell + sides[q].face] = 4 * q;
+        part(quad, coloured, 0, 3, due.positions + 12 * q);
+        part(quad, coloured, 3, 3, due.normals + 12 * q);
+        part(quad, coloured, 6, 2, due.uvs + 8 * q);
+        if (coloured) part(quad, coloured, 8, 4, due.colours + 16 * q);
+        for (int i = 0; i < 6; i++) due.triangles[6 * q + i] = 4 * q + pattern[i];
+        due.links[q] = sides[q].cell | (5 - sides[q].face) << 29;
+        due.slots[6 * sides[q].cell + sides[q].face] = 4 * q;
     }
-    hold(what, vertices, v, QUADS * size), hold(what, triangles, t, QUADS * 6);
-    hold(what, links, l, QUADS), hold(what, slots, s, CELLS * 6);
+    hold(what, &now, &due, sizeof now / 4);
 }
 
 /* ---- the calls ---- */
@@ -197,8 +218,7 @@ static struct answer mesh_afresh(enum algorithm algorithm, uint32_t coloured) {
     struct chunk chunk = chunk_of(ground);
     struct types types = types_of(coloured);
     struct mesh lists = lists_of(coloured);
-    fill(vertices, lists.vertices.len, SPARE), fill(triangles, lists.triangles.len, SPARE);
-    fill(links, lists.links.len, SPARE), fill(slots, lists.slots.len, SPARE);
+    spare(&now);
     return mesh(&chunk, &types, algorithm, lists);
 }
 
@@ -238,6 +258,25 @@ static void mesh_and_check(uint32_t coloured) {
         refused("check of another d", check(&chunk, &types, lists, FRESH), MESHEM_WRONG_VERTEX, 0);
         mesh_afresh(CULLING, coloured);
     }
+}
+
+/* a float of a quad in each attribute's list: the check names the first quad that differs in any. Colours count with colour alone */
+static void wrong_vertices(uint32_t coloured) {
+    struct chunk chunk = chunk_of(ground);
+    struct mesh lists = lists_of(coloured);
+    struct types types = types_of(coloured);
+    uint32_t *words[4] = {now.positions + 12 * 6 + 11, now.normals + 12 * 9, now.uvs + 8 * 2 + 7, now.colours + 16 * 1 + 15};
+    static const uint64_t quads[4] = {6, 9, 2, 1};
+    mesh_afresh(CULLING, coloured);
+    for (uint32_t i = 0; i < 3 + coloured; i++) {
+        *words[i] ^= 1;
+        refused("a vertex", check(&chunk, &types, lists, FRESH), MESHEM_WRONG_VERTEX, quads[i]);
+        *words[i] ^= 1;
+    }
+    for (uint32_t i = 0; i < 4; i++) *words[i] ^= 1u << 31;
+    refused("a vertex of each", check(&chunk, &types, lists, FRESH), MESHEM_WRONG_VERTEX, coloured ? 1 : 2);
+    for (uint32_t i = 0; i < 3 + coloured; i++) *words[i] ^= 1u << 31;
+    refused("other colours", check(&chunk, &types, lists, FRESH), MESHEM_DONE, 0);
 }
 
 static void mend_and_check(enum meshem_tested tested, uint32_t coloured) {
@@ -308,7 +347,7 @@ static void refusals_of_meshes(void) {
     refused_by_both("outer", &chunk, &types, lists, MESHEM_BAD_FACE, 1);
     chunk = right, chunk.grid.at = no_type;
     refused_by_both("grid", &chunk, &types, lists, MESHEM_BAD_CELL, 5);
-    room = lists, room.slots.len--;
+    room = lists, room.slots.len = CELLS * 6 - 1;
     refused_by_both("slots", &right, &types, room, MESHEM_SHORT_ROOM, 0);
     room = lists, room.links.len = FRESH - 1;
     refused("links", mesh(&right, &types, CULLING, room), MESHEM_NO_ROOM, 0);
@@ -321,8 +360,7 @@ static void damaged(const char *what, uint32_t *word, uint32_t number, uint64_t 
     const struct types types = types_of(0);
     *word ^= 1;
     refused(what, check(&chunk, &types, lists_of(0), FRESH), number, place);
-    if (number != MESHEM_WRONG_VERTEX)
-        refused(what, mend(lists_of(0), FRESH, &chunk, two_entries, MESHEM_TESTED_ITSELF, &types), number, place);
+    refused(what, mend(lists_of(0), FRESH, &chunk, two_entries, MESHEM_TESTED_ITSELF, &types), number, place);
     *word ^= 1;
 }
 
@@ -345,15 +383,14 @@ static void refusals_of_updates(void) {
     refused("d", mend(lists, FRESH, &right, two_entries, tested, &other), MESHEM_BAD_NUMBER, 0);
     other = types, other.centre[0] = 20;
     refused("centre", mend(lists, FRESH, &right, two_entries, tested, &other), MESHEM_NOT_A_CUBE, ROCK);
-    room = lists, room.slots.len--;
+    room = lists, room.slots.len = CELLS * 6 - 1;
     refused("slots", mend(room, FRESH, &right, two_entries, tested, &types), MESHEM_SHORT_ROOM, 0);
     refused("count", mend(lists, QUADS + 1, &right, two_entries, tested, &types), MESHEM_BAD_COUNT, 0);
     refused("too few", mend(lists, FRESH - 1, &right, two_entries, tested, &types), MESHEM_BAD_LINKS, FRESH - 1);
     refused("entry", mend(lists, FRESH, &right, (struct bytes){outside, 12}, tested, &types), MESHEM_BAD_ENTRY, 0);
     refused("ragged end", mend(lists, FRESH, &right, (struct bytes){entries, 35}, tested, &types), MESHEM_BAD_ENTRY, 2);
-    damaged("a link", links + 4, MESHEM_BAD_LINKS, 4);
-    damaged("a triangle", triangles + 6 * 3 + 2, MESHEM_BAD_TRIANGLES, 3);
-    damaged("a vertex", vertices + 4 * 8 * 6 + 8 * 2 + 7, MESHEM_WRONG_VERTEX, 6);
+    damaged("a link", now.links + 4, MESHEM_BAD_LINKS, 4);
+    damaged("a triangle", now.triangles + 6 * 3 + 2, MESHEM_BAD_TRIANGLES, 3);
 }
 
 /* a refused call changes nothing: the mesh is as fresh after all of them */
@@ -373,16 +410,34 @@ static void numbers(void) {
     }
 }
 
+/* Wrong on purpose, and so to be told: a first and a last word, and each number of an answer. How many of them are. */
+enum { WRONG = 6 };
+static unsigned wrong_told(void) {
+    static const uint32_t due[3] = {1, 2, 3}, first[3] = {4, 2, 3}, last[3] = {1, 2, 4};
+    const struct answer told = {MESHEM_NO_ROOM, 1, 22, 3};
+    unsigned others = differences;
+    hold("wrong on purpose", first, due, 3);
+    hold("wrong on purpose", last, due, 3);
+    answered("wrong on purpose", told, MESHEM_BAD_COUNT, 1, 22, 3);
+    answered("wrong on purpose", told, MESHEM_NO_ROOM, 2, 22, 3);
+    answered("wrong on purpose", told, MESHEM_NO_ROOM, 1, 23, 3);
+    answered("wrong on purpose", told, MESHEM_NO_ROOM, 1, 22, 4);
+    unsigned found = differences - others;
+    differences = others;
+    return found;
+}
+
 int main(void) {
     numbers();
     for (uint32_t coloured = 0; coloured < 2; coloured++) {
         build_cubes(coloured);
         mesh_naively(coloured);
         mesh_and_check(coloured);
+        wrong_vertices(coloured);
         mend_and_check(MESHEM_TESTED_OPPOSITE, coloured);
         mend_and_check(MESHEM_TESTED_ITSELF, coloured);
     }
     refusals();
     printf("%u words and %u answers held to document 01, %u differ\n", words_held, answers_held, differences);
-    return differences > 0;
+    return differences > 0 || wrong_told() != WRONG;
 }

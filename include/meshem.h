@@ -8,6 +8,12 @@
  * Lists do not overlap, by Rust's rule: what a call writes (the lists without `const`, and the outputs) shares no
  * memory with another list or output of the call. Lists that are only read may share memory with one another.
  *
+ * A mesh is seven lists. Four hold the attributes of its vertices, of each quad four vertices in the same order:
+ * positions and normals have 12 words a quad, uvs 8, colours 16. Triangles have 6 words a quad, links 1, slots 6 a cell.
+ * The room in quads is the least that a list holds, slots aside. Without colour the colour list is neither read nor
+ * written nor counted; it may have any length, 0 too. A cube's vertex has its attributes together, 8 floats or 12, in
+ * `out` as in the registry's `cubes`.
+ *
  * Within these rules each call takes every number, length and content. It returns 0 or the number of a refusal. After
  * success `place` is 0; after a refusal the counts are 0 and nothing else has changed, but for an update's
  * MESHEM_NO_ROOM, which keeps the entries before `place` and tells their counts. meshem_abi alone returns a level.
@@ -26,7 +32,7 @@ extern "C" {
  * The level of these declarations; meshem_abi returns the library's. Where they differ a call may misread what it is
  * given, so a program compares the two before its first call. A library of level 1 lacks meshem_abi.
  */
-#define MESHEM_ABI 2u
+#define MESHEM_ABI 3u
 uint32_t meshem_abi(void);
 
 enum meshem_refusal {
@@ -71,7 +77,7 @@ uint32_t meshem_generate_voxel_mesh(
     uint32_t *out, size_t out_len,                      /* 24 vertices */
     uint64_t *place);
 
-/* Writes the mesh of a grid into the four lists, and its count of quads. */
+/* Writes the mesh of a grid into the seven lists, and its count of quads. */
 uint32_t meshem_mesh_grid(
     uint32_t width, uint32_t height, uint32_t length,
     const uint8_t *outer, size_t outer_len,             /* face numbers */
@@ -83,7 +89,10 @@ uint32_t meshem_mesh_grid(
     uint32_t dx, uint32_t dy, uint32_t dz,
     uint32_t cx, uint32_t cy, uint32_t cz,
     uint32_t algorithm,                                 /* 0 Naive, else Culling */
-    uint32_t *vertices, size_t vertices_len,
+    uint32_t *positions, size_t positions_len,          /* 12 a quad */
+    uint32_t *normals, size_t normals_len,              /* 12 a quad */
+    uint32_t *uvs, size_t uvs_len,                      /* 8 a quad */
+    uint32_t *colours, size_t colours_len,              /* 16 a quad, with colour */
     uint32_t *triangles, size_t triangles_len,
     uint32_t *links, size_t links_len,
     uint32_t *slots, size_t slots_len,
@@ -91,7 +100,10 @@ uint32_t meshem_mesh_grid(
 
 /* Mends a mesh in place by a log, and counts its quads and those that moved. */
 uint32_t meshem_update_mesh(
-    uint32_t *vertices, size_t vertices_len,
+    uint32_t *positions, size_t positions_len,          /* 12 a quad */
+    uint32_t *normals, size_t normals_len,              /* 12 a quad */
+    uint32_t *uvs, size_t uvs_len,                      /* 8 a quad */
+    uint32_t *colours, size_t colours_len,              /* 16 a quad, with colour */
     uint32_t *triangles, size_t triangles_len,
     uint32_t *links, size_t links_len,
     uint32_t *slots, size_t slots_len,
@@ -107,7 +119,7 @@ uint32_t meshem_update_mesh(
     uint32_t cx, uint32_t cy, uint32_t cz,
     uint64_t *place, uint64_t *quads, uint64_t *moved);
 
-/* Says whether the four lists hold the culled mesh of a grid with `count` quads. */
+/* Says whether the seven lists hold the culled mesh of a grid with `count` quads. */
 uint32_t meshem_check_mesh(
     uint32_t width, uint32_t height, uint32_t length,
     const uint8_t *outer, size_t outer_len,             /* face numbers */
@@ -118,7 +130,10 @@ uint32_t meshem_check_mesh(
     uint32_t coloured,                                  /* 0 no, else yes */
     uint32_t dx, uint32_t dy, uint32_t dz,
     uint32_t cx, uint32_t cy, uint32_t cz,
-    const uint32_t *vertices, size_t vertices_len,
+    const uint32_t *positions, size_t positions_len,    /* 12 a quad */
+    const uint32_t *normals, size_t normals_len,        /* 12 a quad */
+    const uint32_t *uvs, size_t uvs_len,                /* 8 a quad */
+    const uint32_t *colours, size_t colours_len,        /* 16 a quad, with colour */
     const uint32_t *triangles, size_t triangles_len,
     const uint32_t *links, size_t links_len,
     const uint32_t *slots, size_t slots_len,

@@ -8,7 +8,7 @@ import random
 
 from cube_vectors import INF, NAN, cube, f, shape
 from mesh_vectors import some_types
-from plain_mesh import JUNK, UNIT, call, faces, floats, mesh
+from plain_mesh import EACH, JUNK, LISTS, SLOTS, UNIT, attributes, call, counted, faces, mesh, words_for
 from sure import sure
 from trials import (ADD_FACES, ADDED, BROKEN, CHECK, CULL_FACES, CULLING, NAIVE, NONE, OUTSIDE, UPDATE, UPDATE_ITSELF, Trials, beside, cell_count,
                     covers, entry, spare)
@@ -20,13 +20,13 @@ ALONE = (OUTSIDE,) * 6
 
 def base(m, more=12):
     """Keeps the fresh mesh of a scene, with room for so many quads more and a few words past that; answers its count."""
-    trials.base(m, spare(mesh(m), 4 * floats(m) * more + 5, 6 * more + 1, more, 7))
+    trials.base(m, spare(mesh(m), *[n + past for n, past in zip(words_for(m, more), (5, 9, 3, 7, 1, 0))], 7))
     return len(faces(m))
 
 
 def fit(m, quads):
     """Lent lengths for exactly so many quads."""
-    return dict(vertices=4 * floats(m) * quads, triangles=6 * quads, links=quads)
+    return dict(zip(LISTS[:SLOTS], words_for(m, quads)))
 
 
 def by(face, code):
@@ -61,15 +61,19 @@ sure(add(UPDATE, 10, BREAK + BUILD, **fit(PAIR, 10)) == (14, 1, 6, 14))
 sure(add(UPDATE, 10, BREAK + BUILD, **fit(PAIR, 11))[:3] == (0, 0, 10))
 sure(check_goes_on([1, 1]) == (0, 0, 0, 0))
 sure(add(UPDATE, 10, BREAK + BUILD)[:3] == (0, 0, 10) and add(UPDATE, 10) == (0, 0, 10, 0))
-for scarce in ("vertices", "triangles", "links"):
-    for more in (0, 31, 32) if scarce == "vertices" else (0, 5, 6) if scarce == "triangles" else (0, 1):
-        most = dict(vertices=320, triangles=60, links=10)[scarce] + more
-        told = add(UPDATE, 10, BREAK + BUILD, **{scarce: most})
-        sure(told[:2] == ((0, 0) if more in (1, 6, 32) else (14, 1)))
+TINTED_CUBE = cube(shape(coloured=True, colour=NAN, alpha=0xFFC12345))
+TINTED = call(grid=[1, 1], coloured=True, cubes=TINTED_CUBE * 2)
+for m in (PAIR, TINTED):  # the room is what the shortest list holds, each in its turn
+    base(m)
+    for k in counted(m):
+        for length in (10 * EACH[k], 11 * EACH[k] - 1, 11 * EACH[k]):
+            sure(add(UPDATE, 10, BREAK + BUILD, **{LISTS[k]: length})[:2] == ((14, 1) if length < 11 * EACH[k] else (0, 0)))
+base(PAIR)
+for length in range(8):  # without colour any list of colours will do
+    sure(add(UPDATE, 10, BREAK + BUILD, colours=length)[:3] == (0, 0, 10))
 
 # ---- one quad removed, from every place of meshes of 6 to 14: Q - q from 1 to 14
-TINTED_CUBE = cube(shape(coloured=True, colour=NAN, alpha=0xFFC12345))
-ROWS = [call(grid=[1] * n) for n in (1, 2, 3)] + [call(grid=[1, 1], coloured=True, cubes=TINTED_CUBE * 2)]
+ROWS = [call(grid=[1] * n) for n in (1, 2, 3)] + [TINTED]
 for m in ROWS:
     count = base(m, 2)
     for q, (cell, _, face) in enumerate(faces(m)):
@@ -78,7 +82,8 @@ base(ROWS[1], 2)
 sure(add(UPDATE, 10, entry(0, CULL_FACES, 0, *by(5, 0)))[3] == 5)  # quad 4
 sure(add(UPDATE, 10, entry(0, CULL_FACES, 0, *by(4, 0)))[3] == 1 and keys()[3] == (1, 5))  # quad 3
 for q in range(10):  # bits of no number go with their quad
-    add(UPDATE, 10, entry(0, CULL_FACES, 1, *by(3, 1)) + BREAK, before=[(trials.at("vertices", 32 * q + k), 0x7F800001 + 977 * k) for k in range(32)])
+    places = [trials.at(LISTS[k], EACH[k] * q + i) for k in attributes(PAIR) for i in range(EACH[k])]
+    add(UPDATE, 10, entry(0, CULL_FACES, 1, *by(3, 1)) + BREAK, before=[(at, 0x7F800001 + 977 * i) for i, at in enumerate(places)])
 
 # ---- 01's cases 7, 8 and 9
 for covering, quads, fresh in ((2, 11, 10), (1, 10, 11)):
@@ -288,7 +293,7 @@ refusal(9, 0, slots=0)
 refusal(9, 0, before=[(1, 4)])  # a grid of 24 slots
 refusal(10, 0, count=14)
 refusal(10, 0, count=NONE)
-for lent in (dict(vertices=319), dict(triangles=59), dict(links=9), dict(vertices=0), dict(links=0)):
+for lent in (dict(positions=119), dict(normals=119), dict(uvs=79), dict(triangles=59), dict(links=9), dict(normals=0), dict(links=0)):
     refusal(10, 0, **lent)
 for q in range(10):
     link, slot = trials.kept[L + q], S + 6 * (q // 5) + [0, 1, 3, 4, 5, 0, 1, 2, 4, 5][q]

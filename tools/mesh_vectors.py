@@ -8,7 +8,7 @@ Run it at the repository's root; stored.py says where it writes.
 import random
 
 from cube_vectors import INF, MAX, NAN, NEG, ONE, bits, cube, f, shape
-from plain_mesh import JUNK, NONE, PLENTY, UNIT, call, fit, mesh
+from plain_mesh import COLOURS, EACH, JUNK, LINKS, LISTS, NONE, PLENTY, POSITIONS, SLOTS, UNIT, UVS, call, counted, fit, mesh
 from sure import sure
 from trials import CHECK, CULLING, NAIVE, PARTS, Trials, spare
 
@@ -17,7 +17,7 @@ trials = Trials()
 
 def base(cells, types, cubes, *room):
     """Keeps lists for so many cells and types, for cubes and for a mesh; each case patches its scene in."""
-    trials.base(call(grid=[0] * cells, kinds=[0] * types, covers=[0] * types, cubes=cubes), spare(([], [], [], []), *room))
+    trials.base(call(grid=[0] * cells, kinds=[0] * types, covers=[0] * types, cubes=cubes), spare(([],) * len(LISTS), *room))
 
 
 def scene_patches(m):
@@ -50,8 +50,14 @@ def longer(m, *by):
     return dict(m, lent=[n + k for n, k in zip(m["lent"], by)])
 
 
+def lent_of(m, k, length):
+    """The scene with so much of one list, and more than enough of all others, of each another number."""
+    lent = longer(m, 60, 55, 43, 39, 32, 7, 5)["lent"]
+    return dict(m, lent=lent[:k] + [length] + lent[k + 1:])
+
+
 # ---- the meshes worked by hand
-base(1025, 3, [0] * 576, 1750, 330, 60, 6150)
+base(1025, 3, [0] * 576, 660, 657, 447, 199, 330, 60, 6150)
 PAIR = call(grid=[1, 1])
 sure(add(call()) == (0, 6))
 sure(add(PAIR) == (0, 10))
@@ -62,21 +68,24 @@ sure(add(call(grid=[1, 0], covers=[63, 63])) == (0, 5))
 for covers, quads in ((2, 10), (1, 11)):
     sure(add(call(dims=[1, 2, 1], grid=[1, 2], kinds=[0, 1, 1], covers=[0, 63, covers], cubes=JUNK + UNIT * 2)) == (0, quads))
 SIXTH = call(dims=[2, 2, 2], grid=[0, 0, 0, 0, 0, 1, 0, 0])
-sure(add(SIXTH) == (0, 6) and mesh(SIXTH)[2][0] == 2684354565 and mesh(call())[2][5] == 0 and mesh(call())[3][0] == 0)
+sure(add(SIXTH) == (0, 6) and mesh(SIXTH)[LINKS][0] == 2684354565 and mesh(call())[LINKS][5] == 0 and mesh(call())[SLOTS][0] == 0)
 
 # ---- room
 sure(add(dict(PAIR, lent=fit(PAIR, 9))) == (14, 0) and add(dict(PAIR, lent=fit(PAIR, 10))) == (0, 10))
-for by in ((-1, 0, 0, 0), (0, -1, 0, 0), (0, 0, -1, 0), (-32, 0, 0, 0), (0, -6, 0, 0), (31, -1, 3, 0), (-320, 0, 0, 0), (0, 0, -10, 0)):
-    sure(add(longer(PAIR, *by)) == (14, 0))
-sure(add(longer(PAIR, 0, 0, 0, -1)) == (9, 0) and add(longer(PAIR, 0, 0, 0, -12)) == (9, 0))
-for by in ((31, 5, 0, 0), (1, 0, 0, 0), (0, 1, 0, 0), (0, 0, 1, 1), (32, 6, 1, 6), (47, 3, 2, 5), (999, 99, 9, 88)):
-    sure(add(longer(PAIR, *by)) == (0, 10))
 TINTED = call(grid=[1, 1], coloured=True, cubes=cube(shape(coloured=True, colour=ONE, alpha=bits(0.5))) * 2)
-sure(add(TINTED) == (0, 10) and add(longer(TINTED, -1, 0, 0, 0)) == (14, 0) and add(longer(TINTED, 47, 5, 2, 7)) == (0, 10))
-sure(add(dict(TINTED, lent=[320, 60, 10, 12])) == (14, 0))  # enough without colour
+sure(add(TINTED) == (0, 10))
+for m in (PAIR, TINTED):
+    for k in counted(m):  # each list alone is short, or has just enough, or all but a word of one quad more
+        for length in (10 * EACH[k] - 1, 9 * EACH[k], 0):
+            sure(add(lent_of(m, k, length)) == (14, 0))
+        sure(add(lent_of(m, k, 10 * EACH[k])) == add(lent_of(m, k, 11 * EACH[k] - 1)) == (0, 10))
+    sure(add(longer(m, 0, 0, 0, 0, 0, 0, -1)) == add(longer(m, 0, 0, 0, 0, 0, 0, -12)) == (9, 0))
+    sure(add(longer(m, 11, 7, 5, 15, 3, 0, 0)) == add(longer(m, 12, 12, 8, 16, 6, 1, 6)) == (0, 10))
+for length in (0, 1, 31, 159, 160, 199):  # without colour any list of colours will do
+    sure(add(lent_of(PAIR, COLOURS, length)) == (0, 10))
 for more in (0, 5):
-    sure(add(call(grid=[0, 0, 0], lent=[0, 0, 0, 18 + more])) == (0, 0))
-sure(add(call(lent=[0, 0, 0, 6])) == (14, 0))
+    sure(add(call(grid=[0, 0, 0], lent=[0] * 6 + [18 + more])) == (0, 0))
+sure(add(call(lent=[0] * 6 + [6])) == (14, 0))
 
 # ---- sizes
 for n in (2, 5):
@@ -118,7 +127,7 @@ def faulty(*parts):
     lent = list(m["lent"])
     for part in parts:
         m.update({k: x for k, x in part.items() if k not in ("slots", "links")})
-        lent[3], lent[2] = part.get("slots", lent[3]), part.get("links", lent[2])
+        lent[SLOTS], lent[LINKS] = part.get("slots", lent[SLOTS]), part.get("links", lent[LINKS])
     return dict(m, lent=lent)
 
 
@@ -142,16 +151,16 @@ sure(add(call(grid=[1, 0, 2, 255, 2])) == (8, 2) and add(call(grid=[255])) == (8
 
 # ---- positions: rounded after the product and after the sum; past the greatest; d that is not the cubes'
 TENTH = call(grid=[1] * 4, d=[0x3DCCCCCD] * 3, cubes=JUNK + cube(shape(d=[0x3DCCCCCD] * 3)))
-sure(add(TENTH) == (0, 18) and 0x3EB33334 in mesh(TENTH)[0] and 0x3EB33333 not in mesh(TENTH)[0])
+sure(add(TENTH) == (0, 18) and 0x3EB33334 in mesh(TENTH)[POSITIONS] and 0x3EB33333 not in mesh(TENTH)[POSITIONS])
 VAST = call(grid=[1, 1, 1], d=[MAX] * 3)
-sure(add(VAST) == (0, 14) and INF in mesh(VAST)[0])
+sure(add(VAST) == (0, 14) and INF in mesh(VAST)[POSITIONS])
 sure(add(call(dims=[2, 2, 2], grid=[1] * 8, d=[NEG | MAX, NEG, 1])) == (0, 24))
 sure(add(call(grid=[1, 1], d=[0] * 3)) == (0, 10))
 
 # ---- 255 types, the registry's floats seven cubes over and over
 TILES = [cube(shape(atlas=[8, 8], texture=[w for k in range(6) for w in (k, t, k)])) for t in range(7)]
 CUBES = (sum(TILES, []) * 37)[:192 * 256]
-base(4, 256, CUBES, 780, 150, 25, 32)
+base(4, 256, CUBES, 295, 291, 194, 0, 150, 25, 32)
 
 
 def many(count, **more):
@@ -164,7 +173,7 @@ SWAPPED["kinds"][254] = 1
 SWAPPED["lent"] = fit(SWAPPED, 20, 30)
 sure(add(SWAPPED) == (0, 20) and add(dict(SWAPPED, culling=False)) == (14, 0))
 sure(add(dict(SWAPPED, culling=False, lent=fit(SWAPPED, 24))) == (0, 24))
-sure(mesh(SWAPPED)[0][6:8] == TILES[254 % 7][6:8] != TILES[253 % 7][6:8])
+sure(mesh(SWAPPED)[UVS][:2] == TILES[254 % 7][6:8] != TILES[253 % 7][6:8])
 sure(add(many(255, grid=[254])) == (0, 0) and add(many(255, grid=[253, 254, 252])) == (0, 6))
 sure(add(many(255, grid=[254, 255])) == (8, 1) and add(many(254, grid=[253, 254])) == (8, 1))
 sure(add(many(256)) == (3, 255))
@@ -195,12 +204,12 @@ def some_types(coloured):
     return dict(d=d, centre=centre, cubes=cubes, kinds=kinds, covers=covers, coloured=coloured)
 
 
-base(64, 7, [0] * 2016, 4320, 860, 200, 450)
+base(64, 7, [0] * 2016, 2184, 2184, 1476, 700, 1122, 237, 444)
 for turn in range(32):
     dims = [4, 4, 4] if turn in (6, 17) else [rng.choice((1, 1, 2, 2, 3, 4)) for _ in range(3)]
     m = call(dims=dims, grid=[rng.randint(0, 6) for _ in range(dims[0] * dims[1] * dims[2])],
              culling=turn % 4 != 3, outer=[rng.randint(0, 5) for _ in range(rng.choice((0, 0, 1, 2, 9)))], **some_types(turn % 3 == 1))
-    number, quads = add(longer(m, *[rng.choice((0, 1, 7, 60)) for _ in range(4)]))
+    number, quads = add(longer(m, *[rng.choice((0, 1, 7, 60)) for _ in range(7)]))
     sure(number == 0)
     if quads and turn % 11 == 0:
         sure(add(dict(m, lent=fit(m, quads - 1))) == (14, 0))

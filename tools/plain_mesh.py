@@ -1,4 +1,4 @@
-"""Document 01's fresh meshing in plain Python, and scenes to try it on.
+"""Document 01's fresh meshing in plain Python, its attributes apart as document 02's Q-8 has them, and scenes to try it on.
 
 A scene with what is lent is a dictionary, made by `call`. No code of the crates is used; cubes, float steps and the types' tests are those of
 cube_vectors.py.
@@ -7,11 +7,33 @@ from cube_vectors import INF, NAN, ONE, bits, cube, op, shape, types_answer
 
 NONE = 0xFFFFFFFF
 STEPS = [(0, 1, 0), (0, -1, 0), (1, 0, 0), (-1, 0, 0), (0, 0, 1), (0, 0, -1)]  # Top, Bottom, Right, Left, Back, Forward
-PLENTY = (1 << 40,) * 4  # room for any mesh
+LISTS = ("positions", "normals", "uvs", "colours", "triangles", "links", "slots")
+EACH = (12, 12, 8, 16, 6, 1)  # words a quad of all but the slots
+POSITIONS, NORMALS, UVS, COLOURS, TRIANGLES, LINKS, SLOTS = range(7)
+PLENTY = (1 << 40,) * 7  # room for any mesh
 
 
 def floats(m):
     return 12 if m["coloured"] else 8
+
+
+def counted(m):
+    """The lists that the room is counted by: without colour not the colours."""
+    return [k for k in range(SLOTS) if k != COLOURS or m["coloured"]]
+
+
+def attributes(m):
+    return [k for k in counted(m) if k < TRIANGLES]
+
+
+def room(m, lent):
+    """How many quads lists of these lengths hold."""
+    return min(lent[k] // EACH[k] for k in counted(m))
+
+
+def words_for(m, quads):
+    """How many words of each list but the slots so many quads take."""
+    return [EACH[k] * quads if k in counted(m) else 0 for k in range(SLOTS)]
 
 
 def cells(m):
@@ -54,33 +76,33 @@ def answer(m):
     for cell, code in enumerate(m["grid"]):
         if code >= len(m["kinds"]):
             return 8, cell
-    vertices, triangles, links, slots = m["lent"]
-    if slots < 6 * w * h * l:
+    if m["lent"][SLOTS] < 6 * w * h * l:
         return 9, 0
-    room = min(vertices // (4 * floats(m)), triangles // 6, links)
-    return (14, 0) if len(faces(m)) > room else (0, 0)
+    return (14, 0) if len(faces(m)) > room(m, m["lent"]) else (0, 0)
 
 
 def quad(m, code, at, face):
-    """The words of a quad's four vertices, drawn from a type's cube."""
+    """The words of each attribute of a quad, drawn from a type's cube: four vertices each. Without colour there are no words of it."""
     n = floats(m)
-    words = []
+    apart = [], [], [], []
     for v in (4 * face, 4 * face + 1, 4 * face + 3, 4 * face + 2):
         start = n * (24 * code + v)
         vertex = m["cubes"][start:start + n]
-        words += [op("+", vertex[k], op("*", bits(float(at[k])), m["d"][k])) for k in range(3)] + vertex[3:]
-    return words
+        position = [op("+", vertex[k], op("*", bits(float(at[k])), m["d"][k])) for k in range(3)]
+        for words, part in zip(apart, (position, vertex[3:6], vertex[6:8], vertex[8:])):
+            words += part
+    return apart
 
 
 def mesh(m):
-    """The words of vertices, triangles, links and slots."""
-    vertices, triangles, links, slots = [], [], [], [NONE] * (6 * len(m["grid"]))
+    """The words of all seven lists."""
+    lists = [], [], [], [], [], [], [NONE] * (6 * len(m["grid"]))
     for q, (cell, at, face) in enumerate(faces(m)):
-        vertices += quad(m, m["grid"][cell], at, face)
-        triangles += [4 * q + k for k in (0, 1, 2, 3, 2, 1)]
-        links.append(cell | 5 - face << 29)
-        slots[6 * cell + face] = 4 * q
-    return vertices, triangles, links, slots
+        link = cell | 5 - face << 29
+        for words, part in zip(lists, quad(m, m["grid"][cell], at, face) + ([4 * q + k for k in (0, 1, 2, 3, 2, 1)], [link])):
+            words += part
+        lists[SLOTS][6 * cell + face] = 4 * q
+    return lists
 
 
 # ---- scenes
@@ -88,7 +110,7 @@ def mesh(m):
 
 def fit(m, quads, slots=None):
     """The lent lengths that exactly so many quads fill."""
-    return [4 * floats(m) * quads, 6 * quads, quads, 6 * len(m["grid"]) if slots is None else slots]
+    return words_for(m, quads) + [6 * len(m["grid"]) if slots is None else slots]
 
 
 UNIT = cube(shape())

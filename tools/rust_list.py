@@ -49,10 +49,11 @@ def registry(r):
 
 
 def mesh(r, m):
-    """Vertices, triangles, links and slots."""
+    """Positions, normals, uvs, colours, triangles, links and slots."""
     quads = r.one()
-    links, triangles, vertices = r.many(quads), r.many(6 * quads), r.many(4 * quads * floats(m["coloured"]))
-    return vertices, triangles, links, r.many(6 * len(m["grid"]))
+    links, triangles = r.many(quads), r.many(6 * quads)
+    positions, normals, uvs, colours = r.many(12 * quads), r.many(12 * quads), r.many(8 * quads), r.many(16 * quads if m["coloured"] else 0)
+    return positions, normals, uvs, colours, triangles, links, r.many(6 * len(m["grid"]))
 
 
 def grid(r, types):
@@ -69,7 +70,7 @@ def answers():
     with open("oracle/vectors/rust_answers.bin", "rb") as file:
         data = file.read()
     words = Reader(list(struct.unpack("<%dI" % (len(data) // 4), data)))
-    sure(words.many(2) == [int.from_bytes(b"MSHS", "little"), 1])
+    sure(words.many(2) == [int.from_bytes(b"MSHS", "little"), 2])
     cubes, grids, types = [], [], None
     for _ in range(words.one()):
         tag = words.one()

@@ -1,29 +1,29 @@
 """Document 01's update, in both modes of document 02's Q-2, and check in plain Python, and the records that crates/trials_run reads.
 
-A mesh is four lists of words. An update takes them for a list of quads (cell, face, words), works on that as 01's sentences say, and lays it
-out again. No code of the crates is used; cubes, fresh meshing and the types' tests are those of cube_vectors.py and plain_mesh.py.
+A mesh is seven lists of words. An update takes them for a list of quads (cell, face, words by attribute), works on that as 01's sentences say, and
+lays it out again. No code of the crates is used; cubes, fresh meshing and the types' tests are those of cube_vectors.py and plain_mesh.py.
 The record format stands at the head of crates/trials_run/src/main.rt.
 """
 import struct
 
 import plain_mesh
 from cube_vectors import types_answer
-from plain_mesh import NONE, PLENTY, STEPS, call, faces, floats, mesh
+from plain_mesh import EACH, LINKS, LISTS, NONE, PLENTY, SLOTS, STEPS, TRIANGLES, attributes, call, faces, floats, mesh
 from stored import counted, keep_set, spoiled
 from sure import sure
 
 NAIVE, CULLING, UPDATE, CHECK, UPDATE_ITSELF = range(5)
 BROKEN, ADDED, CULL_FACES, ADD_FACES = range(4)
 OUTSIDE = 255
-HEAD, ROOM = 19, 65536
-LENGTHS, TOLD = 11, 14  # where a base has the lengths of its lists, and a trial its answer
-PARTS = ("grid", "kinds", "covers", "cubes", "vertices", "triangles", "links", "slots")
+HEAD, ROOM = 22, 65536
+LENGTHS, TOLD = 11, 17  # where a base has the lengths of its lists, and a trial its answer
+PARTS = ("grid", "kinds", "covers", "cubes") + LISTS
 
 known = {}
 
 
 def quad(m, code, cell, face):
-    """A quad's words, each worked out once."""
+    """A quad's words by attribute, each worked out once."""
     w, _, l = m["dims"]
     at = (cell % w, cell // (w * l), cell // w % l)
     n = 24 * floats(m)
@@ -43,7 +43,12 @@ def bad_size(m):
 
 
 def room(m, lists):
-    return min(len(lists[0]) // (4 * floats(m)), len(lists[1]) // 6, len(lists[2]))
+    return plain_mesh.room(m, [len(words) for words in lists])
+
+
+def words_of(m, lists, q):
+    """A quad's words by attribute, as they stand in a mesh."""
+    return [lists[k][EACH[k] * q:EACH[k] * (q + 1)] if k in attributes(m) else [] for k in range(TRIANGLES)]
 
 
 def beside(m, cell, face):
@@ -66,7 +71,7 @@ def pattern(q):
 
 def book_answer(m, lists, count):
     """SHORT_ROOM, BAD_COUNT, BAD_LINKS, BAD_TRIANGLES."""
-    _, triangles, links, slots = lists
+    triangles, links, slots = lists[TRIANGLES:]
     cells = cell_count(m)
     if len(slots) < 6 * cells:
         return 9, 0
@@ -86,18 +91,17 @@ def book_answer(m, lists, count):
 
 def check(m, lists, count):
     """Number and place."""
-    plenty = PLENTY[:3] + (len(lists[3]),)
+    plenty = PLENTY[:SLOTS] + (len(lists[SLOTS]),)
     for answer in (plain_mesh.answer(dict(m, lent=plenty)), book_answer(m, lists, count)):
         if answer[0]:
             return answer
     drawn = {6 * cell + face for cell, _, face in faces(m)}
-    filled = {k for k in range(6 * cell_count(m)) if lists[3][k] != NONE}
+    filled = {k for k in range(6 * cell_count(m)) if lists[SLOTS][k] != NONE}
     if drawn != filled:
         return 15, min(drawn ^ filled)
-    n = 4 * floats(m)
     for q in range(count):
-        cell, face = lists[2][q] & 0x1FFFFFFF, 5 - (lists[2][q] >> 29)
-        if lists[0][n * q:n * q + n] != quad(m, m["grid"][cell], cell, face):
+        cell, face = lists[LINKS][q] & 0x1FFFFFFF, 5 - (lists[LINKS][q] >> 29)
+        if words_of(m, lists, q) != list(quad(m, m["grid"][cell], cell, face)):
             return 16, q
     return 0, 0
 
@@ -163,17 +167,19 @@ def remove(quads, cell, face):
 
 def laid(m, lists, quads, highest):
     """The lists with these quads, zero up to the highest count there was, and as they were past it."""
-    n = 4 * floats(m)
     cells = cell_count(m)
-    zeros = highest - len(quads)
     slots = [NONE] * (6 * cells)
     for q, (cell, face, _) in enumerate(quads):
         slots[6 * cell + face] = 4 * q
-    return [
-        sum((words for _, _, words in quads), []) + [0] * (n * zeros) + lists[0][n * highest:],
-        sum((pattern(q) for q in range(len(quads))), []) + [0] * (6 * zeros) + lists[1][6 * highest:],
-        [cell | 5 - face << 29 for cell, face, _ in quads] + [0] * zeros + lists[2][highest:],
-        slots + lists[3][6 * cells:]]
+
+    def list_laid(k, by_quad):
+        return sum(by_quad, []) + [0] * (EACH[k] * (highest - len(quads))) + lists[k][EACH[k] * highest:]
+
+    apart = [list_laid(k, [words[k] for _, _, words in quads]) if k in attributes(m) else lists[k] for k in range(TRIANGLES)]
+    return apart + [
+        list_laid(TRIANGLES, [pattern(q) for q in range(len(quads))]),
+        list_laid(LINKS, [[cell | 5 - face << 29] for cell, face, _ in quads]),
+        slots + lists[SLOTS][6 * cells:]]
 
 
 def update(m, lists, count, log, tested=opposite):
@@ -184,8 +190,7 @@ def update(m, lists, count, log, tested=opposite):
     for number, place in (book_answer(m, lists, count), entries_answer(m, log)):
         if number:
             return (number, place, 0, 0), lists
-    n = 4 * floats(m)
-    quads = [(lists[2][q] & 0x1FFFFFFF, 5 - (lists[2][q] >> 29), lists[0][n * q:n * q + n]) for q in range(count)]
+    quads = [(link & 0x1FFFFFFF, 5 - (link >> 29), words_of(m, lists, q)) for q, link in enumerate(lists[LINKS][:count])]
     highest, moved = count, 0
     for i, one in enumerate(entries(log)):
         first, drawn, after = plan(m, tested, *one)
@@ -236,7 +241,7 @@ class Trials:
         self.records, self.tried = [], 0
 
     def base(self, m, lists):
-        """Keeps a scene and four lists, spare room and all."""
+        """Keeps a scene and the lists of a mesh, spare room and all."""
         parts = [m["grid"], m["kinds"], m["covers"], m["cubes"]] + list(lists)
         head = [0] + m["dims"] + [int(m["coloured"])] + m["d"] + m["centre"] + [len(part) for part in parts]
         sure(len(head) == HEAD and max(m["grid"] + m["kinds"] + m["covers"]) < 256)
@@ -261,7 +266,7 @@ class Trials:
         old = self.image if goes_on else self.kept
         image = list(old)
         for place, word in before:
-            sure(not HEAD - 8 <= place < HEAD)
+            sure(not LENGTHS <= place < HEAD)
             image[place] = word
         grid, kinds, covering, cubes, *lists = self.lent_parts(image, lent)
         m = dict(dims=image[1:4], coloured=image[4] == 1, d=image[5:8], centre=image[8:11], grid=grid, kinds=kinds, covers=covering,
@@ -272,8 +277,8 @@ class Trials:
             told = check(m, lists, count) + (0, 0)
         else:
             number, place = plain_mesh.answer(m)
-            fresh = mesh(m) if number == 0 else ([], [], [], [])
-            told = number, place, len(fresh[2]), 0
+            fresh = mesh(m) if number == 0 else ([],) * len(LISTS)
+            told = number, place, len(fresh[LINKS]), 0
             lists = [new + was[len(new):] for new, was in zip(fresh, lists)]
         after = list(image)
         for name, n, words in zip(PARTS[4:], lent[4:], lists):
@@ -334,9 +339,9 @@ def ill_formed(trials, fine):
     last = len(trials.kept) - 1
     return [
         headed(fine, w0=2), headed(naive, w1=5), headed(fine, w2=2),
-        headed(outer, w12=5), headed(fine, w13=1), headed(fine + [HEAD, 1, 1], w18=4),  # an outer list, a log and patches that are cut short
-        headed(fine, w4=fine[4] + 1), headed(fine, w11=fine[11] + 1),  # more of the first list, and of the last, than there is
-        headed(fine + [1], w18=1), fine + [1],  # half a patch, before the call and after
+        headed(outer, w15=5), headed(fine, w16=1), headed(fine + [HEAD, 1, 1], w21=4),  # an outer list, a log and patches that are cut short
+        headed(fine, w4=fine[4] + 1), headed(fine, w14=fine[14] + 1),  # more of the first list, and of the last, than there is
+        headed(fine + [1], w21=1), fine + [1],  # half a patch, before the call and after
         fine + [HEAD, 2, 1], fine + [last, 2, trials.kept[last], 0],  # a patch of fewer words than it says, and one past the base
         fine + [0, 1, 0], fine + [LENGTHS, 1, trials.kept[LENGTHS]], fine + [HEAD - 1, 1, trials.kept[HEAD - 1]],  # of the tag, of lengths
         fine[:HEAD - 1]]
@@ -345,7 +350,7 @@ def ill_formed(trials, fine):
 def add_wrong(trials):
     """Adds trials that are wrong in one thing each: a program that leaves a comparison out counts one of them right. Answers how many."""
     m = call(grid=[1, 1])
-    trials.base(m, spare(mesh(m), 5, 1, 2, 3))
+    trials.base(m, spare(mesh(m), 5, 4, 3, 6, 1, 2, 3))
     fine = trials.only_made((0, 0, 0, 0), CHECK, 10)
     wrong = wrong_answers(trials) + ill_formed(trials, fine)
     trials.records += wrong

@@ -17,6 +17,11 @@ pub trait Calls {
     fn mesh_grid(&self, case: &Case, room: &mut Words) -> Answer;
     fn update_mesh(&self, case: &Case, room: &mut Words, count: u64) -> Answer;
     fn check_mesh(&self, case: &Case, mesh: &Words, count: u64) -> Answer;
+
+    /// Whether it takes the attributes in one list, as `room::joined` lays them out.
+    fn takes_joined(&self) -> bool {
+        false
+    }
 }
 
 /// Document 01 in plain Rust.
@@ -47,7 +52,15 @@ impl Calls for Plain {
     }
 
     fn check_mesh(&self, case: &Case, mesh: &Words, count: u64) -> Answer {
-        let held = plain::Held { vertices: &mesh.vertices, triangles: &mesh.triangles, links: &mesh.links, slots: &mesh.slots };
+        let held = plain::Held {
+            positions: &mesh.positions,
+            normals: &mesh.normals,
+            uvs: &mesh.uvs,
+            colours: &mesh.colours,
+            triangles: &mesh.triangles,
+            links: &mesh.links,
+            slots: &mesh.slots,
+        };
         plain::check_mesh(sizes(case), &case.outer, &case.grid, &types(&case.types), held, count)
             .map_or_else(refused, |()| Answer::default())
     }
@@ -117,7 +130,10 @@ fn types(t: &Types) -> plain::Types<'_> {
 
 fn buffers(room: &mut Words) -> plain::Buffers<'_> {
     plain::Buffers {
-        vertices: &mut room.vertices,
+        positions: &mut room.positions,
+        normals: &mut room.normals,
+        uvs: &mut room.uvs,
+        colours: &mut room.colours,
         triangles: &mut room.triangles,
         links: &mut room.links,
         slots: &mut room.slots,

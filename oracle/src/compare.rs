@@ -76,10 +76,8 @@ fn agree_list(what: &str, library: &[u32], other: &[u32]) -> Compared {
 }
 
 fn agree_words(what: &str, library: &Words, other: &Words) -> Compared {
-    agree_list(&format!("{what}: link"), &library.links, &other.links)?;
-    agree_list(&format!("{what}: slot"), &library.slots, &other.slots)?;
-    agree_list(&format!("{what}: triangle word"), &library.triangles, &other.triangles)?;
-    agree_list(&format!("{what}: float"), &library.vertices, &other.vertices)
+    let mut lists = library.lists().into_iter().zip(other.lists());
+    lists.try_for_each(|((word, list), (_, other))| agree_list(&format!("{what}: {word}"), list, other))
 }
 
 /// What an update answers, and what it leaves in the room.
@@ -158,10 +156,10 @@ impl<'a> Comparison<'a> {
         agree(&format!("{what}: refusal"), (answer.number, answer.place), (0, 0))?;
         agree(&format!("{what}: quads"), answer.quads, expected.links.len() as u64)?;
         agree_words(what, &front(room, expected.links.len(), case), expected)?;
-        let lists = [&expected.vertices, &expected.triangles, &expected.links];
+        let words: usize = expected.lists().iter().map(|(_, list)| list.len()).sum();
         self.tally.quads += answer.quads;
         self.tally.index_entries += expected.slots.len() as u64;
-        self.tally.words += lists.iter().map(|list| list.len() as u64).sum::<u64>();
+        self.tally.words += (words - expected.slots.len()) as u64;
         Ok(())
     }
 

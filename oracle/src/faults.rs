@@ -40,6 +40,15 @@ fn set<T>(place: Option<&mut T>, value: T) {
     }
 }
 
+fn attribute<'a>(random: &mut Random, room: &'a mut Words) -> &'a mut Vec<u32> {
+    match random.below(4) {
+        0 => &mut room.positions,
+        1 => &mut room.normals,
+        2 => &mut room.uvs,
+        _ => &mut room.colours,
+    }
+}
+
 impl Faulty {
     /// A cube, and a mesh that the Rust built in little room, with one to three things made wrong.
     pub fn of(parameters: &CubeParameters, case: &Case, seed: u64) -> Faulty {
@@ -88,7 +97,7 @@ impl Faulty {
             19 => case.types.coloured = !case.types.coloured,
             20 => { let face = r.below(8) as u8; case.outer.push(face) }
             21 => { let fewer = r.below(room.slots.len() + 1); room.slots.truncate(room.slots.len() - fewer.min(3)) }
-            22 => { let fewer = r.below(80).min(room.vertices.len()); room.vertices.truncate(room.vertices.len() - fewer) }
+            22 => { let list = attribute(r, room); list.truncate(list.len().saturating_sub(r.below(40))) }
             23 => { let fewer = r.below(16).min(room.triangles.len()); room.triangles.truncate(room.triangles.len() - fewer) }
             24 => { let fewer = r.below(3).min(room.links.len()); room.links.truncate(room.links.len() - fewer) }
             25 => *count = r.pick(&[0, count.wrapping_sub(1), count.wrapping_add(1), u64::MAX, 1 << 32]),
@@ -97,7 +106,7 @@ impl Faulty {
             28 => { let word = r.below(8) as u32; set(any(r, &mut room.triangles), word) }
             29 => { let byte = r.pick(&[0, 1, 3, 4, 5, 254, 255]); set(any(r, &mut case.log), byte) }
             30 => { let ragged = r.below(12); case.log.extend(r.bytes(ragged, 256)) }
-            _ => { let word = r.word(); set(any(r, &mut room.vertices), word) }
+            _ => { let (list, word) = (attribute(r, room), r.word()); set(any(r, list), word) }
         }
     }
 }

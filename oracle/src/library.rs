@@ -6,7 +6,7 @@ use crate::rust::{CubeParameters, Words, ENTRY};
 use plain::Tested;
 
 /// The level of the C interface that is called here. A library of level 1 lacks `meshem_abi`, and does not link.
-const LEVEL: u32 = 2;
+const LEVEL: u32 = 3;
 
 /// Words for the side itself: any but 0 is one.
 const ITSELF: [u32; 6] = [1, 2, 0x100, 0x1_0000, 0x8000_0000, u32::MAX];
@@ -23,13 +23,21 @@ fn tested_word(case: &Case) -> u32 {
 /// What the outputs hold before a call: the call has to write each.
 const UNWRITTEN: u64 = 0xDEAD_DEAD_DEAD_DEAD;
 
-/// The library of an archive whose calls have a prefix before their names.
+/// The library of an archive whose calls have a prefix before their names, and lists of these attributes: `joined` with one of vertices, as up
+/// to level 2, which stands for the positions.
 #[rustfmt::skip]
 macro_rules! linked {
     ($library:ident, $archive:literal, $prefix:literal) => {
+        linked!($library, $archive, $prefix, false, positions normals uvs colours);
+    };
+    (joined $library:ident, $archive:literal, $prefix:literal) => {
+        linked!($library, $archive, $prefix, true, positions);
+    };
+    ($library:ident, $archive:literal, $prefix:literal, $joined:literal, $($attribute:ident)+) => {
         pub struct $library;
 
         const _: () = {
+            #[allow(clashing_extern_declarations, reason = "an archive is called as its level says")]
             #[link(name = $archive, kind = "static", modifiers = "-bundle")]
             extern "C" {
                 #[link_name = concat!($prefix, "meshem_abi")]
@@ -59,14 +67,14 @@ macro_rules! linked {
                     coloured: u32,
                     dx: u32, dy: u32, dz: u32, cx: u32, cy: u32, cz: u32,
                     algorithm: u32,
-                    vertices: *mut u32, vertices_len: usize, triangles: *mut u32, triangles_len: usize,
+                    $($attribute: *mut u32, _: usize,)+ triangles: *mut u32, triangles_len: usize,
                     links: *mut u32, links_len: usize, slots: *mut u32, slots_len: usize,
                     place: *mut u64, quads: *mut u64,
                 ) -> u32;
 
                 #[link_name = concat!($prefix, "meshem_update_mesh")]
                 fn meshem_update_mesh(
-                    vertices: *mut u32, vertices_len: usize, triangles: *mut u32, triangles_len: usize,
+                    $($attribute: *mut u32, _: usize,)+ triangles: *mut u32, triangles_len: usize,
                     links: *mut u32, links_len: usize, slots: *mut u32, slots_len: usize,
                     count: u64,
                     width: u32, height: u32, length: u32,
@@ -85,7 +93,7 @@ macro_rules! linked {
                     kinds: *const u8, kinds_len: usize, covers: *const u8, covers_len: usize,
                     cubes: *const u32, cubes_len: usize, coloured: u32,
                     dx: u32, dy: u32, dz: u32, cx: u32, cy: u32, cz: u32,
-                    vertices: *const u32, vertices_len: usize, triangles: *const u32, triangles_len: usize,
+                    $($attribute: *const u32, _: usize,)+ triangles: *const u32, triangles_len: usize,
                     links: *const u32, links_len: usize, slots: *const u32, slots_len: usize,
                     count: u64,
                     place: *mut u64,
@@ -93,8 +101,12 @@ macro_rules! linked {
             }
 
             impl $library {
+                pub fn level() -> u32 {
+                    unsafe { meshem_abi() }
+                }
+
                 pub fn assert_level() {
-                    assert_eq!(unsafe { meshem_abi() }, LEVEL, "the level of the C interface of {}", stringify!($library));
+                    assert_eq!(Self::level(), LEVEL, "the level of the C interface of {}", stringify!($library));
                 }
             }
 
@@ -132,7 +144,7 @@ macro_rules! linked {
                             t.coloured as u32,
                             t.d[0], t.d[1], t.d[2], t.centre[0], t.centre[1], t.centre[2],
                             !case.naive as u32,
-                            room.vertices.as_mut_ptr(), room.vertices.len(), room.triangles.as_mut_ptr(), room.triangles.len(),
+                            $(room.$attribute.as_mut_ptr(), room.$attribute.len(),)+ room.triangles.as_mut_ptr(), room.triangles.len(),
                             room.links.as_mut_ptr(), room.links.len(), room.slots.as_mut_ptr(), room.slots.len(),
                             &mut place, &mut quads,
                         )
@@ -145,7 +157,7 @@ macro_rules! linked {
                     let t = &case.types;
                     let number = unsafe {
                         meshem_update_mesh(
-                            room.vertices.as_mut_ptr(), room.vertices.len(), room.triangles.as_mut_ptr(), room.triangles.len(),
+                            $(room.$attribute.as_mut_ptr(), room.$attribute.len(),)+ room.triangles.as_mut_ptr(), room.triangles.len(),
                             room.links.as_mut_ptr(), room.links.len(), room.slots.as_mut_ptr(), room.slots.len(),
                             count,
                             case.dims[0], case.dims[1], case.dims[2],
@@ -170,13 +182,17 @@ macro_rules! linked {
                             t.kinds.as_ptr(), t.kinds.len(), t.covers.as_ptr(), t.covers.len(),
                             t.cubes.as_ptr(), t.cubes.len(), t.coloured as u32,
                             t.d[0], t.d[1], t.d[2], t.centre[0], t.centre[1], t.centre[2],
-                            mesh.vertices.as_ptr(), mesh.vertices.len(), mesh.triangles.as_ptr(), mesh.triangles.len(),
+                            $(mesh.$attribute.as_ptr(), mesh.$attribute.len(),)+ mesh.triangles.as_ptr(), mesh.triangles.len(),
                             mesh.links.as_ptr(), mesh.links.len(), mesh.slots.as_ptr(), mesh.slots.len(),
                             count,
                             &mut place,
                         )
                     };
                     Answer { number, place, ..Answer::default() }
+                }
+
+                fn takes_joined(&self) -> bool {
+                    $joined
                 }
             }
         };
@@ -196,17 +212,42 @@ pub mod placed {
     linked!(Now48, "placed", "now48_");
 }
 
-/// A former one likewise, and the two at each place.
+/// A former one likewise, called as its level says, and the two at each place.
 #[cfg(feature = "beside")]
 pub mod former {
     use super::placed::*;
     use super::*;
     use crate::rows::Places;
 
-    linked!(Former0, "placed", "former0_");
-    linked!(Former16, "placed", "former16_");
-    linked!(Former32, "placed", "former32_");
-    linked!(Former48, "placed", "former48_");
+    pub mod level_2 {
+        use super::*;
 
-    pub const PLACES: Places = [[&Now0, &Former0], [&Now16, &Former16], [&Now32, &Former32], [&Now48, &Former48]];
+        linked!(joined Former0, "placed", "former0_");
+        linked!(joined Former16, "placed", "former16_");
+        linked!(joined Former32, "placed", "former32_");
+        linked!(joined Former48, "placed", "former48_");
+    }
+
+    pub mod level_3 {
+        use super::*;
+
+        linked!(Former0, "placed", "former0_");
+        linked!(Former16, "placed", "former16_");
+        linked!(Former32, "placed", "former32_");
+        linked!(Former48, "placed", "former48_");
+    }
+
+    pub fn level() -> u32 {
+        level_3::Former0::level()
+    }
+
+    pub fn places() -> Places<'static> {
+        let formers: [&dyn Calls; 4] = match level() {
+            2 => [&level_2::Former0, &level_2::Former16, &level_2::Former32, &level_2::Former48],
+            3 => [&level_3::Former0, &level_3::Former16, &level_3::Former32, &level_3::Former48],
+            level => panic!("the former library is of level {level}, and this program knows 2 and 3"),
+        };
+        let now: [&dyn Calls; 4] = [&Now0, &Now16, &Now32, &Now48];
+        std::array::from_fn(|place| [now[place], formers[place]])
+    }
 }

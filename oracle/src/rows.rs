@@ -4,10 +4,12 @@
 //! each of four places, at which a library's code may lie: the same code at another place may take a quarter more time. A row's ratio is the median of its
 //! rounds' ratios; more exactly the geometric mean over who is first and the four places. Its times are the mean of the places' medians.
 //! Before a row is timed, both answer all its calls, and after each the two answers and all lists are compared whole.
+//!
+//! A library of level 2 is lent its vertices in one list. They are joined before a call and parted after it, off the clock.
 
 use crate::calls::{Answer, Calls};
 use crate::cases::{cube_of, Case};
-use crate::room::{laid, room_for, room_of};
+use crate::room::{joined, laid, parted, room_for, room_of};
 use crate::rust::{self, floats, CubeParameters, Registry, Words, ENTRY};
 use crate::timing::{median, timed};
 use std::time::{Duration, Instant};
@@ -38,22 +40,29 @@ enum Work {
     Check(Case, u64),
 }
 
+/// What a call is lent: the list of a cube, or the lists of a mesh as the library takes them.
+#[derive(Clone, Default)]
+struct Lent {
+    cube: Vec<u32>,
+    mesh: Words,
+}
+
 /// Calls and the lists that the first of them finds.
 pub struct Row {
     pub quads: u64,
-    start: Words,
+    start: Lent,
     work: Work,
 }
 
 impl Row {
     pub fn cube() -> Row {
-        let start = Words { vertices: vec![0; 24 * floats(false)], ..Words::default() };
+        let start = Lent { cube: vec![0; 24 * floats(false)], ..Lent::default() };
         Row { quads: 6, start, work: Work::Cube(cube_of(1.0, 0)) }
     }
 
     pub fn fresh(case: &Case, mesh: &Words) -> Row {
         let quads = mesh.links.len();
-        Row { quads: quads as u64, start: room_for(quads, case), work: Work::Fresh(case.clone()) }
+        Row::of_mesh(quads, room_for(quads, case), Work::Fresh(case.clone()))
     }
 
     /// A log in calls of so many entries each; of an empty log there is one call.
@@ -72,12 +81,39 @@ impl Row {
             true => vec![part_of(&[])],
             false => case.log.chunks_exact(each * ENTRY).map(part_of).collect(),
         };
-        Row { quads: quads as u64, start, work: Work::Update(call, parts) }
+        Row::of_mesh(quads, start, Work::Update(call, parts))
     }
 
     pub fn check(case: &Case, mesh: Words) -> Row {
-        let quads = mesh.links.len() as u64;
-        Row { quads, start: mesh, work: Work::Check(case.clone(), quads) }
+        let quads = mesh.links.len();
+        Row::of_mesh(quads, mesh, Work::Check(case.clone(), quads as u64))
+    }
+
+    fn of_mesh(quads: usize, mesh: Words, work: Work) -> Row {
+        Row { quads: quads as u64, start: Lent { mesh, ..Lent::default() }, work }
+    }
+
+    fn coloured(&self) -> bool {
+        match &self.work {
+            Work::Cube(parameters) => parameters.coloured,
+            Work::Fresh(case) | Work::Update(case, _) | Work::Check(case, _) => case.types.coloured,
+        }
+    }
+
+    /// The first lists as a library takes them.
+    fn start_for(&self, library: &dyn Calls) -> Lent {
+        match library.takes_joined() {
+            true => Lent { mesh: joined(&self.start.mesh, self.coloured()), ..self.start.clone() },
+            false => self.start.clone(),
+        }
+    }
+
+    /// What a library has left, the attributes apart.
+    fn left_by(&self, library: &dyn Calls, lent: &Lent) -> Lent {
+        match library.takes_joined() {
+            true => Lent { mesh: parted(&lent.mesh, self.start.mesh.clone(), self.coloured()), ..lent.clone() },
+            false => lent.clone(),
+        }
     }
 
     /// The calls from the first lists on.
@@ -94,12 +130,12 @@ impl Row {
         }
     }
 
-    fn call(&self, library: &dyn Calls, step: usize, lists: &mut Words) -> Answer {
+    fn call(&self, library: &dyn Calls, step: usize, lent: &mut Lent) -> Answer {
         match &self.work {
-            Work::Cube(parameters) => library.generate_voxel_mesh(parameters, &mut lists.vertices),
-            Work::Fresh(case) => library.mesh_grid(case, lists),
-            Work::Update(case, parts) => library.update_mesh(case, lists, parts[step].1),
-            Work::Check(case, quads) => library.check_mesh(case, lists, *quads),
+            Work::Cube(parameters) => library.generate_voxel_mesh(parameters, &mut lent.cube),
+            Work::Fresh(case) => library.mesh_grid(case, &mut lent.mesh),
+            Work::Update(case, parts) => library.update_mesh(case, &mut lent.mesh, parts[step].1),
+            Work::Check(case, quads) => library.check_mesh(case, &lent.mesh, *quads),
         }
     }
 
@@ -113,13 +149,14 @@ impl Row {
 
     /// Fails unless both take every call, with the same answers and lists.
     pub fn compare(&mut self, [ours, other]: Two, name: &str) {
-        let mut rooms = [self.start.clone(), self.start.clone()];
+        let mut rooms = [ours, other].map(|library| self.start_for(library));
         for step in 0..self.calls() {
             self.ready(step);
             let answer = self.call(ours, step, &mut rooms[0]);
             assert_eq!(answer, self.call(other, step, &mut rooms[1]), "{name}: the two answers of call {step} differ");
             assert_eq!(answer.number, 0, "{name}: call {step} is refused");
-            assert_same(&rooms, &format!("{name}: after call {step}"));
+            let left = [self.left_by(ours, &rooms[0]), self.left_by(other, &rooms[1])];
+            assert_same(&left, &format!("{name}: after call {step}"));
         }
     }
 
@@ -132,9 +169,9 @@ impl Row {
     }
 
     fn time_at(&mut self, libraries: Two, share: Duration) -> Run {
-        // After the first call of a log the next one needs the mesh that it left, so that each library has lists of its own
-        let apart = (self.calls() > 1) as usize;
-        let mut rooms = [self.start.clone(), self.start.clone()];
+        let same_layout = libraries[0].takes_joined() == libraries[1].takes_joined();
+        let starts = libraries.map(|library| self.start_for(library));
+        let mut rooms = starts.clone();
         let mut times = [vec![], vec![]];
         let start = Instant::now();
         for round in 0..MOST_ROUNDS {
@@ -145,9 +182,11 @@ impl Row {
             self.ready(step);
             for turn in 0..2 {
                 let which = (turn + round) % 2;
-                let lists = &mut rooms[turn * apart];
+                // After the first call of a log the next one needs the mesh that was left: then each turn has lists of its own
+                let whose = if !same_layout { which } else { turn * (self.calls() > 1) as usize };
+                let lists = &mut rooms[whose];
                 if step == 0 && matches!(self.work, Work::Update(..)) {
-                    lists.clone_from(&self.start);
+                    lists.clone_from(&starts[whose]);
                 }
                 let all = timed(|| (0..self.times()).for_each(|_| _ = self.call(libraries[which], step, lists)));
                 times[which].push(all.as_secs_f64() / self.times() as f64);
@@ -161,11 +200,11 @@ impl Row {
     }
 }
 
-fn assert_same([ours, other]: &[Words; 2], when: &str) {
-    assert!(ours.vertices == other.vertices, "{when} the two lists of vertices differ");
-    assert!(ours.triangles == other.triangles, "{when} the two lists of triangles differ");
-    assert!(ours.links == other.links, "{when} the two lists of links differ");
-    assert!(ours.slots == other.slots, "{when} the two lists of slots differ");
+fn assert_same([ours, other]: &[Lent; 2], when: &str) {
+    assert!(ours.cube == other.cube, "{when} the two cubes differ");
+    for ((word, list), (_, other)) in ours.mesh.lists().into_iter().zip(other.mesh.lists()) {
+        assert!(list == other, "{when} a {word} differs");
+    }
 }
 
 /// The Rust's mesh of a ground.

@@ -60,13 +60,39 @@ impl Types {
     }
 }
 
-/// A mesh as document 01 lays it out: per quad its vertices, triangle words and link; per cell six slots.
+/// A mesh as documents 01 and 02 lay it out: per quad four times position, normal, uv and, with colour, colour, then its triangle words and link;
+/// per cell six slots.
 #[derive(Clone, Debug, Default, PartialEq)]
 pub struct Words {
-    pub vertices: Vec<u32>,
+    pub positions: Vec<u32>,
+    pub normals: Vec<u32>,
+    pub uvs: Vec<u32>,
+    pub colours: Vec<u32>,
     pub triangles: Vec<u32>,
     pub links: Vec<u32>,
     pub slots: Vec<u32>,
+}
+
+impl Words {
+    /// Every list, and what one word of it is. The index comes first: where it differs, so do most of the others.
+    pub fn lists(&self) -> [(&'static str, &[u32]); 7] {
+        let Words { positions, normals, uvs, colours, triangles, links, slots } = self;
+        [
+            ("link", links),
+            ("slot", slots),
+            ("triangle word", triangles),
+            ("float of positions", positions),
+            ("float of normals", normals),
+            ("float of uvs", uvs),
+            ("float of colours", colours),
+        ]
+    }
+
+    /// The same lists in the same order.
+    pub fn lists_mut(&mut self) -> [&mut [u32]; 7] {
+        let Words { positions, normals, uvs, colours, triangles, links, slots } = self;
+        [links, slots, triangles, positions, normals, uvs, colours]
+    }
 }
 
 /// A mesh that the Rust built, with its metadata.
@@ -138,7 +164,10 @@ impl Meshed {
         let (width, height, length) = self.metadata.dims;
         let slot = |key: usize| index::quad_of(&self.metadata, key / 6, Face::from(key % 6)).unwrap_or(NONE);
         Words {
-            vertices: vertices_of(&self.mesh, self.coloured),
+            positions: column(&self.mesh, Mesh::ATTRIBUTE_POSITION),
+            normals: column(&self.mesh, Mesh::ATTRIBUTE_NORMAL),
+            uvs: column(&self.mesh, Mesh::ATTRIBUTE_UV_0),
+            colours: if self.coloured { column(&self.mesh, Mesh::ATTRIBUTE_COLOR) } else { vec![] },
             triangles: indices_of(&self.mesh).clone(),
             links: (0..quads).map(link).collect(),
             slots: (0..6 * width * height * length).map(slot).collect(),
@@ -167,25 +196,28 @@ fn attributes(coloured: bool) -> Vec<MeshVertexAttribute> {
     list
 }
 
+/// An attribute's floats, vertex by vertex.
+fn column(mesh: &Mesh, attribute: MeshVertexAttribute) -> Vec<u32> {
+    let values = mesh.attribute(attribute).expect("an attribute");
+    assert_eq!(values.len(), mesh.count_vertices(), "attributes of one length");
+    let floats = match values {
+        VertexAttributeValues::Float32x2(rows) => rows.as_flattened(),
+        VertexAttributeValues::Float32x3(rows) => rows.as_flattened(),
+        VertexAttributeValues::Float32x4(rows) => rows.as_flattened(),
+        _ => panic!("an attribute of another format"),
+    };
+    floats.iter().map(|float| float.to_bits()).collect()
+}
+
 /// All attributes, vertex by vertex.
 fn vertices_of(mesh: &Mesh, coloured: bool) -> Vec<u32> {
-    let mut words = vec![];
-    let columns: Vec<_> = attributes(coloured).into_iter().map(|a| mesh.attribute(a).expect("an attribute")).collect();
-    for column in &columns {
-        assert_eq!(column.len(), mesh.count_vertices(), "attributes of one length");
-    }
-    for vertex in 0..mesh.count_vertices() {
-        for column in &columns {
-            let row: &[f32] = match column {
-                VertexAttributeValues::Float32x2(rows) => &rows[vertex],
-                VertexAttributeValues::Float32x3(rows) => &rows[vertex],
-                VertexAttributeValues::Float32x4(rows) => &rows[vertex],
-                _ => panic!("an attribute of another format"),
-            };
-            words.extend(row.iter().map(|float| float.to_bits()));
-        }
-    }
-    words
+    let columns: Vec<_> = attributes(coloured).into_iter().map(|attribute| column(mesh, attribute)).collect();
+    let count = mesh.count_vertices();
+    let row = |vertex: usize, column: &[u32]| {
+        let floats = column.len() / count;
+        column[floats * vertex..][..floats].to_vec()
+    };
+    (0..count).flat_map(|vertex| columns.iter().flat_map(move |column| row(vertex, column))).collect()
 }
 
 /// The registry that Meshem asks, over the tables.

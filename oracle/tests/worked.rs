@@ -1,7 +1,9 @@
 //! The meshes that document 01 works by hand, asked of the Rust and of the plain reading.
 
 use oracle::calls::{Answer, Calls, Plain};
-use oracle::cases::{cube_of, entry, paper_types, Case};
+use oracle::cases::{cube_of, entry, paper_types, Case, Random};
+use oracle::room::{self, joined, laid, parted};
+use oracle::rows::mesh_of;
 use oracle::rust::{self, Registry, Types, Words};
 use plain::Tested;
 
@@ -18,7 +20,10 @@ fn case(dims: [u32; 3], grid: &[u8], log: &[Vec<u8>]) -> Case {
 
 fn room_for(case: &Case, quads: usize) -> Words {
     Words {
-        vertices: vec![7; quads * 32],
+        positions: vec![7; quads * 12],
+        normals: vec![7; quads * 12],
+        uvs: vec![7; quads * 8],
+        colours: vec![],
         triangles: vec![7; quads * 6],
         links: vec![7; quads],
         slots: vec![7; 6 * case.grid.len()],
@@ -145,5 +150,32 @@ fn nothing_is_fused() {
     assert_eq!(rust::cube(&cube)[6], 0x3F84_4444);
     let line = Case { types: paper_types(0.1), ..case([4, 1, 1], &[AIR, AIR, AIR, CUBE], &[]) };
     let words = rust::mesh(line.dims, &[], &line.grid, &Registry::of(&line.types), false).words();
-    assert!(words.vertices.contains(&0x3EB3_3334));
+    assert!(words.positions.contains(&0x3EB3_3334));
+}
+
+/// Four vertices a quad of as many quads as all attributes have room for, position, normal, uv and colour; and back.
+#[test]
+fn attributes_joined_and_parted() {
+    let mut random = Random(5);
+    for case in (0..200).map(|_| random.case()) {
+        let coloured = case.types.coloured;
+        let mesh = mesh_of(&case);
+        let empty = room::room_for(mesh.links.len() + 2, &case);
+        let room = laid(&mesh, empty.clone());
+        let one = joined(&room, coloured);
+        let size = rust::floats(coloured);
+        let Words { positions, normals, uvs, colours, .. } = &room;
+        for (at, vertex) in one.positions.chunks_exact(size).enumerate() {
+            assert_eq!(
+                (&vertex[..3], &vertex[3..6], &vertex[6..8]),
+                (&positions[3 * at..][..3], &normals[3 * at..][..3], &uvs[2 * at..][..2])
+            );
+            assert!(!coloured || vertex[8..] == colours[4 * at..][..4]);
+        }
+        let least = (positions.len() / 12).min(normals.len() / 12).min(uvs.len() / 8);
+        let least = if coloured { least.min(colours.len() / 16) } else { least };
+        assert_eq!(one.positions.len(), 4 * size * least);
+        assert!(one.normals.is_empty() && one.uvs.is_empty() && one.colours.is_empty());
+        assert_eq!(parted(&one, empty, coloured), room);
+    }
 }

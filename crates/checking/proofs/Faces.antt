@@ -30,16 +30,6 @@ passed-many n bad t (suc k) h s none =
     let e : t + suc k ≡ t + k + 1 = omega arith in
     rw e (passed n bad (t + k) (omega arith) before (none k (omega arith)))
 
-lowestFrom-cong : (n i : ℕ) (p q : ℕ → Bool) → ((k : ℕ) → i ≤ k → k < i + n → p k ≡ q k) → lowestFrom i n p ≡ lowestFrom i n q
-unfolding lowestFrom
-lowestFrom-cong zero i p q e = refl
-lowestFrom-cong (suc n) i p q e =
-    rw (e i (omega arith) (omega arith), lowestFrom-cong n (suc i) p q (λ k a b. e k (omega arith) (omega arith)))
-
--- tests that agree find the same
-pub lowest-cong : (n : ℕ) (p q : ℕ → Bool) → ((k : ℕ) → k < n → p k ≡ q k) → lowest n p ≡ lowest n q
-lowest-cong n p q e = lowestFrom-cong n 0 p q (λ k a b. e k (omega arith))
-
 -- ---- two sets of a cell
 
 like : (a : Bool) → unlike a a ≡ false
@@ -149,20 +139,20 @@ cells-like n bad x m h s none =
 
 -- ---- a face is there exactly if its slot is filled
 
-module _ (n s : ℕ) (B : Lists) (Q : ℕ) (room : 6 * n ≤ length (B .slots)) (book : Book n B Q) where
-  pub there-filled : (k : ℕ) → k < 6 * n → there k (decode s Q B) ≡ isFilled (B .slots) k
+module _ (n : ℕ) (tint : Bool) (B : Lists) (Q : ℕ) (room : 6 * n ≤ length (B .slots)) (book : Book n B Q) where
+  pub there-filled : (k : ℕ) → k < 6 * n → there k (decode tint Q B) ≡ isFilled (B .slots) k
   there-filled k h = go (eqb (slotAt B k) NONE) refl
     where
-      go : (t : Bool) → eqb (slotAt B k) NONE ≡ t → there k (decode s Q B) ≡ not t
+      go : (t : Bool) → eqb (slotAt B k) NONE ≡ t → there k (decode tint Q B) ≡ not t
       go true e =
-          both-ways (there k (decode s Q B))
-          (λ t. let i = place-of n B Q s k t in
+          both-ways (there k (decode tint Q B))
+          (λ t. let i = place-of n B Q tint k t in
           let none = eqb-true (slotAt B k) NONE e in
-          let named = ap (slotAt B) (sym (i .1)) ∙ book .named (placeOf k (decode s Q B)) (i .0) in
+          let named = ap (slotAt B) (sym (i .1)) ∙ book .named (placeOf k (decode tint Q B)) (i .0) in
           omega arith)
-      go false e = let i = filled-named n B Q room book k h (eqb-false (slotAt B k) NONE e) in rw (i .3) at (there-of n B Q s (i .0) (i .1))
+      go false e = let i = filled-named n B Q room book k h (eqb-false (slotAt B k) NONE e) in rw (i .3) at (there-of n B Q tint (i .0) (i .1))
 
   pub face-slot : (W : World) (outer g : List ℕ) (k : ℕ) → k < 6 * n
-      → wrongSlot (worldOf (W .size) (W .kinds) (W .covers)) outer g (B .slots) k ≡ wrongFace W outer g (decode s Q B) k
+      → wrongSlot (worldOf (W .size) (W .kinds) (W .covers)) outer g (B .slots) k ≡ wrongFace W outer g (decode tint Q B) k
   unfolding wrongFace
   face-slot W outer g k h = rw (there-filled k h, drawn-by W outer g (k / 6) (k % 6))

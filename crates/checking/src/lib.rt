@@ -190,17 +190,23 @@ pub fn check_mesh(
     kinds: &[u8],
     covers: &[u8],
     cubes: &[u32],
-    vertices: &[u32],
+    positions: &[u32],
+    normals: &[u32],
+    uvs: &[u32],
+    colours: &[u32],
     triangles: &[u32],
     links: &[u32],
     slots: &[u32],
     count: usize,
 ) -> Verdict
     ensures { λ r. ⌜ Checks (sceneLent scene kinds covers cubes) (now (outer .entry)) (now (grid .entry))
-        (before vertices triangles links slots) count r ⌝ }
+        (before positions normals uvs colours triangles links slots) count r ⌝ }
 {
     let lengths = Lengths {
-        vertices: vertices.len(),
+        positions: positions.len(),
+        normals: normals.len(),
+        uvs: uvs.len(),
+        colours: colours.len(),
         triangles: triangles.len(),
         links: links.len(),
         slots: slots.len(),
@@ -224,6 +230,16 @@ pub fn check_mesh(
     if is_refusal(faced) {
         return faced;
     }
-    let quad = first_wrong_quad(scene, grid, cubes, vertices, links, count);
+    let quad = first_wrong_quad(
+        scene,
+        grid,
+        cubes,
+        positions,
+        normals,
+        uvs,
+        colours,
+        links,
+        count,
+    );
     refuse_if(quad < count, Refusal::WrongVertex, quad)
 }

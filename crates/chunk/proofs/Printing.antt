@@ -54,8 +54,8 @@ module _ (S : Scene) (log : List ℕ) (B : Lists) (Q : ℕ) where
         let t = then-fine (typesVerdict S) _ u in
         let l = then-fine (lentVerdict S B Q) (BAD-ENTRY (cells (S .size)) (length (S .types .kinds)) log) (t .1) in
         let s = then-fine (SHORT-SLOTS (S .size) B) _ (l .0) in
-        let n = then-fine (BAD-COUNT (floats (S .types)) B Q) (bookVerdict S B Q) (s .1) in
-        course-sane (faces S) (span S) (room S B) (λ k. work source (world S) (entryAt log k)) 0 (length log / 12) (decode (span S) Q B) 0 Q
+        let n = then-fine (BAD-COUNT (room S B) Q) (bookVerdict S B Q) (s .1) in
+        course-sane (faces S) (span S) (room S B) (λ k. work source (world S) (entryAt log k)) 0 (length log / 12) (decode (S .types .coloured) Q B) 0 Q
         (λ j x y. fits-new (world S) (sound S size-fine (t .0)) (span S) (words-sized S) source (entryAt log j)
         (entry-inside (cells (S .size)) (length (S .types .kinds)) log (l .1) j (omega arith)) ((entryAt log j) .change))
         (lent-sane S B Q size-fine (s .0) (n .0) (n .1))
@@ -70,7 +70,7 @@ module _ (S : Scene) (log : List ℕ) (B : Lists) (Q : ℕ) where
     quads-are : (updateMesh source S log B Q) .answer .quads ≡ length (c .quads)
     quads-are = ap (λ (v : Verdict). (updateBy v S c B) .answer .quads) eu ∙ counted (c .full)
 
-    lists-are : (updateMesh source S log B Q) .lists ≡ layout (faces S) (span S) (c .highest) (c .quads) B
+    lists-are : (updateMesh source S log B Q) .lists ≡ layout (faces S) (S .types .coloured) (c .highest) (c .quads) B
     lists-are = ap (λ (v : Verdict). (updateBy v S c B) .lists) eu
 
     inside : c .highest ≤ length (B .links)
@@ -82,10 +82,10 @@ module _ (S : Scene) (log : List ℕ) (B : Lists) (Q : ℕ) where
       m = c .quads
 
       abbrev after : Lists
-      after = layout (faces S) (span S) (c .highest) m B
+      after = layout (faces S) (S .types .coloured) (c .highest) m B
 
       links-long : length (after .links) ≡ 128
-      links-long = length-links (faces S) (span S) (c .highest) few m B (sane .fits) (sane .reached) inside ∙ held
+      links-long = length-links (faces S) (span S) (c .highest) m (B .links) (sane .fits) (sane .reached) inside ∙ held
 
       most : length m ≤ 128
       most = omega (arith, sane .reached, inside)
@@ -96,13 +96,13 @@ module _ (S : Scene) (log : List ℕ) (B : Lists) (Q : ℕ) where
       of-faces : OfFaces (take (length m) (after .links))
       of-faces i h =
           let l : i < length m = omega (arith, length-take-le (length m) (after .links) (omega (arith, links-long, most))) in
-          rw (getD-take (length m) (after .links) i 0 l, links-at (faces S) (span S) (c .highest) few m B (sane .fits) i l)
+          rw (getD-take (length m) (after .links) i 0 l, links-at (faces S) (span S) (c .highest) m (B .links) (sane .fits) i l)
           (link-inside (keyAt m i) (cells (S .size)) (omega (arith, keyed i l, few)) (keyed i l) .0)
 
       same-lines : meshLines (answered (length m) moved) (quadsOf (take (length m) (after .links))) ≡ meshLines (answered (length m) moved) m
       same-lines =
-          sym (lines-decoded (answered (length m) moved) (span S) (length m) after (omega (arith, links-long, most)))
-          ∙ ap (meshLines (answered (length m) moved)) (decode-layout (faces S) (span S) (c .highest) few m B (sane .fits))
+          sym (lines-decoded (answered (length m) moved) (S .types .coloured) (length m) after (omega (arith, links-long, most)))
+          ∙ ap (meshLines (answered (length m) moved)) (decode-layout (faces S) (S .types .coloured) (c .highest) few m B (sane .fits))
 
       laid-shown : Shown (length m) moved (after .links) out
       laid-shown =
@@ -133,7 +133,7 @@ module _ (S : Scene) (outer g : List ℕ) (culling : Bool) (B : Lists) where
 
   has-room : meshVerdict S outer g culling B ≡ fine → length fresh ≤ length (B .links)
   has-room v =
-      let f = then-fine (inputVerdict S outer g B) (NO-ROOM (floats (S .types)) B (length fresh)) v .1 in
+      let f = then-fine (inputVerdict S outer g B) (NO-ROOM (room S B) (length fresh)) v .1 in
       room-for S B (length fresh) (ltb-false (room S B) (length fresh) (if-fine (ltb (room S B) (length fresh)) 14 0 f)) .links
 
   meshed-links : length ((meshGrid S outer g culling B) .lists .links) ≡ length (B .links)
@@ -166,7 +166,7 @@ module _ (file : List ℕ) (S : Scene) (outer : List ℕ) (B : Lists) (a : Answe
   worked-lines h = go (a .number) refl ∙ ap (linesOf S) told
     where
       go : (k : ℕ) → a .number ≡ k → linesBy k a (L .links) ≡ rules.linesBy S (outcome a L) k
-      go zero e = sym (lines-decoded a (span S) (a .quads) L (h e))
+      go zero e = sym (lines-decoded a (S .types .coloured) (a .quads) L (h e))
       go (suc k) e = refl
 
 -- ---- what is written of an answer

@@ -7,11 +7,9 @@ use lib.ListN.{length, take, drop, replicate, length-replicate, length-append, l
 use lib.Seq.{take-at, length-take-le}
 use Rattle.rules.specs.Lists.{table, filled}
 use Rattle.rules.specs.Cells.{cells}
-use Rattle.rules.specs.Cube.{floatsOf}
-use Rattle.rules.specs.Program.{word, sizeIn, colouredIn, gridStart, gridIn}
+use Rattle.rules.specs.Program.{word, sizeIn, gridStart, gridIn}
 use Rattle.rules.proofs.ListLaws.{length-table}
 use Rattle.workfile.specs.Work.{Good}
-use Rattle.working.proofs.Words.{few-floats}
 use Rattle.lines.specs.Written.{Wrote}
 use Rattle.chunk.specs.Steps.{zeros}
 
@@ -30,26 +28,20 @@ take-zeros n m h = go n m h
     go (suc n) zero h = absurd (omega arith)
     go (suc n) (suc m) h = ap (λ (l : List ℕ). 0 ∷ l) (go n m (omega arith))
 
-module _ {room : List ℕ} (is : room ≡ zeros 6144) where
-  room-long : length room ≡ 6144
-  room-long = ap length is ∙ length-zeros 6144
+module _ {room : List ℕ} (is : room ≡ zeros 3072) where
+  room-long : length room ≡ 3072
+  room-long = ap length is ∙ length-zeros 3072
 
-  pub room-lent : (n : ℕ) → n ≤ 6144 → n ≡ length (take n room)
+  pub room-lent : (n : ℕ) → n ≤ 3072 → n ≡ length (take n room)
   room-lent n h = sym (length-take-le n room (omega (arith, room-long)))
 
   -- its first words
-  pub room-first : {n k : ℕ} → n ≡ k → n ≤ 6144 → take n room ≡ replicate k 0
-  room-first {n} {k} e h = rw (is, e) (take-zeros k 6144 (omega arith))
+  pub room-first : {n k : ℕ} → n ≡ k → n ≤ 3072 → take n room ≡ replicate k 0
+  room-first {n} {k} e h = rw (is, e) (take-zeros k 3072 (omega arith))
 
 -- ---- how much is asked of it
 
 module _ (file : List ℕ) where
-  abbrev floats : ℕ
-  floats = floatsOf (colouredIn file)
-
-  pub vertices-are : {n : ℕ} → n ≡ floats → (512 * n ≡ 128 * (4 * floats)) × (512 * n ≤ 6144)
-  vertices-are e = (omega arith, omega (arith, few-floats (colouredIn file)))
-
   module _ (g : Good file) where
     -- the grid has as many bytes as cells
     grid-long : length (gridIn file) ≡ cells (sizeIn file)

@@ -3,7 +3,6 @@ use lines::outer_of;
 use lines::write_lines;
 use lines::write_refused;
 use telling::Told;
-use voxel_mesh::floats_of;
 use workfile::covers_of;
 use workfile::grid_of;
 use workfile::is_bad_file;
@@ -17,8 +16,7 @@ ghost use mathlib.Core.List.{[]};
 ghost use Prim.Native.Nat.{_*_, _≤_};
 ghost use lib.ListN.{length};
 ghost use Rattle.rules.specs.Cells.{cells};
-ghost use Rattle.rules.specs.Cube.{floatsOf};
-ghost use Rattle.rules.specs.Program.{typeCount, sizeIn, colouredIn, sceneIn, roomIn, buildFrom, worked, linesOf, builtLines, printed};
+ghost use Rattle.rules.specs.Program.{typeCount, sizeIn, sceneIn, roomIn, buildFrom, worked, linesOf, builtLines, printed};
 ghost use Rattle.telling.specs.Numbers.{toldOf};
 ghost use Rattle.workfile.specs.Work.{Good};
 ghost use Rattle.lines.specs.Written.{Wrote};
@@ -26,14 +24,6 @@ ghost use Rattle.chunk.specs.Steps.{linesIn, zeros, linesWith, Shown};
 
 // What the lines of 128 quads take at most.
 pub const ANSWER_BYTES: usize = 1_317;
-
-// The words of the vertices of 128 quads.
-fn vertex_words(file: &[u8]) -> usize
-    requires { ⌜ Good (now file) ⌝ }
-    ensures { λ r. ⌜ (r ≡ 128 * (4 * floatsOf (colouredIn (now (file .entry))))) × (r ≤ 6144) ⌝ }
-{
-    512 * floats_of(read_work(file).coloured)
-}
 
 // Six slots a cell.
 fn slot_count(file: &[u8]) -> usize
@@ -43,11 +33,11 @@ fn slot_count(file: &[u8]) -> usize
     6 * grid_of(file).len()
 }
 
-// Room for the longest list: the vertices of 128 quads with colour.
-fn empty_room() -> [u32; 6144]
-    ensures { λ r. ⌜ r ≡ zeros 6144 ⌝ }
+// Room for the longest list: the slots of 512 cells.
+fn empty_room() -> [u32; 3072]
+    ensures { λ r. ⌜ r ≡ zeros 3072 ⌝ }
 {
-    [0; 6144]
+    [0; 3072]
 }
 
 fn write_answer(told: Told, links: &[u32], out: &mut [u8]) -> usize
@@ -74,11 +64,13 @@ fn answer_typed(
     ensures { λ r. ⌜ Wrote (linesIn (now (file .entry)) (now (outer .entry)) (now (kinds .entry)) (now (covers .entry)) (now (cubes .entry))
         (roomIn (now (file .entry)))) 0 (now (out .entry)) (now (out .exit)) r ⌝ }
 {
-    let mut vertices = empty_room();
+    let mut positions = empty_room();
+    let mut normals = empty_room();
+    let mut uvs = empty_room();
+    let mut colours = empty_room();
     let mut triangles = empty_room();
     let mut links = empty_room();
     let mut slots = empty_room();
-    let words = vertex_words(file);
     let six = slot_count(file);
     let told = work_lists(
         file,
@@ -86,7 +78,10 @@ fn answer_typed(
         kinds,
         covers,
         cubes,
-        &mut vertices[..words],
+        &mut positions[..1536],
+        &mut normals[..1536],
+        &mut uvs[..1024],
+        &mut colours[..2048],
         &mut triangles[..768],
         &mut links[..128],
         &mut slots[..six],

@@ -5,46 +5,51 @@ use face::cell_of;
 use face::face_of;
 use floats::Triple;
 use quads::quad_word;
-use quads::sure_vertices;
 use terms::Scene;
 use util::Coordinates;
 use util::cords_of;
 use util::inverted;
 use util::wide;
+use vav::Attribute;
 use voxel_mesh::floats_of;
 ghost use mathlib.Core.Path.{_≡_};
-ghost use mathlib.Core.Bool.{not};
-ghost use Prim.Native.Nat.{_+_, _*_, _≤_, _<_};
+ghost use mathlib.Core.Bool.{true, false, not};
+ghost use Prim.Native.Nat.{ℕ, _+_, _*_, _≤_, _<_};
 ghost use lib.ListN.{length, getD};
 ghost use lib.Dec.{T, eqb};
-ghost use Rattle.rules.specs.Lists.{lowest};
+ghost use Rattle.rules.specs.Lists.{same, lowest};
 ghost use Rattle.rules.specs.Cells.{codeIn, code};
 ghost use Rattle.rules.specs.Floats.{finite3};
 ghost use Rattle.rules.specs.Cube.{floatsOf};
-ghost use Rattle.rules.specs.Types.{quadWord};
+ghost use Rattle.rules.specs.Types.{quadWord, quadWords};
+ghost use Rattle.rules.specs.Mesh.{attributeIn, verticesOf};
 ghost use Rattle.face.specs.Face.{number};
 ghost use Rattle.util.specs.Grid as grid;
 ghost use Rattle.util.specs.Grid.{sizeOf};
 ghost use Rattle.floats.specs.Triples.{tripleOf};
-ghost use Rattle.quads.specs.Quads.{Drawable};
-ghost use Rattle.comparing.specs.Quads.{otherQuad, Comparable};
+ghost use Rattle.vav.specs.Attributes.{attributeOf};
+ghost use Rattle.quads.specs.Quads.{Has, Drawable};
+ghost use Rattle.comparing.specs.Quads.{otherRow, otherQuad, HasRow, IsQuad, Comparable, ComparableAll};
 
-// Whether word k of the i-th vertex of a quad differs from the registry's.
+// Whether float k of an attribute of the i-th vertex of a quad differs from the registry's.
 fn is_other_word(
-    quad: &[u32],
+    row: &[u32],
     cube: &[u32],
     floats: usize,
     face: Face,
+    attribute: Attribute,
     at: Coordinates,
     d: Triple,
     i: usize,
     k: usize,
 ) -> bool
-    requires { ⌜ Drawable (now cube) floats (grid.tripleOf at) (tripleOf d) × (i < 4) × (k < floats) × (floats * i + k < length (now quad)) ⌝ }
-    ensures { λ r. ⌜ r ≡ not (eqb (getD (now (quad .entry)) (floats * i + k) 0) (quadWord (now (cube .entry)) floats (tripleOf d) (number face) (grid.tripleOf at) i k)) ⌝ }
+    requires { ⌜ Drawable (now cube) floats (grid.tripleOf at) (tripleOf d) × Has floats (attributeOf attribute) × (i < 4) × (k < (attributeOf attribute) .width)
+        × ((attributeOf attribute) .width * i + k < length (now row)) ⌝ }
+    ensures { λ r. ⌜ r ≡ not (eqb (getD (now (row .entry)) ((attributeOf attribute) .width * i + k) 0)
+        (quadWord (now (cube .entry)) floats (tripleOf d) (number face) (grid.tripleOf at) i ((attributeOf attribute) .start + k))) ⌝ }
 {
-    let word = floats * i + k;
-    quad[word] != quad_word(cube, floats, face, at, d, i, k)
+    let word = attribute.width() * i + k;
+    row[word] != quad_word(cube, floats, face, attribute, at, d, i, k)
 }
 
 // The face of a link whose code is a face's.
@@ -58,24 +63,170 @@ fn linked_face(link: u32) -> Face
     }
 }
 
-// The first quad that differs in any of its words, or their count. Each is compared whole before it is word by word.
-pub fn first_wrong_quad(
+// Whether an attribute of a quad is the registry's. Only all its words together are branched on, so that the compiler compares several at once; it knows
+// how many they are where the row and the attribute are known.
+fn is_row(
+    row: &[u32],
+    cube: &[u32],
+    floats: usize,
+    face: Face,
+    attribute: Attribute,
+    at: Coordinates,
+    d: Triple,
+) -> bool
+    requires { ⌜ Drawable (now cube) floats (grid.tripleOf at) (tripleOf d) × Has floats (attributeOf attribute)
+        × (length (now row) ≡ 4 * (attributeOf attribute) .width) ⌝ }
+    ensures { λ r. ⌜ r ≡ same (now (row .entry))
+        (attributeIn floats (attributeOf attribute) 4 (quadWords (now (cube .entry)) floats (tripleOf d) (number face) (grid.tripleOf at))) ⌝ }
+{
+    let width = attribute.width();
+    let mut good = true;
+    let mut i: usize = 0;
+    while width * i < row.len() {
+        let mut k: usize = 0;
+        while k < width {
+            good = good & !is_other_word(row, cube, floats, face, attribute, at, d, i, k);
+            k += 1;
+        }
+        i += 1;
+    }
+    good
+}
+
+// Whether each attribute of a quad is the registry's.
+fn is_quad(
+    scene: Scene,
+    cube: &[u32],
+    positions: &[u32],
+    normals: &[u32],
+    uvs: &[u32],
+    colours: &[u32],
+    face: Face,
+    at: Coordinates,
+    quad: usize,
+) -> bool
+    requires { ⌜ Drawable (now cube) (floatsOf (scene .coloured)) (grid.tripleOf at) (tripleOf (scene .d))
+        × HasRow (scene .coloured) (verticesOf (now positions) (now normals) (now uvs) (now colours)) quad ⌝ }
+    ensures { λ r. ⌜ (r ≡ true → IsQuad (scene .coloured) (verticesOf (now (positions .entry)) (now (normals .entry)) (now (uvs .entry)) (now (colours .entry))) quad
+        (quadWords (now (cube .entry)) (floatsOf (scene .coloured)) (tripleOf (scene .d)) (number face) (grid.tripleOf at))) ⌝ }
+{
+    let floats = floats_of(scene.coloured);
+    let start = 12 * quad;
+    let uv_start = 8 * quad;
+    let position = is_row(
+        &positions[start..start + 12],
+        cube,
+        floats,
+        face,
+        Attribute::Position,
+        at,
+        scene.d,
+    );
+    let normal = is_row(
+        &normals[start..start + 12],
+        cube,
+        floats,
+        face,
+        Attribute::Normal,
+        at,
+        scene.d,
+    );
+    let uv = is_row(
+        &uvs[uv_start..uv_start + 8],
+        cube,
+        floats,
+        face,
+        Attribute::Uv,
+        at,
+        scene.d,
+    );
+    let plain = position & normal & uv;
+    if scene.coloured {
+        let colour_start = 16 * quad;
+        let colour = is_row(
+            &colours[colour_start..colour_start + 16],
+            cube,
+            floats,
+            face,
+            Attribute::Colour,
+            at,
+            scene.d,
+        );
+        return plain & colour;
+    }
+    plain
+}
+
+// How many quads from the first on are right without a doubt: all attributes of a quad are compared at once.
+fn sure_quads(
     scene: Scene,
     grid: &[u8],
     cubes: &[u32],
-    vertices: &[u32],
+    positions: &[u32],
+    normals: &[u32],
+    uvs: &[u32],
+    colours: &[u32],
     links: &[u32],
     count: usize,
 ) -> usize
-    requires { ⌜ Comparable (sizeOf (scene .dims)) (floatsOf (scene .coloured)) (now grid) (now cubes) (now vertices) (now links) count × T (finite3 (tripleOf (scene .d))) ⌝ }
-    ensures { λ r. ⌜ r ≡ lowest count (otherQuad scene (floatsOf (scene .coloured)) (now (grid .entry)) (now (cubes .entry)) (now (vertices .entry)) (now (links .entry))) ⌝ }
+    requires { ⌜ ComparableAll (sizeOf (scene .dims)) (scene .coloured) (now grid) (now cubes) (verticesOf (now positions) (now normals) (now uvs) (now colours)) (now links) count
+        × T (finite3 (tripleOf (scene .d))) ⌝ }
+    ensures { λ r. ⌜ (r ≤ count) × ((q : ℕ) → q < r → otherQuad scene (now (grid .entry)) (now (cubes .entry))
+        (verticesOf (now (positions .entry)) (now (normals .entry)) (now (uvs .entry)) (now (colours .entry))) (now (links .entry)) q ≡ false) ⌝ }
+{
+    let dims = scene.dims;
+    let inverse = inverted(dims);
+    let span = 24 * floats_of(scene.coloured);
+    let mut quad: usize = 0;
+    while quad < count {
+        let link = links[quad];
+        let cell = cell_of(link);
+        let face = linked_face(link);
+        let at = cords_of(cell, dims, inverse);
+        let place = cell.0 as usize;
+        let start = span * wide(grid[place]);
+        let end = start + span;
+        if !is_quad(
+            scene,
+            &cubes[start..end],
+            positions,
+            normals,
+            uvs,
+            colours,
+            face,
+            at,
+            quad,
+        ) {
+            return quad;
+        }
+        quad += 1;
+    }
+    quad
+}
+
+// The first quad that differs in any of its floats of an attribute, or their count. None before `from` does.
+fn first_wrong_row(
+    scene: Scene,
+    grid: &[u8],
+    cubes: &[u32],
+    attribute: Attribute,
+    list: &[u32],
+    links: &[u32],
+    from: usize,
+    count: usize,
+) -> usize
+    requires { ⌜ Comparable (sizeOf (scene .dims)) (floatsOf (scene .coloured)) (attributeOf attribute) (now grid) (now cubes) (now list) (now links) count
+        × T (finite3 (tripleOf (scene .d))) × (from ≤ count)
+        × ((q : ℕ) → q < from → otherRow scene (floatsOf (scene .coloured)) (attributeOf attribute) (now grid) (now cubes) (now list) (now links) q ≡ false) ⌝ }
+    ensures { λ r. ⌜ r ≡ lowest count (otherRow scene (floatsOf (scene .coloured)) (attributeOf attribute) (now (grid .entry)) (now (cubes .entry)) (now (list .entry)) (now (links .entry))) ⌝ }
 {
     let dims = scene.dims;
     let inverse = inverted(dims);
     let floats = floats_of(scene.coloured);
-    let words = 4 * floats;
+    let width = attribute.width();
+    let words = 4 * width;
     let span = 24 * floats;
-    let mut quad: usize = 0;
+    let mut quad = from;
     'quads: while quad < count {
         let link = links[quad];
         let cell = cell_of(link);
@@ -84,24 +235,18 @@ pub fn first_wrong_quad(
         let place = cell.0 as usize;
         let start = span * wide(grid[place]);
         let end = start + span;
-        let from = words * quad;
-        let to = from + words;
-        let mut vertex = sure_vertices(
-            &vertices[from..to],
-            &cubes[start..end],
-            floats,
-            face,
-            at,
-            scene.d,
-        );
+        let row_start = words * quad;
+        let row_end = row_start + words;
+        let mut vertex: usize = 0;
         while vertex < 4 {
             let mut float: usize = 0;
-            while float < floats {
+            while float < width {
                 if is_other_word(
-                    &vertices[from..to],
+                    &list[row_start..row_end],
                     &cubes[start..end],
                     floats,
                     face,
+                    attribute,
                     at,
                     scene.d,
                     vertex,
@@ -116,4 +261,68 @@ pub fn first_wrong_quad(
         quad += 1;
     }
     quad
+}
+
+// The first quad that differs in any float of any attribute, or their count: past the quads that are right without a doubt, each list is searched up to the lowest so far.
+pub fn first_wrong_quad(
+    scene: Scene,
+    grid: &[u8],
+    cubes: &[u32],
+    positions: &[u32],
+    normals: &[u32],
+    uvs: &[u32],
+    colours: &[u32],
+    links: &[u32],
+    count: usize,
+) -> usize
+    requires { ⌜ ComparableAll (sizeOf (scene .dims)) (scene .coloured) (now grid) (now cubes) (verticesOf (now positions) (now normals) (now uvs) (now colours)) (now links) count
+        × T (finite3 (tripleOf (scene .d))) ⌝ }
+    ensures { λ r. ⌜ r ≡ lowest count (otherQuad scene (now (grid .entry)) (now (cubes .entry))
+        (verticesOf (now (positions .entry)) (now (normals .entry)) (now (uvs .entry)) (now (colours .entry))) (now (links .entry))) ⌝ }
+{
+    let sure = sure_quads(
+        scene,
+        grid,
+        cubes,
+        positions,
+        normals,
+        uvs,
+        colours,
+        links,
+        count,
+    );
+    let first = first_wrong_row(
+        scene,
+        grid,
+        cubes,
+        Attribute::Position,
+        positions,
+        links,
+        sure,
+        count,
+    );
+    let second = first_wrong_row(
+        scene,
+        grid,
+        cubes,
+        Attribute::Normal,
+        normals,
+        links,
+        sure,
+        first,
+    );
+    let third = first_wrong_row(scene, grid, cubes, Attribute::Uv, uvs, links, sure, second);
+    if scene.coloured {
+        return first_wrong_row(
+            scene,
+            grid,
+            cubes,
+            Attribute::Colour,
+            colours,
+            links,
+            sure,
+            third,
+        );
+    }
+    third
 }

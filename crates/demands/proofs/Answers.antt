@@ -17,7 +17,7 @@ use Rattle.rules.specs.Mesh.{Lists, layout}
 use Rattle.rules.specs.Update.{Tested, Course}
 use Rattle.rules.specs.Answers as rules
 use Rattle.rules.specs.Answers.{fine, refuse}
-use Rattle.rules.specs.Calls.{CubeOutcome, cubeVerdict, cubeBy, Scene, span, faces, Outcome, freshMesh, meshVerdict, meshedBy, updateVerdict, course, courseAnswer, updateBy, checkVerdict, checkBy}
+use Rattle.rules.specs.Calls.{CubeOutcome, cubeVerdict, cubeBy, Scene, faces, Outcome, freshMesh, meshVerdict, meshedBy, updateVerdict, course, courseAnswer, updateBy, checkVerdict, checkBy}
 use Rattle.rules.proofs.Refusals.{Within, given, CUBE, MESH, UPDATE-FIRST, CHECK, cube-numbers, mesh-numbers, update-numbers, check-numbers}
 use Rattle.answers.specs.declared.Refusal.{Refusal}
 use Rattle.answers.specs.declared.Refusal.the-variants.{NoRoom}
@@ -105,7 +105,7 @@ what-a-cube-call-says shape entry r exit = by r
 pub record Made (S : Scene) (outer grid : List ℕ) (culling : Bool) (entry : Lists) (quads : ℕ) (exit : Lists) : Type 0 where
   pub accepted : meshVerdict S outer grid culling entry ≡ fine
   pub counted : quads ≡ length (freshMesh S outer grid culling)
-  pub laid : let m = freshMesh S outer grid culling in exit ≡ layout (faces S) (span S) (length m) m entry
+  pub laid : let m = freshMesh S outer grid culling in exit ≡ layout (faces S) (S .types .coloured) (length m) m entry
 
 abbrev pub MeshSays : Scene → List ℕ → List ℕ → Bool → Lists → Meshed → Lists → Type 0
 MeshSays S outer grid culling entry (meshed.Done quads) exit = Made S outer grid culling entry quads exit
@@ -134,7 +134,7 @@ pub record Ran (tested : Tested) (S : Scene) (log : List ℕ) (entry : Lists) (Q
   pub ended : (course tested S log entry Q) .full ≡ full
   pub quads : count .quads ≡ length ((course tested S log entry Q) .quads)
   pub moved : count .moved ≡ (course tested S log entry Q) .moved
-  pub laid : let c = course tested S log entry Q in exit ≡ layout (faces S) (span S) (c .highest) (c .quads) entry
+  pub laid : let c = course tested S log entry Q in exit ≡ layout (faces S) (S .types .coloured) (c .highest) (c .quads) entry
 
 -- out of room at entry k, the first without: the call for the entries before it alone, k of them, answers Done with the same count and the same lists
 pub record Stopped (tested : Tested) (S : Scene) (log : List ℕ) (entry : Lists) (Q k : ℕ) (count : Count) (exit : Lists) : Type 0 where
@@ -163,11 +163,11 @@ what-an-update-call-says tested S log entry Q r exit e =
 
     ran : (count : Count) (full : Option ℕ) → updateVerdict S log entry Q ≡ fine → c .full ≡ full
         → count .quads ≡ length (c .quads) → count .moved ≡ c .moved
-        → exit ≡ layout (faces S) (span S) (c .highest) (c .quads) entry → Ran tested S log entry Q full count exit
+        → exit ≡ layout (faces S) (S .types .coloured) (c .highest) (c .quads) entry → Ran tested S log entry Q full count exit
     ran count full a f q m l = record { accepted = a; ended = f; quads = q; moved = m; laid = l }
 
     through : (r : Updated) → updateVerdict S log entry Q ≡ fine → (full : Option ℕ) → c .full ≡ full
-        → outcomeOf r exit ≡ record { answer = courseAnswer c full; lists = layout (faces S) (span S) (c .highest) (c .quads) entry }
+        → outcomeOf r exit ≡ record { answer = courseAnswer c full; lists = layout (faces S) (S .types .coloured) (c .highest) (c .quads) entry }
         → UpdateSays tested S log entry Q r exit
     through (updated.Done count) t none f e =
         ran count none t f (ap (λ (o : Outcome). o .answer .quads) e) (ap (λ (o : Outcome). o .answer .moved) e) (ap (λ (o : Outcome). o .lists) e)

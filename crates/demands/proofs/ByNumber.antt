@@ -13,7 +13,7 @@ use Rattle.rules.specs.Mesh.{Lists}
 use Rattle.rules.specs.Update.{source, AddsAlike}
 use Rattle.rules.specs.Answers.{fine}
 use Rattle.rules.specs.Check.{Right}
-use Rattle.rules.specs.Calls.{Answer, CubeOutcome, Outcome, Scene, answered, world, span, lentVerdict, entriesOf, openVerdict, checkVerdict, checkMesh}
+use Rattle.rules.specs.Calls.{Answer, CubeOutcome, Outcome, Scene, answered, world, lentVerdict, entriesOf, openVerdict, checkVerdict, checkMesh}
 use Rattle.rules.proofs.Refusals.{CUBE, MESH, UPDATE, CHECK, check-numbers, cube-number, mesh-number, update-number, check-number, zero-fine, cube-refused, mesh-refused, update-refused}
 use Rattle.rules.proofs.Modes.{itself-alike, modes-agree}
 use Rattle.rules.proofs.Demands.{accepts-exactly, fresh-accepted, mended-accepted}
@@ -101,7 +101,7 @@ pub what-a-c-update-leaves-is-taken : (tested : ℕ) (S : Scene) (log : List ℕ
 what-a-c-update-leaves-is-taken tested = left-is-taken (testedFrom tested)
 
 pub the-c-check-is-exact : (S : Scene) (outer grid : List ℕ) (B : Lists) (Q number place : ℕ) → TellsCheck S outer grid B Q number place
-    → (number ≡ 0) ↔ ((openVerdict S outer grid B Q ≡ fine) × Right (world S) outer grid (span S) B Q)
+    → (number ≡ 0) ↔ ((openVerdict S outer grid B Q ≡ fine) × Right (world S) outer grid (S .types .coloured) B Q)
 the-c-check-is-exact S outer grid B Q number place e = (
   λ z. let v = zero-fine CHECK refl (checkVerdict S outer grid B Q) (check-numbers S outer grid B Q) (sym (ap (λ (x : Answer). x .number) e) ∙ z) in
       the-check-is-exact S outer grid B Q Fine (sym v) .0 refl,

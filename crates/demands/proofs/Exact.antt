@@ -7,7 +7,7 @@ use mathlib.Core.List.{List}
 use Rattle.rules.specs.Mesh.{Lists}
 use Rattle.rules.specs.Answers.{fine}
 use Rattle.rules.specs.Check.{Right}
-use Rattle.rules.specs.Calls.{Answer, Scene, answered, world, span, openVerdict, checkVerdict, checkBy, checkMesh}
+use Rattle.rules.specs.Calls.{Answer, Scene, answered, world, openVerdict, checkVerdict, checkBy, checkMesh}
 use Rattle.rules.proofs.Checking.{then-fine}
 use Rattle.rules.proofs.Refusals.{CHECK, check-numbers, zero-fine}
 use Rattle.rules.proofs.Demands.{accepts-exactly}
@@ -26,7 +26,7 @@ fine-is-zero S outer grid B Q = (
 
 -- scene, grid and room are what 01 asks for (2 to 4 and 6 to 10), and the mesh is right
 pub the-check-is-exact : (S : Scene) (outer grid : List ℕ) (B : Lists) (Q : ℕ) (r : Verdict) → Checks S outer grid B Q r
-    → (r ≡ Fine) ↔ ((openVerdict S outer grid B Q ≡ fine) × Right (world S) outer grid (span S) B Q)
+    → (r ≡ Fine) ↔ ((openVerdict S outer grid B Q ≡ fine) × Right (world S) outer grid (S .types .coloured) B Q)
 the-check-is-exact S outer grid B Q r e = (
   λ f. let passed = ap verdictOf (sym f) ∙ e in
       let opened = then-fine (openVerdict S outer grid B Q) _ (sym passed) .0 in

@@ -15,7 +15,7 @@ use Rattle.rules.specs.Cells.{cells}
 use Rattle.rules.specs.Mesh.{Lists, decode}
 use Rattle.rules.specs.Update.{Tested, Course, work, entryAt}
 use Rattle.rules.specs.Answers.{Verdict, fine, refuse, _then_, BAD-ENTRY}
-use Rattle.rules.specs.Calls.{answered, Scene, world, span, room, lentVerdict, updateVerdict, course, checkBy}
+use Rattle.rules.specs.Calls.{answered, Scene, world, room, lentVerdict, updateVerdict, course, checkBy}
 use Rattle.rules.proofs.ListLaws.{member-append}
 use Rattle.rules.proofs.Refusals.{Within, given, entry-numbers}
 use Rattle.rules.proofs.Courses.{entry-moves, course-moves}
@@ -143,6 +143,6 @@ moved-at-most-sixty-an-entry tested S log entry Q r k count exit d e =
     let f = done-first tested S log entry Q exit d e in
     let l = f .0 in
     let a = what-an-update-call-says tested S l entry Q (updated.Done count) exit (f .2) in
-    let m = course-moves 60 (room S entry) (λ j. work tested (world S) (entryAt l j)) 0 (length l / 12) (decode (span S) Q entry) 0 Q
+    let m = course-moves 60 (room S entry) (λ j. work tested (world S) (entryAt l j)) 0 (length l / 12) (decode (S .types .coloured) Q entry) 0 Q
     (λ j. entry-moves tested (world S) (entryAt l j)) in
     omega (arith, a .moved, f .1)

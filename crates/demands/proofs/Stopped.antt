@@ -14,7 +14,7 @@ use Rattle.rules.specs.Cells.{cells}
 use Rattle.rules.specs.Mesh.{Quad, Lists, layout, decode}
 use Rattle.rules.specs.Update.{Entry, Work, Course, Tested, u32At, entryAt, work, ops, run, moves, highest, needed, courseFrom, meshAfter}
 use Rattle.rules.specs.Answers.{fine, refuseLowest, BAD-SIZE, badNeighbour, badEntry, BAD-ENTRY}
-use Rattle.rules.specs.Calls.{Scene, answered, world, span, faces, room, typesVerdict, lentVerdict, updateVerdict, entriesOf, course, updateBy, updateMesh}
+use Rattle.rules.specs.Calls.{Scene, answered, world, faces, room, typesVerdict, lentVerdict, updateVerdict, entriesOf, course, updateBy, updateMesh}
 use Rattle.rules.proofs.ListLaws.{each-same, each-split}
 use Rattle.rules.proofs.Checking.{then-fine, fine-then, fine-if, lowest-fine, fine-lowest}
 use Rattle.rules.proofs.Courses.{found-room, course-alike}
@@ -128,7 +128,7 @@ module _ (tested : Tested) (S : Scene) (log : List ℕ) (B : Lists) (Q : ℕ) wh
   works j = work tested (world S) (entryAt log j)
 
   abbrev lent : List Quad
-  lent = decode (span S) Q B
+  lent = decode (S .types .coloured) Q B
 
   -- a course that comes through: each entry found its room
   pub all-found : (course tested S log B Q) .full ≡ none → (j : ℕ) → j < length log / 12 → FindsRoom tested S log B Q j
@@ -154,8 +154,8 @@ module _ (tested : Tested) (S : Scene) (log : List ℕ) (B : Lists) (Q k : ℕ) 
   abbrev workOf : List ℕ → ℕ → Work
   workOf l j = work tested (world S) (entryAt l j)
 
-  stopped : Stops (room S B) (workOf log) 0 (length log / 12) (decode (span S) Q B) 0 Q k
-  stopped = stops (room S B) (workOf log) 0 (length log / 12) (decode (span S) Q B) 0 Q k full
+  stopped : Stops (room S B) (workOf log) 0 (length log / 12) (decode (S .types .coloured) Q B) 0 Q k
+  stopped = stops (room S B) (workOf log) 0 (length log / 12) (decode (S .types .coloured) Q B) 0 Q k full
 
   in-log : k < length log / 12
   in-log = omega (arith, stopped .place, stopped .early)
@@ -198,9 +198,9 @@ module _ (tested : Tested) (S : Scene) (log : List ℕ) (B : Lists) (Q k : ℕ) 
   -- LAW: the call for the entries before it alone comes through, with the same quads, moves and lists
   pub done-before : let c = course tested S log B Q in
       updateMesh tested S (take (12 * k) log) B Q
-      ≡ record { answer = answered (length (c .quads)) (c .moved); lists = layout (faces S) (span S) (c .highest) (c .quads) B }
+      ≡ record { answer = answered (length (c .quads)) (c .moved); lists = layout (faces S) (S .types .coloured) (c .highest) (c .quads) B }
   done-before =
-      let from = decode (span S) Q B in
+      let from = decode (S .types .coloured) Q B in
       let n : stopped .before ≡ k = omega (arith, stopped .place) in
       let same =
       course-alike (room S B) (workOf first) (workOf log) 0 k from 0 Q (λ j l. ap (work tested (world S)) (sym (entry-first j (omega arith))))

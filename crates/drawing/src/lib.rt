@@ -1,12 +1,13 @@
-// Quads written into each list by itself: a quad's words at its place, the patterns of a stretch of places, the vertices of faces that are drawn one
-// after the other.
+// Quads written into each list by itself: an attribute of a quad at its place, the patterns of a stretch of places, the attributes of faces that are drawn
+// one after the other.
 use face::Face;
 use face::face_at;
 use floats::Triple;
-use quads::write_quad;
+use quads::write_attribute;
 use terms::Scene;
 use util::Coordinates;
 use util::Row;
+use vav::Attribute;
 use voxel_mesh::floats_of;
 ghost use mathlib.Core.Path.{_≡_};
 ghost use mathlib.Core.List.{[]};
@@ -14,41 +15,66 @@ ghost use Prim.Native.Nat.{ℕ, _+_, _-_, _*_, _≤_, _<_};
 ghost use lib.ListN.{length, getD};
 ghost use Rattle.rules.specs.Lists.{each};
 ghost use Rattle.rules.specs.Types.{quadWords};
-ghost use Rattle.rules.specs.Mesh.{NONE, pattern};
-ghost use Rattle.rules.specs.Calls.{span};
+ghost use Rattle.rules.specs.Cube.{floatsOf};
+ghost use Rattle.rules.specs.Mesh.{attributeIn, verticesOf, NONE, pattern};
 ghost use Rattle.face.specs.Face.{number};
 ghost use Rattle.util.specs.Grid.{sizeOf, Within, Starts};
 ghost use Rattle.util.specs.Grid as grid;
 ghost use Rattle.floats.specs.Triples.{tripleOf};
 ghost use Rattle.terms.specs.Scenes.{sceneOf};
+ghost use Rattle.vav.specs.Attributes.{attributeOf};
 ghost use Rattle.vav.specs.Rows.{put};
-ghost use Rattle.quads.specs.Quads.{Drawable};
-ghost use Rattle.drawing.specs.Written.{rowsOf, sideRow, Side};
+ghost use Rattle.quads.specs.Quads.{Has, Drawable};
+ghost use Rattle.drawing.specs.Written.{quadWritten, sideWords, rowsWritten, Long, Side};
 
-// Writes a quad at place q. With 8 floats a vertex the compiler has every length at hand.
-pub fn write_place(
-    vertices: &mut [u32],
+// Writes an attribute of a quad at place q.
+fn write_place(
+    list: &mut [u32],
     cube: &[u32],
     floats: usize,
     face: Face,
+    attribute: Attribute,
     at: Coordinates,
     d: Triple,
     q: usize,
 )
-    requires { ⌜ Drawable (now cube) floats (grid.tripleOf at) (tripleOf d) × (4 * floats * (q + 1) ≤ length (now vertices)) ⌝ }
-    ensures { λ _. ⌜ now (vertices .exit) ≡ put (4 * floats * q)
-        (quadWords (now (cube .entry)) floats (tripleOf d) (number face) (grid.tripleOf at)) (now (vertices .entry)) ⌝ }
+    requires { ⌜ Drawable (now cube) floats (grid.tripleOf at) (tripleOf d) × Has floats (attributeOf attribute)
+        × (4 * (attributeOf attribute) .width * (q + 1) ≤ length (now list)) ⌝ }
+    ensures { λ _. ⌜ now (list .exit) ≡ put (4 * (attributeOf attribute) .width * q)
+        (attributeIn floats (attributeOf attribute) 4 (quadWords (now (cube .entry)) floats (tripleOf d) (number face) (grid.tripleOf at))) (now (list .entry)) ⌝ }
 {
-    if floats == 8 {
-        let start = 32 * q;
-        let end = start + 32;
-        write_quad(&mut vertices[start..end], cube, 8, face, at, d);
-        return;
-    }
-    let words = 4 * floats;
+    let words = 4 * attribute.width();
     let start = words * q;
     let end = start + words;
-    write_quad(&mut vertices[start..end], cube, floats, face, at, d);
+    write_attribute(&mut list[start..end], cube, floats, face, attribute, at, d);
+}
+
+// Writes each attribute that the vertices have of a quad, at place q of its own list. The compiler knows each number of floats.
+pub fn write_places(
+    positions: &mut [u32],
+    normals: &mut [u32],
+    uvs: &mut [u32],
+    colours: &mut [u32],
+    scene: Scene,
+    cube: &[u32],
+    face: Face,
+    at: Coordinates,
+    q: usize,
+)
+    requires { ⌜ Drawable (now cube) (floatsOf (scene .coloured)) (grid.tripleOf at) (tripleOf (scene .d))
+        × Long (scene .coloured) (q + 1) (verticesOf (now positions) (now normals) (now uvs) (now colours)) ⌝ }
+    ensures { λ _. ⌜ verticesOf (now (positions .exit)) (now (normals .exit)) (now (uvs .exit)) (now (colours .exit))
+        ≡ quadWritten (scene .coloured) q (quadWords (now (cube .entry)) (floatsOf (scene .coloured)) (tripleOf (scene .d)) (number face) (grid.tripleOf at))
+        (verticesOf (now (positions .entry)) (now (normals .entry)) (now (uvs .entry)) (now (colours .entry))) ⌝ }
+{
+    let floats = floats_of(scene.coloured);
+    let d = scene.d;
+    write_place(positions, cube, floats, face, Attribute::Position, at, d, q);
+    write_place(normals, cube, floats, face, Attribute::Normal, at, d, q);
+    write_place(uvs, cube, floats, face, Attribute::Uv, at, d, q);
+    if scene.coloured {
+        write_place(colours, cube, floats, face, Attribute::Colour, at, d, q);
+    }
 }
 
 // Writes the triangle words of place q.
@@ -78,15 +104,26 @@ pub fn write_patterns(triangles: &mut [u32], from: usize, to: usize)
     }
 }
 
-// Writes the quad of a face of a row at place q, from the cube of its type.
-fn write_side(vertices: &mut [u32], scene: Scene, cubes: &[u32], row: Row, side: u32, q: usize)
+// Writes the quad of a face of a row at place q of each list, from the cube of its type.
+fn write_side(
+    positions: &mut [u32],
+    normals: &mut [u32],
+    uvs: &mut [u32],
+    colours: &mut [u32],
+    scene: Scene,
+    cubes: &[u32],
+    row: Row,
+    side: u32,
+    q: usize,
+)
     requires { ⌜ Within (sizeOf (scene .dims)) × Starts (sizeOf (scene .dims)) (row .first) (row .y) (row .z)
-        × Side (sceneOf scene [] [] (now cubes)) (row .first) side × (span (sceneOf scene [] [] (now cubes)) * (q + 1) ≤ length (now vertices)) ⌝ }
-    ensures { λ _. ⌜ now (vertices .exit) ≡ put (span (sceneOf scene [] [] (now (cubes .entry))) * q)
-        (sideRow (sceneOf scene [] [] (now (cubes .entry))) (row .first) side) (now (vertices .entry)) ⌝ }
+        × Side (sceneOf scene [] [] (now cubes)) (row .first) side
+        × Long (scene .coloured) (q + 1) (verticesOf (now positions) (now normals) (now uvs) (now colours)) ⌝ }
+    ensures { λ _. ⌜ verticesOf (now (positions .exit)) (now (normals .exit)) (now (uvs .exit)) (now (colours .exit))
+        ≡ quadWritten (scene .coloured) q (sideWords (sceneOf scene [] [] (now (cubes .entry))) (row .first) side)
+        (verticesOf (now (positions .entry)) (now (normals .entry)) (now (uvs .entry)) (now (colours .entry))) ⌝ }
 {
-    let floats = floats_of(scene.coloured);
-    let words = 24 * floats;
+    let words = 24 * floats_of(scene.coloured);
     let start = words * (side / 8192) as usize;
     let end = start + words;
     let at = Coordinates {
@@ -94,20 +131,25 @@ fn write_side(vertices: &mut [u32], scene: Scene, cubes: &[u32], row: Row, side:
         y: row.y,
         z: row.z,
     };
-    write_place(
-        vertices,
+    write_places(
+        positions,
+        normals,
+        uvs,
+        colours,
+        scene,
         &cubes[start..end],
-        floats,
         face_at(side / 1024 % 8),
         at,
-        scene.d,
         q,
     );
 }
 
 // Writes the quads of faces of a row at the places from `base` on.
 pub fn vertex_row(
-    vertices: &mut [u32],
+    positions: &mut [u32],
+    normals: &mut [u32],
+    uvs: &mut [u32],
+    colours: &mut [u32],
     scene: Scene,
     cubes: &[u32],
     row: Row,
@@ -116,14 +158,25 @@ pub fn vertex_row(
 )
     requires { ⌜ Within (sizeOf (scene .dims)) × Starts (sizeOf (scene .dims)) (row .first) (row .y) (row .z)
         × ((i : ℕ) → i < length (now sides) → Side (sceneOf scene [] [] (now cubes)) (row .first) (getD (now sides) i 0))
-        × (span (sceneOf scene [] [] (now cubes)) * (base + length (now sides)) ≤ length (now vertices))
+        × Long (scene .coloured) (base + length (now sides)) (verticesOf (now positions) (now normals) (now uvs) (now colours))
         × (4 * (base + length (now sides)) ≤ NONE) ⌝ }
-    ensures { λ _. ⌜ now (vertices .exit) ≡ put (span (sceneOf scene [] [] (now (cubes .entry))) * base)
-        (rowsOf (sideRow (sceneOf scene [] [] (now (cubes .entry))) (row .first)) (now (sides .entry))) (now (vertices .entry)) ⌝ }
+    ensures { λ _. ⌜ verticesOf (now (positions .exit)) (now (normals .exit)) (now (uvs .exit)) (now (colours .exit))
+        ≡ rowsWritten (sceneOf scene [] [] (now (cubes .entry))) (row .first) (now (sides .entry)) base
+        (verticesOf (now (positions .entry)) (now (normals .entry)) (now (uvs .entry)) (now (colours .entry))) ⌝ }
 {
     let mut i: usize = 0;
     while i < sides.len() {
-        write_side(vertices, scene, cubes, row, sides[i], base + i);
+        write_side(
+            positions,
+            normals,
+            uvs,
+            colours,
+            scene,
+            cubes,
+            row,
+            sides[i],
+            base + i,
+        );
         i += 1;
     }
 }

@@ -24,7 +24,7 @@ ghost use Rattle.exports.specs.Arguments.{ABI, shapeFrom};
 pub extern "C" fn meshem_abi() -> u32
     ensures { λ r. ⌜ r ≡ ABI ⌝ }
 {
-    2
+    3
 }
 
 #[no_mangle]
@@ -89,7 +89,10 @@ pub extern "C" fn meshem_mesh_grid(
     cy: u32,
     cz: u32,
     algorithm: u32,
-    vertices: &mut [u32],
+    positions: &mut [u32],
+    normals: &mut [u32],
+    uvs: &mut [u32],
+    colours: &mut [u32],
     triangles: &mut [u32],
     links: &mut [u32],
     slots: &mut [u32],
@@ -97,8 +100,8 @@ pub extern "C" fn meshem_mesh_grid(
     quads: &mut u64,
 ) -> u32
     ensures { λ r. ⌜ TellsMesh (sceneFrom width height length (now (kinds .entry)) (now (covers .entry)) (now (cubes .entry)) coloured dx dy dz cx cy cz)
-        (now (outer .entry)) (now (grid .entry)) (isYes algorithm) (before vertices triangles links slots)
-        (answer r (now (place .exit)) (now (quads .exit)) 0) (after vertices triangles links slots) ⌝ }
+        (now (outer .entry)) (now (grid .entry)) (isYes algorithm) (before positions normals uvs colours triangles links slots)
+        (answer r (now (place .exit)) (now (quads .exit)) 0) (after positions normals uvs colours triangles links slots) ⌝ }
 {
     let scene = scene_of(width, height, length, coloured, dx, dy, dz, cx, cy, cz);
     let by = algorithm_of(is_yes(algorithm));
@@ -110,7 +113,10 @@ pub extern "C" fn meshem_mesh_grid(
         covers,
         cubes,
         by,
-        vertices,
+        positions,
+        normals,
+        uvs,
+        colours,
         triangles,
         links,
         slots,
@@ -122,7 +128,10 @@ pub extern "C" fn meshem_mesh_grid(
 
 #[no_mangle]
 pub extern "C" fn meshem_update_mesh(
-    vertices: &mut [u32],
+    positions: &mut [u32],
+    normals: &mut [u32],
+    uvs: &mut [u32],
+    colours: &mut [u32],
     triangles: &mut [u32],
     links: &mut [u32],
     slots: &mut [u32],
@@ -147,8 +156,8 @@ pub extern "C" fn meshem_update_mesh(
     moved: &mut u64,
 ) -> u32
     ensures { λ r. ⌜ TellsUpdate tested (sceneFrom width height length (now (kinds .entry)) (now (covers .entry)) (now (cubes .entry)) coloured dx dy dz cx cy cz)
-        (now (log .entry)) (before vertices triangles links slots) count
-        (answer r (now (place .exit)) (now (quads .exit)) (now (moved .exit))) (after vertices triangles links slots) ⌝ }
+        (now (log .entry)) (before positions normals uvs colours triangles links slots) count
+        (answer r (now (place .exit)) (now (quads .exit)) (now (moved .exit))) (after positions normals uvs colours triangles links slots) ⌝ }
 {
     let scene = scene_of(width, height, length, coloured, dx, dy, dz, cx, cy, cz);
     let side = tested_of(is_yes(tested));
@@ -159,7 +168,10 @@ pub extern "C" fn meshem_update_mesh(
         cubes,
         side,
         log,
-        vertices,
+        positions,
+        normals,
+        uvs,
+        colours,
         triangles,
         links,
         slots,
@@ -188,7 +200,10 @@ pub extern "C" fn meshem_check_mesh(
     cx: u32,
     cy: u32,
     cz: u32,
-    vertices: &[u32],
+    positions: &[u32],
+    normals: &[u32],
+    uvs: &[u32],
+    colours: &[u32],
     triangles: &[u32],
     links: &[u32],
     slots: &[u32],
@@ -196,7 +211,7 @@ pub extern "C" fn meshem_check_mesh(
     place: &mut u64,
 ) -> u32
     ensures { λ r. ⌜ TellsCheck (sceneFrom width height length (now (kinds .entry)) (now (covers .entry)) (now (cubes .entry)) coloured dx dy dz cx cy cz)
-        (now (outer .entry)) (now (grid .entry)) (before vertices triangles links slots) count r (now (place .exit)) ⌝ }
+        (now (outer .entry)) (now (grid .entry)) (before positions normals uvs colours triangles links slots) count r (now (place .exit)) ⌝ }
 {
     let scene = scene_of(width, height, length, coloured, dx, dy, dz, cx, cy, cz);
     let checked = told_by_verdict(check_mesh(
@@ -206,7 +221,10 @@ pub extern "C" fn meshem_check_mesh(
         kinds,
         covers,
         cubes,
-        vertices,
+        positions,
+        normals,
+        uvs,
+        colours,
         triangles,
         links,
         slots,

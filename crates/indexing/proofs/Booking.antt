@@ -9,7 +9,7 @@ use lib.ListN.{length, getD, length-append}
 use borrow.Author.Tests.{ne-eqb}
 use Rattle.rules.specs.Lists.{table}
 use Rattle.rules.specs.Cells.{linkOf, firstVertex}
-use Rattle.rules.specs.Mesh.{Quad, NONE, there, placeOf, laid, slotOf, listsOf}
+use Rattle.rules.specs.Mesh.{Quad, NONE, there, placeOf, laid, slotOf}
 use Rattle.rules.specs.Update.{blank, removeAt, remove, movedBy, moved, step, run, movedIn, moves, highest}
 use Rattle.rules.proofs.ListLaws.{All, all-at, all-kept, split, not-false, getD-table}
 use Rattle.rules.proofs.Quads.{placed, length-removeAt}
@@ -62,7 +62,7 @@ module _ (G : Ground) where
         let d : length m + 1 ≡ length (m ++ (quad j t ∷ [])) = omega arith in
         let u = k .within in
         let long = G .long in
-        let a = layouts.links-drawn (G .faces) (G .span) h m (listsOf [] [] (G .old) []) (k .fits) (quad j t) (l, w) (k .reached) (omega arith) (omega arith) (omega arith)
+        let a = layouts.links-drawn (G .faces) (G .span) h m (G .old) (k .fits) (quad j t) (k .reached) (omega arith) (omega arith)
         ∙ ap (λ (y : ℕ). laid 1 (λ q x. linkOf (x .key) ∷ []) (max h y) (m ++ (quad j t ∷ [])) (G .old)) (sym c) in
         let b = meshes.slots-drawn m (k .once) (quad j t) new (G .faces) l in
         λ i. record { links = a i; slots = b i; quads = d i; moved = v; top = max h (d i); steps = xs ++ (came j t ∷ []) }

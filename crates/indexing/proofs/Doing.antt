@@ -12,7 +12,7 @@ use lib.Seq.{getD-set-same, getD-set-other}
 use borrow.Author.Tests.{lt-ltb}
 use Rattle.rules.specs.Lists.{each}
 use Rattle.rules.specs.Cells.{keyIn, onlyIf}
-use Rattle.rules.specs.Mesh.{Quad, NONE, slotOf, listsOf}
+use Rattle.rules.specs.Mesh.{Quad, NONE, slotOf}
 use Rattle.rules.specs.Update.{Op, step, movedIn, highest}
 use Rattle.rules.proofs.Acting.{Acts}
 use Rattle.rules.proofs.ListLaws.{All, within, split, length-table, each-same, each-split}
@@ -66,7 +66,7 @@ module _ {space : ℕ} {ds : List Deed} {B : Index} (r : Ready space ds B) where
       let b = r .ground .long in
       let c = r .ground .small in
       ap (λ (I : Index). length (I .links)) (r .is)
-      ∙ length-links (r .ground .faces) (r .ground .span) (r .top) (omega arith) (r .mesh) (listsOf [] [] (r .ground .old) []) (r .sane .fits) (r .sane .reached) (omega arith)
+      ∙ length-links (r .ground .faces) (r .ground .span) (r .top) (r .mesh) (r .ground .old) (r .sane .fits) (r .sane .reached) (omega arith)
 
   long-slots : length (B .slots) ≡ r .ground .faces
   long-slots = ap (λ (I : Index). length (I .slots)) (r .is) ∙ length-table (slotOf (r .mesh)) (r .ground .faces)
@@ -76,7 +76,7 @@ module _ {space : ℕ} {ds : List Deed} {B : Index} (r : Ready space ds B) where
       let b = r .sane .within in
       let c = r .ground .long in
       subst (λ (I : Index). Linked (I .quads) (I .links) (I .slots)) (sym (r .is))
-      (layouts.linked (r .ground .faces) (r .ground .span) (r .top) (r .mesh) (listsOf [] [] (r .ground .old) []) (r .sane .fits) (r .ground .small) (r .sane .once) (r .sane .reached) (omega arith))
+      (layouts.linked (r .ground .faces) (r .ground .span) (r .top) (r .mesh) (r .ground .old) (r .sane .fits) (r .ground .small) (r .sane .once) (r .sane .reached) (omega arith))
 
 pub space-left : {space : ℕ} {d : Deed} {ds : List Deed} {links slots : List ℕ} (xs : List ℕ) (t : Tally) → Ready space (d ∷ ds) (indexOf links slots xs t) → 2 * t .steps + 2 ≤ space
 space-left xs t r = let n = length-table (stepAt xs) (t .steps) in let s = r .steps in omega arith

@@ -3,7 +3,6 @@ use mathlib.Core.Path.{_≡_, sym, subst}
 use mathlib.Core.Bool.{true, _&&_}
 use mathlib.Core.List.{List}
 use Prim.Native.Nat.{ℕ, _*_, _^_, _≤_, _<_}
-use native.Mathlib.Nat.{mul-le-mul-right}
 use native.Mathlib.Omega.{arith}
 use lib.Dec.{T, leb, ltb}
 use lib.ListN.{length, getD}
@@ -11,16 +10,14 @@ use lib.Ieee.Fits.{and-l, and-r}
 use borrow.Author.Tests.{ltb-false, leb-false, eqb-true, eq-eqb, not-false}
 use Rattle.rules.specs.Cells.{cells}
 use Rattle.rules.specs.Floats.{finite3}
-use Rattle.rules.specs.Types.{floats}
-use Rattle.rules.specs.Mesh.{Lists}
+use Rattle.rules.specs.Mesh.{position, of-positions, Lists}
 use Rattle.rules.specs.Answers.{fine, refuseIf, refuseLowest, badCounts, badType, notACube, BAD-SIZE, BAD-GRID, BAD-TYPES, BAD-NUMBER, NOT-A-CUBE, BAD-OUTER, BAD-CELL, SHORT-SLOTS, BAD-COUNT}
-use Rattle.rules.specs.Calls.{Scene, span, room, typesVerdict, inputVerdict}
+use Rattle.rules.specs.Calls.{Scene, room, typesVerdict, inputVerdict}
 use Rattle.rules.proofs.ListLaws.{or-false, not-true}
 use Rattle.rules.proofs.Checking.{then-fine, if-fine, lowest-fine}
 use Rattle.rules.proofs.Demands.{Room, room-for}
 use Rattle.util.specs.Grid.{Within}
 use Rattle.util.proofs.Limits.{within}
-use Rattle.voxel_mesh.proofs.Shapes.{few}
 use Rattle.types.proofs.Known.{counted}
 use Rattle.lent.specs.Scenes.{Typed, Admitted, Lent}
 
@@ -67,16 +64,16 @@ admitted S outer g B e =
     }
 
 -- a count that is within the room
-pub lent : (S : Scene) (B : Lists) (Q : ℕ) → Within (S .size) → length (B .vertices) < 2 ^ 64 → SHORT-SLOTS (S .size) B ≡ fine
-    → BAD-COUNT (floats (S .types)) B Q ≡ fine → Lent (cells (S .size)) (B .links) (B .slots) Q × Room S B Q
+pub lent : (S : Scene) (B : Lists) (Q : ℕ) → Within (S .size) → length (B .vertices .positions) < 2 ^ 64 → SHORT-SLOTS (S .size) B ≡ fine
+    → BAD-COUNT (room S B) Q ≡ fine → Lent (cells (S .size)) (B .links) (B .slots) Q × Room S B Q
 lent S B Q w fits short count =
     let r : Room S B Q = room-for S B Q (ltb-false (room S B) Q (if-fine _ 10 0 count)) in
-    let least : 4 * Q ≤ span S * Q = mul-le-mul-right Q (omega (arith, few (S .types .coloured))) in (
+    let least = r .vertices position (B .vertices .positions) of-positions in (
       record {
         few = w .most;
         slotted = ltb-false _ (6 * cells (S .size)) (if-fine _ 9 0 short);
         linked = r .links;
-        fits = omega (arith, r .vertices);
+        fits = omega arith;
       },
       r,
     )

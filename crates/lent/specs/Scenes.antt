@@ -16,7 +16,10 @@ use Rattle.terms.specs.declared.Lengths.{Lengths}
 
 -- lists of these lengths
 pub record Long (B : Lists) (n : Lengths) : Type 0 where
-  pub vertices : length (B .vertices) ≡ n .vertices
+  pub positions : length (B .vertices .positions) ≡ n .positions
+  pub normals : length (B .vertices .normals) ≡ n .normals
+  pub uvs : length (B .vertices .uvs) ≡ n .uvs
+  pub colours : length (B .vertices .colours) ≡ n .colours
   pub triangles : length (B .triangles) ≡ n .triangles
   pub links : length (B .links) ≡ n .links
   pub slots : length (B .slots) ≡ n .slots

@@ -131,18 +131,21 @@ fn least(a: usize, b: usize) -> usize
     if a <= b { a } else { b }
 }
 
-// Room in quads.
+// Room in quads: the least over all lists, the colour list counted only with colour.
 pub fn room_of(coloured: bool, lengths: Lengths) -> usize
-    ensures { λ r. ⌜ ((B : Lists) → Long B lengths → r ≡ roomOf (floatsOf coloured) B) ⌝ }
+    ensures { λ r. ⌜ ((B : Lists) → Long B lengths → r ≡ roomOf coloured B) ⌝ }
 {
-    least(
-        lengths.vertices / (4 * floats_of(coloured)),
-        least(lengths.triangles / 6, lengths.links),
-    )
+    let indexed = least(lengths.triangles / 6, lengths.links);
+    let faced = least(lengths.normals / 12, least(lengths.uvs / 8, indexed));
+    let others = least(lengths.positions / 12, faced);
+    if coloured {
+        return least(lengths.colours / 16, others);
+    }
+    others
 }
 
 pub fn count_verdict(coloured: bool, lengths: Lengths, count: usize) -> Verdict
-    ensures { λ r. ⌜ ((B : Lists) → Long B lengths → verdictOf r ≡ BAD-COUNT (floatsOf coloured) B count) ⌝ }
+    ensures { λ r. ⌜ ((B : Lists) → Long B lengths → verdictOf r ≡ BAD-COUNT (roomOf coloured B) count) ⌝ }
 {
     refuse_if(room_of(coloured, lengths) < count, Refusal::BadCount, 0)
 }
@@ -206,7 +209,7 @@ pub fn open_verdict(
 // SHORT_ROOM and BAD_COUNT: what the update asks before the mesh is looked at.
 pub fn lent_verdict(scene: Scene, lengths: Lengths, count: usize) -> Verdict
     requires { ⌜ Within (sizeOf (scene .dims)) ⌝ }
-    ensures { λ r. ⌜ ((B : Lists) → Long B lengths → verdictOf r ≡ (SHORT-SLOTS (sizeOf (scene .dims)) B then BAD-COUNT (floatsOf (scene .coloured)) B count)) ⌝ }
+    ensures { λ r. ⌜ ((B : Lists) → Long B lengths → verdictOf r ≡ (SHORT-SLOTS (sizeOf (scene .dims)) B then BAD-COUNT (roomOf (scene .coloured) B) count)) ⌝ }
 {
     let slotted = slots_verdict(scene.dims, lengths.slots);
     if is_refusal(slotted) {

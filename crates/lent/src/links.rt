@@ -11,7 +11,7 @@ ghost use mathlib.Core.List.{List, []};
 ghost use Prim.Native.Nat.{ℕ, _*_, _^_, _≤_, _<_};
 ghost use lib.ListN.{length};
 ghost use Rattle.rules.specs.Lists.{lowest};
-ghost use Rattle.rules.specs.Mesh.{listsOf, bookOf};
+ghost use Rattle.rules.specs.Mesh.{Vertices, listsOf, bookOf};
 ghost use Rattle.rules.specs.Answers.{badLink, slotsFilled, BAD-LINKS};
 ghost use Rattle.answers.specs.Verdicts.{verdictOf};
 ghost use Rattle.lent.specs.Scenes.{Lent};
@@ -66,7 +66,7 @@ fn filled_slots(slots: &[u32], n: usize) -> u32
 
 pub fn links_verdict(cells: u32, links: &[u32], slots: &[u32], count: usize) -> Verdict
     requires { ⌜ Lent cells (now links) (now slots) count ⌝ }
-    ensures { λ r. ⌜ ((vertices triangles : List ℕ) → verdictOf r ≡ BAD-LINKS cells (listsOf vertices triangles (now (links .entry)) (now (slots .entry))) count) ⌝ }
+    ensures { λ r. ⌜ ((vertices : Vertices) (triangles : List ℕ) → verdictOf r ≡ BAD-LINKS cells (listsOf vertices triangles (now (links .entry)) (now (slots .entry))) count) ⌝ }
 {
     let bad = lowest_bad_link(cells, links, slots, count);
     if bad < count {

@@ -9,7 +9,7 @@ ghost use mathlib.Core.List.{List};
 ghost use Prim.Native.Nat.{ℕ, _+_, _*_, _^_, _≤_, _<_};
 ghost use lib.ListN.{length};
 ghost use Rattle.rules.specs.Lists.{every, lowest, row, same};
-ghost use Rattle.rules.specs.Mesh.{pattern, listsOf};
+ghost use Rattle.rules.specs.Mesh.{pattern, Vertices, listsOf};
 ghost use Rattle.rules.specs.Answers.{BAD-TRIANGLES};
 ghost use Rattle.answers.specs.Verdicts.{verdictOf};
 ghost use Rattle.lent.specs.Patterns.{goesOn};
@@ -83,7 +83,7 @@ fn lowest_bad_triangles(triangles: &[u32], count: usize) -> usize
 
 pub fn triangles_verdict(triangles: &[u32], count: usize) -> Verdict
     requires { ⌜ (6 * count ≤ length (now triangles)) × (count ≤ 2 ^ 30) ⌝ }
-    ensures { λ r. ⌜ ((vertices links slots : List ℕ) → verdictOf r ≡ BAD-TRIANGLES (listsOf vertices (now (triangles .entry)) links slots) count) ⌝ }
+    ensures { λ r. ⌜ ((vertices : Vertices) (links slots : List ℕ) → verdictOf r ≡ BAD-TRIANGLES (listsOf vertices (now (triangles .entry)) links slots) count) ⌝ }
 {
     let bad = lowest_bad_triangles(triangles, count);
     refuse_if(bad < count, Refusal::BadTriangles, bad)

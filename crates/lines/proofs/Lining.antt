@@ -147,17 +147,17 @@ pub refused-room : (number place : ℕ) {out : List ℕ} → number < 1844674407
 refused-room number place h l k = record { fits = omega (arith, refused-short number place h l) }
 
 -- ---- lines show the keys alone: those of the quads that four lists hold are those of the links
-keys-shown : (s : ℕ) (B : Lists) (n k i : ℕ) → k + n ≤ length (B .links)
-    → quadLines i (each n k (λ q. decoded s B q ∷ [])) ≡ quadLines i (quadsOf (take n (drop k (B .links))))
+keys-shown : (tint : Bool) (B : Lists) (n k i : ℕ) → k + n ≤ length (B .links)
+    → quadLines i (each n k (λ q. decoded tint B q ∷ [])) ≡ quadLines i (quadsOf (take n (drop k (B .links))))
 unfolding each
-keys-shown s B zero k i h = refl
-keys-shown s B (suc n) k i h =
+keys-shown tint B zero k i h = refl
+keys-shown tint B (suc n) k i h =
     rw (drop-cons (B .links) k 0 (omega arith))
     (ap (λ (r : List ℕ). decimal i ++ (32 ∷ decimal (keyIn (getD (B .links) k 0) / 6)) ++ (32 ∷ decimal (keyIn (getD (B .links) k 0) % 6)) ++ (10 ∷ r))
-    (keys-shown s B n (suc k) (suc i) (omega arith)))
+    (keys-shown tint B n (suc k) (suc i) (omega arith)))
 
-pub lines-decoded : (a : Answer) (s Q : ℕ) (B : Lists) → Q ≤ length (B .links) → meshLines a (decode s Q B) ≡ meshLines a (quadsOf (take Q (B .links)))
-lines-decoded a s Q B h = ap (λ (r : List ℕ). QUADS ++ decimal (a .quads) ++ MOVED ++ decimal (a .moved) ++ (10 ∷ r)) (keys-shown s B Q 0 0 (omega arith))
+pub lines-decoded : (a : Answer) (tint : Bool) (Q : ℕ) (B : Lists) → Q ≤ length (B .links) → meshLines a (decode tint Q B) ≡ meshLines a (quadsOf (take Q (B .links)))
+lines-decoded a tint Q B h = ap (λ (r : List ℕ). QUADS ++ decimal (a .quads) ++ MOVED ++ decimal (a .moved) ++ (10 ∷ r)) (keys-shown tint B Q 0 0 (omega arith))
 
 -- ---- the faces of a set
 

@@ -7,15 +7,17 @@ use native.Mathlib.Omega.{arith}
 use lib.ListN.{length, take, drop, replicate, length-map}
 use Rattle.rules.specs.Lists.{each}
 use Rattle.rules.specs.Cells.{cells, linkOf}
-use Rattle.rules.specs.Mesh.{Quad, Lists, NONE, pattern, typeAt, laid, slotted, layout, listsOf}
-use Rattle.rules.specs.Calls.{Scene, world, span, faces, freshMesh}
+use Rattle.rules.specs.Types.{floats}
+use Rattle.rules.specs.Mesh.{Quad, Attribute, Vertices, HasList, eachList, Lists, NONE, pattern, typeAt, laid, slotted, rowOf, attributeLaid, layout, listsOf}
+use Rattle.rules.specs.Calls.{Scene, world, faces, freshMesh}
 use Rattle.rules.proofs.ListLaws.{All}
-use Rattle.rules.proofs.Demands.{words-sized}
+use Rattle.rules.proofs.Attributes.{inside-of, each-list, each-again, each-stays}
 use Rattle.vav.specs.Rows.{put}
 use Rattle.vav.proofs.Laws.{put-none}
 use Rattle.culling.specs.Culling.{worldOf, outerSet}
-use Rattle.drawing.specs.Written.{rowsOf, linkRow, wordRow, named, sideOf, sideRow}
-use Rattle.drawing.proofs.Sides.{InRow, side-rows}
+use Rattle.drawing.specs.Written.{rowsOf, linkRow, wordRow, named, sideOf, sideRow, rowsWritten, Long}
+use Rattle.drawing.proofs.Sides.{InRow, side-rows, row-wide}
+use Rattle.drawing.proofs.Lengths.{Alike, each-alike}
 use Rattle.drawing.proofs.Patterns.{length-patterns}
 use Rattle.drawing.proofs.Turns.{rows-then, kept-rows, named-then, kept-named}
 use Rattle.drawing.proofs.Laid.{rows-laid, places-laid, slots-named}
@@ -27,14 +29,21 @@ use Rattle.meshem.proofs.Faces.{rising-first, quadOn, quads-of-keys, as
 use Rattle.meshem.proofs.Turns.{set-world}
 
 module _ (S : Scene) (g : List ℕ) (sets : ℕ → ℕ) where
-  words-wide : (k : ℕ) → length (wordRow S g k) ≡ span S
-  words-wide k = words-sized S (typeAt g (k / 6)) (k % 6) (k / 6)
+  abbrev tint : Bool
+  tint = S .types .coloured
 
-  module _ (vs₀ ls₀ ss₀ : List ℕ) where
+  words-wide : (b : Attribute) → b .start + b .width ≤ floats (S .types) → (k : ℕ) → length (wordRow S b g k) ≡ 4 * b .width
+  words-wide b has k = row-wide S b has (typeAt g (k / 6)) (k % 6) (k / 6)
+
+  -- the cells before c are drawn in an attribute's list
+  abbrev pub rowsDrawn : ℕ → Attribute → List ℕ → List ℕ
+  rowsDrawn c b xs = put (4 * b .width * 0) (rowsOf (wordRow S b g) (keysOf sets 0 c)) xs
+
+  module _ (vs₀ : Vertices) (ls₀ ss₀ : List ℕ) where
     -- the cells before c are drawn, and `base` is the next place
-    pub record Drawn (c base : ℕ) (vertices links slots : List ℕ) : Type 0 where
+    pub record Drawn (c base : ℕ) (vertices : Vertices) (links slots : List ℕ) : Type 0 where
       pub count : base ≡ asked sets 0 c
-      pub vertices-are : vertices ≡ put (span S * 0) (rowsOf (wordRow S g) (keysOf sets 0 c)) vs₀
+      pub vertices-are : vertices ≡ eachList tint (rowsDrawn c) vs₀
       pub links-are : links ≡ put (1 * 0) (rowsOf linkRow (keysOf sets 0 c)) ls₀
       pub slots-are : slots ≡ named 0 (keysOf sets 0 c) ss₀
 
@@ -44,15 +53,16 @@ module _ (S : Scene) (g : List ℕ) (sets : ℕ → ℕ) where
         let e = sym (keys-none sets 0) in
         record {
           count = refl;
-          vertices-are = put-none (span S * 0) vs₀ ∙ ap (λ (r : List ℕ). put (span S * 0) (rowsOf (wordRow S g) r) vs₀) e;
+          vertices-are = sym (each-stays tint vs₀) ∙ each-list tint vs₀ (λ b xs. xs) (rowsDrawn 0)
+              (λ b xs l. put-none (4 * b .width * 0) xs ∙ ap (λ (r : List ℕ). put (4 * b .width * 0) (rowsOf (wordRow S b g) r) xs) e);
           links-are = put-none (1 * 0) ls₀ ∙ ap (λ (r : List ℕ). put (1 * 0) (rowsOf linkRow r) ls₀) e;
           slots-are = ap (λ (r : List ℕ). named 0 r ss₀) e;
         }
 
     -- a row more: its faces, in each list from `base` on
-    pub row-more : {c base n : ℕ} (w : ℕ) {vs ls ss ts vs₁ ls₁ ss₁ ts₁ keys : List ℕ} → Drawn c base vs ls ss → n ≡ asked sets c w → keys ≡ keysOf sets c w → All (InRow g c) keys
-        → Entered base (sideOf g c) keys ls ss ts ls₁ ss₁ ts₁ 0 n → vs₁ ≡ put (span S * base) (rowsOf (sideRow S c) (take n ts₁)) vs → Drawn (c + w) (base + n) vs₁ ls₁ ss₁
-    row-more {c} {base} {n} w {vs} {ls} {ss} {ts} {vs₁} {ls₁} {ss₁} {ts₁} {keys} d e k inside t v =
+    pub row-more : {c base n : ℕ} (w : ℕ) {vs vs₁ : Vertices} {ls ss ts ls₁ ss₁ ts₁ keys : List ℕ} → Drawn c base vs ls ss → n ≡ asked sets c w → keys ≡ keysOf sets c w → All (InRow g c) keys
+        → Entered base (sideOf g c) keys ls ss ts ls₁ ss₁ ts₁ 0 n → vs₁ ≡ rowsWritten S c (take n ts₁) base vs → Drawn (c + w) (base + n) vs₁ ls₁ ss₁
+    row-more {c} {base} {n} w {vs} {vs₁} {ls} {ss} {ts} {ls₁} {ss₁} {ts₁} {keys} d e k inside t v =
         let before = keysOf sets 0 c in
         let at : base ≡ 0 + length before = omega (arith, d .count, length-keys sets c 0) in
         let on : base + 0 ≡ base = omega arith in
@@ -61,10 +71,13 @@ module _ (S : Scene) (g : List ℕ) (sets : ℕ → ℕ) where
         ap (λ (r : List ℕ). before ++ r) k ∙ ap (λ (i : ℕ). before ++ keysOf sets i w) (sym z) ∙ sym (keys-on sets c w 0) in
         record {
           count = omega (arith, d .count, e, asked-on sets c w);
-          vertices-are = v ∙ ap (λ (r : List ℕ). put (span S * base) (rowsOf (sideRow S c) r) vs) (t .sides)
-              ∙ (λ i. put (span S * base) (side-rows S g c keys inside i) (d .vertices-are i))
-              ∙ rows-then (span S) (wordRow S g) words-wide 0 base before keys vs₀ at (let y : span S * 0 ≡ 0 = omega arith in omega arith)
-              ∙ ap (λ (r : List ℕ). put (span S * 0) (rowsOf (wordRow S g) r) vs₀) all;
+          vertices-are = v ∙ ap (rowsWritten S c (take n ts₁) base) (d .vertices-are)
+              ∙ each-again tint vs₀ (λ b xs. put (4 * b .width * base) (rowsOf (sideRow S b c) (take n ts₁)) xs) (rowsDrawn c)
+              ∙ each-list tint vs₀ (λ b xs. put (4 * b .width * base) (rowsOf (sideRow S b c) (take n ts₁)) (rowsDrawn c b xs)) (rowsDrawn (c + w))
+              (λ b xs l. ap (λ (r : List ℕ). put (4 * b .width * base) (rowsOf (sideRow S b c) r) (rowsDrawn c b xs)) (t .sides)
+              ∙ ap (λ (r : List ℕ). put (4 * b .width * base) r (rowsDrawn c b xs)) (side-rows S b g c keys inside)
+              ∙ rows-then (4 * b .width) (wordRow S b g) (words-wide b (inside-of tint vs₀ b xs l)) 0 base before keys xs at (let y : 4 * b .width * 0 ≡ 0 = omega arith in omega arith)
+              ∙ ap (λ (r : List ℕ). put (4 * b .width * 0) (rowsOf (wordRow S b g) r) xs) all);
           links-are = t .links ∙ (λ i. put (1 * on i) (rowsOf linkRow keys) (d .links-are i))
               ∙ rows-then 1 linkRow (λ i. refl) 0 base before keys ls₀ at (omega arith)
               ∙ ap (λ (r : List ℕ). put (1 * 0) (rowsOf linkRow r) ls₀) all;
@@ -72,12 +85,14 @@ module _ (S : Scene) (g : List ℕ) (sets : ℕ → ℕ) where
         }
 
     -- the lists keep their lengths
-    module _ {c base : ℕ} {vs ls ss : List ℕ} (d : Drawn c base vs ls ss) where
-      pub kept-vertices : span S * asked sets 0 c ≤ length vs₀ → length vs ≡ length vs₀
-      kept-vertices h =
-          ap length (d .vertices-are)
-          ∙ kept-rows (span S) (wordRow S g) words-wide 0 (keysOf sets 0 c) vs₀
+    module _ {c base : ℕ} {vs : Vertices} {ls ss : List ℕ} (d : Drawn c base vs ls ss) where
+      kept-one : (b : Attribute) (xs : List ℕ) → HasList tint vs₀ b xs → 4 * b .width * asked sets 0 c ≤ length xs → length (rowsDrawn c b xs) ≡ length xs
+      kept-one b xs l h =
+          kept-rows (4 * b .width) (wordRow S b g) (words-wide b (inside-of tint vs₀ b xs l)) 0 (keysOf sets 0 c) xs
           (let e : 0 + length (keysOf sets 0 c) ≡ asked sets 0 c = omega (arith, length-keys sets c 0) in rw e h)
+
+      pub kept-vertices : Long tint (asked sets 0 c) vs₀ → Alike vs vs₀
+      kept-vertices long = rw (d .vertices-are) (each-alike tint vs₀ (rowsDrawn c) (λ b xs l. kept-one b xs l (long b xs l)))
 
       pub kept-links : asked sets 0 c ≤ length ls₀ → length ls ≡ length ls₀
       kept-links h =
@@ -102,10 +117,10 @@ module _ (S : Scene) (outer g : List ℕ) (culling by : Bool) (set : ℕ) (mode 
       ap (map (quadOn (world S) g)) (keys-like found (setAt culling (world S) outer g) (cells (S .size)) 0 (λ k a b. found-is k)) ∙ quads-of-keys S outer g culling
 
   -- LAW: when every quad is drawn, the lists are the layout of the fresh mesh
-  pub drawn-all : (B : Lists) {c base Q : ℕ} {vs T ls ss ss₀ : List ℕ} → c ≤ cells (S .size) → Q ≤ base → Q ≡ length (freshMesh S outer g culling)
+  pub drawn-all : (B : Lists) {c base Q : ℕ} {vs : Vertices} {T ls ss ss₀ : List ℕ} → c ≤ cells (S .size) → Q ≤ base → Q ≡ length (freshMesh S outer g culling)
       → Drawn S g found (B .vertices) (B .links) ss₀ c base vs ls ss
       → ss₀ ≡ replicate (faces S) NONE ++ drop (faces S) (B .slots) → T ≡ put (6 * 0) (each (Q - 0) 0 pattern) (B .triangles)
-      → listsOf vs T ls ss ≡ layout (faces S) (span S) (length (freshMesh S outer g culling)) (freshMesh S outer g culling) B
+      → listsOf vs T ls ss ≡ layout (faces S) (S .types .coloured) (length (freshMesh S outer g culling)) (freshMesh S outer g culling) B
   unfolding slotted
   drawn-all B {c} {base} {Q} {vs} {T} {ls} {ss} {ss₀} h whole q d bare t =
       let m = freshMesh S outer g culling in
@@ -114,9 +129,11 @@ module _ (S : Scene) (outer g : List ℕ) (culling by : Bool) (set : ℕ) (mode 
       let quad = quadOn (world S) g in
       let f = found-quads in
       let n : length keys ≡ length m = sym (length-map keys quad) ∙ ap length f in
-      let v = d .vertices-are ∙ ap (λ (r : List ℕ). put (span S * 0) (rowsOf (wordRow S g) r) (B .vertices)) e
-      ∙ rows-laid (span S) (λ x. x .words) quad keys (B .vertices) (words-wide S g found)
-      ∙ (λ i. laid (span S) (λ q x. x .words) (n i) (f i) (B .vertices)) in
+      let v = d .vertices-are
+      ∙ each-list (S .types .coloured) (B .vertices) (rowsDrawn S g found c) (attributeLaid (S .types .coloured) (length m) m)
+      (λ b xs l. ap (λ (r : List ℕ). put (4 * b .width * 0) (rowsOf (wordRow S b g) r) xs) e
+      ∙ rows-laid (4 * b .width) (rowOf (S .types .coloured) b) quad keys xs (words-wide S g found b (inside-of (S .types .coloured) (B .vertices) b xs l))
+      ∙ (λ i. laid (4 * b .width) (λ q x. rowOf (S .types .coloured) b x) (n i) (f i) xs)) in
       let p = t ∙ ap (λ (i : ℕ). put (6 * 0) (each (i - 0) 0 pattern) (B .triangles)) q
       ∙ places-laid 6 pattern m (B .triangles) length-patterns in
       let l = d .links-are ∙ ap (λ (r : List ℕ). put (1 * 0) (rowsOf linkRow r) (B .links)) e ∙ links-laid keys (B .links)

@@ -7,7 +7,7 @@ use lib.ListN.{length}
 use borrow.Author.Tests.{lt-ltb, le-ltb}
 use Rattle.rules.specs.Mesh.{Lists, layout}
 use Rattle.rules.specs.Answers.{fine, refuse, _then_, refuseIf}
-use Rattle.rules.specs.Calls.{answered, refused, Scene, span, faces, room, freshMesh, meshGrid, inputVerdict}
+use Rattle.rules.specs.Calls.{answered, refused, Scene, faces, room, freshMesh, meshGrid, inputVerdict}
 
 module _ (S : Scene) (outer g : List ℕ) (culling : Bool) (B : Lists) where
   pub refusing : {n p : ℕ} → inputVerdict S outer g B ≡ refuse n p → meshGrid S outer g culling B ≡ record { answer = refused n p; lists = B }
@@ -20,6 +20,6 @@ module _ (S : Scene) (outer g : List ℕ) (culling : Bool) (B : Lists) where
 
   pub done : inputVerdict S outer g B ≡ fine → length (freshMesh S outer g culling) ≤ room S B
       → meshGrid S outer g culling B
-      ≡ record { answer = answered (length (freshMesh S outer g culling)) 0; lists = layout (faces S) (span S) (length (freshMesh S outer g culling)) (freshMesh S outer g culling) B }
+      ≡ record { answer = answered (length (freshMesh S outer g culling)) 0; lists = layout (faces S) (S .types .coloured) (length (freshMesh S outer g culling)) (freshMesh S outer g culling) B }
   unfolding _then_ refuseIf
   done e h = rw (e, le-ltb (room S B) (length (freshMesh S outer g culling)) h)

@@ -27,7 +27,7 @@ pub enum Meshed {
     Refused(Refusal, usize),
 }
 
-// Meshes a grid into the lent lists, or refuses and writes nothing. A row's faces go into the index and a list of their own, and by that list into the vertices.
+// Meshes a grid into the lent lists, or refuses and writes nothing. A row's faces go into the index and a list of their own, and by that list into each attribute's.
 // The rows end with the last quad.
 pub fn mesh_grid(
     scene: Scene,
@@ -37,13 +37,16 @@ pub fn mesh_grid(
     covers: &[u8],
     cubes: &[u32],
     algorithm: MeshingAlgorithm,
-    vertices: &mut [u32],
+    positions: &mut [u32],
+    normals: &mut [u32],
+    uvs: &mut [u32],
+    colours: &mut [u32],
     triangles: &mut [u32],
     links: &mut [u32],
     slots: &mut [u32],
 ) -> Meshed
     ensures { λ r. ⌜ Meshes (sceneLent scene kinds covers cubes) (now (outer .entry)) (now (grid .entry)) (isCulling algorithm)
-        (before vertices triangles links slots) r (after vertices triangles links slots) ⌝ }
+        (before positions normals uvs colours triangles links slots) r (after positions normals uvs colours triangles links slots) ⌝ }
 {
     let told = input_verdict(scene, outer, grid, kinds, covers, cubes, slots.len());
     if let Verdict::Refuse(why, place) = told {
@@ -57,7 +60,10 @@ pub fn mesh_grid(
     let mut sets: [u8; 1024] = [0; 1024];
     let quads = count_quads(dims, culling, look, &along, grid, kinds, covers, &mut sets);
     let lengths = Lengths {
-        vertices: vertices.len(),
+        positions: positions.len(),
+        normals: normals.len(),
+        uvs: uvs.len(),
+        colours: colours.len(),
         triangles: triangles.len(),
         links: links.len(),
         slots: slots.len(),
@@ -101,7 +107,17 @@ pub fn mesh_grid(
             row.first,
             base,
         );
-        vertex_row(vertices, scene, cubes, row, &sides[..n], base);
+        vertex_row(
+            positions,
+            normals,
+            uvs,
+            colours,
+            scene,
+            cubes,
+            row,
+            &sides[..n],
+            base,
+        );
         base += n;
         row = row.next(dims);
     }

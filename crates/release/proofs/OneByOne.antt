@@ -55,7 +55,10 @@ passed S left (meshed.Refused why place) exit c e =
 
 -- the lists keep their lengths
 pub record Kept (A B : Lists) : Type 0 where
-  pub vertices : length (B .vertices) ≡ length (A .vertices)
+  pub positions : length (B .vertices .positions) ≡ length (A .vertices .positions)
+  pub normals : length (B .vertices .normals) ≡ length (A .vertices .normals)
+  pub uvs : length (B .vertices .uvs) ≡ length (A .vertices .uvs)
+  pub colours : length (B .vertices .colours) ≡ length (A .vertices .colours)
   pub triangles : length (B .triangles) ≡ length (A .triangles)
   pub links : length (B .links) ≡ length (A .links)
   pub slots : length (B .slots) ≡ length (A .slots)
@@ -67,7 +70,7 @@ pub record Calling (tested : Tested) (S : Scene) (log : List ℕ) (n : ℕ) (B�
 
 module _ (tested : Tested) (S : Scene) (log : List ℕ) (n : ℕ) (B₀ : Lists) (Q₀ : ℕ) where
   pub starts : Calling tested S log n B₀ Q₀ 0 B₀ Q₀
-  starts = record { kept = record { vertices = refl; triangles = refl; links = refl; slots = refl }; left = rw sub-zero }
+  starts = record { kept = record { positions = refl; normals = refl; uvs = refl; colours = refl; triangles = refl; links = refl; slots = refl }; left = rw sub-zero }
 
   abbrev rest : ℕ → Lists → ℕ → Progress
   rest k = calls tested S log (k + 1) (n - (k + 1))
@@ -84,7 +87,10 @@ module _ (tested : Tested) (S : Scene) (log : List ℕ) (n : ℕ) (B₀ : Lists)
   goes-on k B Q exit count h c s e =
       record {
         kept = record {
-          vertices = s .vertices ∙ c .kept .vertices;
+          positions = s .positions ∙ c .kept .positions;
+          normals = s .normals ∙ c .kept .normals;
+          uvs = s .uvs ∙ c .kept .uvs;
+          colours = s .colours ∙ c .kept .colours;
           triangles = s .triangles ∙ c .kept .triangles;
           links = s .links ∙ c .kept .links;
           slots = s .slots ∙ c .kept .slots;

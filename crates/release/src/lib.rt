@@ -39,13 +39,16 @@ fn check_made(
     kinds: &[u8],
     covers: &[u8],
     cubes: &[u32],
-    vertices: &[u32],
+    positions: &[u32],
+    normals: &[u32],
+    uvs: &[u32],
+    colours: &[u32],
     triangles: &[u32],
     links: &[u32],
     slots: &[u32],
 ) -> Verdict
     ensures { λ r. ⌜ verdictOf r ≡ checkedAfter (answerOf made) (sceneLent scene kinds covers cubes) (now (outer .entry)) (now (grid .entry))
-        (before vertices triangles links slots) ⌝ }
+        (before positions normals uvs colours triangles links slots) ⌝ }
 {
     match made {
         Meshed::Done(quads) => check_mesh(
@@ -55,7 +58,10 @@ fn check_made(
             kinds,
             covers,
             cubes,
-            vertices,
+            positions,
+            normals,
+            uvs,
+            colours,
             triangles,
             links,
             slots,
@@ -67,7 +73,10 @@ fn check_made(
 
 // Meshes a grid by Culling and checks what was made for the same outer list: the check refuses nothing.
 pub fn make_and_check(
-    vertices: &mut [u32],
+    positions: &mut [u32],
+    normals: &mut [u32],
+    uvs: &mut [u32],
+    colours: &mut [u32],
     triangles: &mut [u32],
     links: &mut [u32],
     slots: &mut [u32],
@@ -78,8 +87,8 @@ pub fn make_and_check(
     covers: &[u8],
     cubes: &[u32],
 ) -> Verdict
-    ensures { λ r. ⌜ endsWith (verdictOf r) (after vertices triangles links slots)
-        ≡ makeEnding (sceneLent scene kinds covers cubes) (now (outer .entry)) (now (grid .entry)) (before vertices triangles links slots) ⌝ }
+    ensures { λ r. ⌜ endsWith (verdictOf r) (after positions normals uvs colours triangles links slots)
+        ≡ makeEnding (sceneLent scene kinds covers cubes) (now (outer .entry)) (now (grid .entry)) (before positions normals uvs colours triangles links slots) ⌝ }
 {
     let made = mesh_grid(
         scene,
@@ -89,7 +98,10 @@ pub fn make_and_check(
         covers,
         cubes,
         MeshingAlgorithm::Culling,
-        vertices,
+        positions,
+        normals,
+        uvs,
+        colours,
         triangles,
         links,
         slots,
@@ -102,7 +114,10 @@ pub fn make_and_check(
         kinds,
         covers,
         cubes,
-        vertices,
+        positions,
+        normals,
+        uvs,
+        colours,
         triangles,
         links,
         slots,
@@ -111,7 +126,10 @@ pub fn make_and_check(
 
 // Checks a mesh with no outer face named, mends it by a log, and checks it for the grid `left`: the one that the log left, for the promise.
 pub fn mend_and_check(
-    vertices: &mut [u32],
+    positions: &mut [u32],
+    normals: &mut [u32],
+    uvs: &mut [u32],
+    colours: &mut [u32],
     triangles: &mut [u32],
     links: &mut [u32],
     slots: &mut [u32],
@@ -125,13 +143,13 @@ pub fn mend_and_check(
     log: &[u8],
     left: &[u8],
 ) -> Verdict
-    ensures { λ r. ⌜ (endsWith (verdictOf r) (after vertices triangles links slots)
+    ensures { λ r. ⌜ (endsWith (verdictOf r) (after positions normals uvs colours triangles links slots)
         ≡ mendEnding (testedBy tested) (sceneLent scene kinds covers cubes) (now (grid .entry)) (now (log .entry)) (now (left .entry))
-        (before vertices triangles links slots) quads)
+        (before positions normals uvs colours triangles links slots) quads)
         × (LogFor tested (sceneLent scene kinds covers cubes) (now (grid .entry)) (now (log .entry))
         → now (left .entry) ≡ groundAfter (sceneLent scene kinds covers cubes) (now (log .entry)) (now (grid .entry))
         → verdictOf r ≡ mendPromise (testedBy tested) (sceneLent scene kinds covers cubes) (now (grid .entry)) (now (log .entry))
-        (before vertices triangles links slots) quads) ⌝ }
+        (before positions normals uvs colours triangles links slots) quads) ⌝ }
 {
     let no_face = &grid[..0];
     let passed = check_mesh(
@@ -141,7 +159,10 @@ pub fn mend_and_check(
         kinds,
         covers,
         cubes,
-        vertices,
+        positions,
+        normals,
+        uvs,
+        colours,
         triangles,
         links,
         slots,
@@ -157,7 +178,10 @@ pub fn mend_and_check(
         cubes,
         tested,
         log,
-        vertices,
+        positions,
+        normals,
+        uvs,
+        colours,
         triangles,
         links,
         slots,
@@ -171,7 +195,10 @@ pub fn mend_and_check(
         kinds,
         covers,
         cubes,
-        vertices,
+        positions,
+        normals,
+        uvs,
+        colours,
         triangles,
         links,
         slots,

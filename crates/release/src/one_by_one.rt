@@ -20,7 +20,10 @@ ghost use Rattle.release.specs.OneByOne.{wentOf, calls, chainPromise, ch
 
 // Mends a mesh by a call for each entry of a log.
 fn mend_by_entries(
-    vertices: &mut [u32],
+    positions: &mut [u32],
+    normals: &mut [u32],
+    uvs: &mut [u32],
+    colours: &mut [u32],
     triangles: &mut [u32],
     links: &mut [u32],
     slots: &mut [u32],
@@ -32,10 +35,10 @@ fn mend_by_entries(
     log: &[u8],
     quads: usize,
 ) -> Meshed
-    ensures { λ r. ⌜ wentOf r (after vertices triangles links slots)
+    ensures { λ r. ⌜ wentOf r (after positions normals uvs colours triangles links slots)
         ≡ calls (testedBy tested) (sceneLent scene kinds covers cubes)
         (now (log .entry)) 0 (length (now (log .entry)) / 12)
-        (before vertices triangles links slots) quads ⌝ }
+        (before positions normals uvs colours triangles links slots) quads ⌝ }
 {
     let entries = log.len() / 12;
     let mut left = quads;
@@ -50,7 +53,10 @@ fn mend_by_entries(
             cubes,
             tested,
             &log[at..end],
-            vertices,
+            positions,
+            normals,
+            uvs,
+            colours,
             triangles,
             links,
             slots,
@@ -72,7 +78,10 @@ fn mend_by_entries(
 // Meshes a grid by Culling with no outer face named, mends the mesh by a call for each entry of a log, and checks it for the grid that the
 // log left: after a log of demand 3 the check refuses nothing.
 pub fn make_mend_and_check(
-    vertices: &mut [u32],
+    positions: &mut [u32],
+    normals: &mut [u32],
+    uvs: &mut [u32],
+    colours: &mut [u32],
     triangles: &mut [u32],
     links: &mut [u32],
     slots: &mut [u32],
@@ -85,16 +94,16 @@ pub fn make_mend_and_check(
     log: &[u8],
     left: &[u8],
 ) -> Verdict
-    ensures { λ r. ⌜ (endsWith (verdictOf r) (after vertices triangles links slots)
+    ensures { λ r. ⌜ (endsWith (verdictOf r) (after positions normals uvs colours triangles links slots)
         ≡ chainEnding (testedBy tested) (sceneLent scene kinds covers cubes)
         (now (grid .entry)) (now (log .entry)) (now (left .entry))
-        (before vertices triangles links slots))
+        (before positions normals uvs colours triangles links slots))
         × (LogFor tested (sceneLent scene kinds covers cubes) (now (grid .entry)) (now (log .entry))
         → now (left .entry) ≡ groundAfter (sceneLent scene kinds covers cubes)
         (now (log .entry)) (now (grid .entry))
         → verdictOf r ≡ chainPromise (testedBy tested) (sceneLent scene kinds covers cubes)
         (now (grid .entry)) (now (log .entry))
-        (before vertices triangles links slots)) ⌝ }
+        (before positions normals uvs colours triangles links slots)) ⌝ }
 {
     let made = mesh_grid(
         scene,
@@ -104,7 +113,10 @@ pub fn make_mend_and_check(
         covers,
         cubes,
         MeshingAlgorithm::Culling,
-        vertices,
+        positions,
+        normals,
+        uvs,
+        colours,
         triangles,
         links,
         slots,
@@ -112,7 +124,10 @@ pub fn make_mend_and_check(
     match made {
         Meshed::Done(quads) => {
             let mended = mend_by_entries(
-                vertices,
+                positions,
+                normals,
+                uvs,
+                colours,
                 triangles,
                 links,
                 slots,
@@ -132,7 +147,10 @@ pub fn make_mend_and_check(
                 kinds,
                 covers,
                 cubes,
-                vertices,
+                positions,
+                normals,
+                uvs,
+                colours,
                 triangles,
                 links,
                 slots,

@@ -12,7 +12,7 @@ use Rattle.rules.specs.Cells.{Triple, neighbour, linkWord}
 use Rattle.rules.specs.Types as types
 use Rattle.rules.specs.Cube as cube
 use Rattle.rules.specs.Cube.{Shape, cubeWords}
-use Rattle.rules.specs.Mesh.{Quad, World, Lists, meshBy, laid, slotted}
+use Rattle.rules.specs.Mesh.{Quad, World, attributeIn, Lists, meshBy, laid, slotted}
 use Rattle.rules.specs.Update.{Entry, Broken, removeAt, remove, entryAt, Tested, source, itself, work, nothing, ops, run, needed, courseFrom}
 use Rattle.rules.specs.Answers as answers
 use Rattle.rules.specs.Answers.{fine}
@@ -96,7 +96,12 @@ scene w h l =
 -- room for n quads and c cells, filled with sevens
 abbrev pub lent : ℕ → ℕ → Lists
 lent n c =
-    record { vertices = replicate (32 * n) 7; triangles = replicate (6 * n) 7; links = replicate n 7; slots = replicate (6 * c) 7 }
+    record {
+      vertices = record { positions = replicate (12 * n) 7; normals = replicate (12 * n) 7; uvs = replicate (8 * n) 7; colours = [] };
+      triangles = replicate (6 * n) 7;
+      links = replicate n 7;
+      slots = replicate (6 * c) 7;
+    }
 
 -- a mesh's quads, and after a log of one entry
 abbrev fresh : ℕ → ℕ → ℕ → List ℕ → List ℕ → Bool → Outcome
@@ -158,7 +163,7 @@ pub slab-cases : mended itself 3 ∷ mended itself 4 ∷ []
     ≡ (10 ∷ 10 ∷ [])
     ∷ (11 ∷ 11 ∷ [])
     ∷ []
-unfolding mended answers._then_ answers.refuseIf answers.badLimits answers.BAD-TYPES answers.badCounts lowestFrom answers.badType answers.BAD-NUMBER answers.notACube types.isCube every types.classed types.classOf types.classAt types.classOn ieee.eq ieee.ofBits ieee.lt answers.roomOf meshBy each neighbour count laid slotted answers.badLink answers.BAD-LINKS same answers.badEntry answers.BAD-ENTRY courseFrom entryAt needed ops remove removeAt types.quadWords
+unfolding mended answers._then_ answers.refuseIf answers.badLimits answers.BAD-TYPES answers.badCounts lowestFrom answers.badType answers.BAD-NUMBER answers.notACube types.isCube every types.classed types.classOf types.classAt types.classOn ieee.eq ieee.ofBits ieee.lt answers.roomOf meshBy each neighbour count laid attributeIn slotted answers.badLink answers.BAD-LINKS same answers.badEntry answers.BAD-ENTRY courseFrom entryAt needed ops remove removeAt types.quadWords
 slab-cases = refl
 
 fresh-are : freshCases ≡ (6 ∷ []) ∷ (10 ∷ 12 ∷ []) ∷ (8 ∷ []) ∷ (54 ∷ []) ∷ (5 ∷ []) ∷ []
@@ -170,20 +175,20 @@ unfolding removalCases removeAt each
 removals-are = refl
 
 mended-bottom : mended source 3 ≡ 11 ∷ 10 ∷ []
-unfolding mended answers._then_ answers.refuseIf answers.badLimits answers.BAD-TYPES answers.badCounts lowestFrom answers.badType answers.BAD-NUMBER answers.notACube types.isCube every types.classed types.classOf types.classAt types.classOn ieee.eq ieee.ofBits ieee.lt answers.roomOf meshBy each neighbour count laid slotted answers.badLink answers.BAD-LINKS same answers.badEntry answers.BAD-ENTRY courseFrom entryAt needed ops remove removeAt types.quadWords
+unfolding mended answers._then_ answers.refuseIf answers.badLimits answers.BAD-TYPES answers.badCounts lowestFrom answers.badType answers.BAD-NUMBER answers.notACube types.isCube every types.classed types.classOf types.classAt types.classOn ieee.eq ieee.ofBits ieee.lt answers.roomOf meshBy each neighbour count laid attributeIn slotted answers.badLink answers.BAD-LINKS same answers.badEntry answers.BAD-ENTRY courseFrom entryAt needed ops remove removeAt types.quadWords
 mended-bottom = refl
 
 mended-top : mended source 4 ≡ 10 ∷ 11 ∷ []
-unfolding mended answers._then_ answers.refuseIf answers.badLimits answers.BAD-TYPES answers.badCounts lowestFrom answers.badType answers.BAD-NUMBER answers.notACube types.isCube every types.classed types.classOf types.classAt types.classOn ieee.eq ieee.ofBits ieee.lt answers.roomOf meshBy each neighbour count laid slotted answers.badLink answers.BAD-LINKS same answers.badEntry answers.BAD-ENTRY courseFrom entryAt needed ops remove removeAt types.quadWords
+unfolding mended answers._then_ answers.refuseIf answers.badLimits answers.BAD-TYPES answers.badCounts lowestFrom answers.badType answers.BAD-NUMBER answers.notACube types.isCube every types.classed types.classOf types.classAt types.classOn ieee.eq ieee.ofBits ieee.lt answers.roomOf meshBy each neighbour count laid attributeIn slotted answers.badLink answers.BAD-LINKS same answers.badEntry answers.BAD-ENTRY courseFrom entryAt needed ops remove removeAt types.quadWords
 mended-top = refl
 
 null-is : added 0 ≡ 6 ∷ []
-unfolding added answers._then_ answers.refuseIf answers.badLimits answers.BAD-TYPES answers.badCounts lowestFrom answers.badType answers.BAD-NUMBER answers.notACube types.isCube every types.classed types.classOf types.classAt types.classOn ieee.eq ieee.ofBits ieee.lt answers.roomOf meshBy each neighbour count laid slotted answers.badLink answers.BAD-LINKS same answers.badEntry answers.BAD-ENTRY courseFrom entryAt needed ops remove removeAt types.quadWords
+unfolding added answers._then_ answers.refuseIf answers.badLimits answers.BAD-TYPES answers.badCounts lowestFrom answers.badType answers.BAD-NUMBER answers.notACube types.isCube every types.classed types.classOf types.classAt types.classOn ieee.eq ieee.ofBits ieee.lt answers.roomOf meshBy each neighbour count laid attributeIn slotted answers.badLink answers.BAD-LINKS same answers.badEntry answers.BAD-ENTRY courseFrom entryAt needed ops remove removeAt types.quadWords
 null-is = refl
 
 -- the ninth is not refused, and its entry does nothing
 pub null-unrefused : updateVerdict (scene 1 2 1) (above 0) (below .lists) (quadsIn below) ≡ fine
-unfolding answers._then_ answers.refuseIf answers.badLimits answers.BAD-TYPES answers.badCounts lowestFrom answers.badType answers.BAD-NUMBER answers.notACube types.isCube every types.classed types.classOf types.classAt types.classOn ieee.eq ieee.ofBits ieee.lt answers.roomOf meshBy each neighbour count laid slotted answers.badLink answers.BAD-LINKS same answers.badEntry answers.BAD-ENTRY courseFrom entryAt needed ops remove removeAt types.quadWords
+unfolding answers._then_ answers.refuseIf answers.badLimits answers.BAD-TYPES answers.badCounts lowestFrom answers.badType answers.BAD-NUMBER answers.notACube types.isCube every types.classed types.classOf types.classAt types.classOn ieee.eq ieee.ofBits ieee.lt answers.roomOf meshBy each neighbour count laid attributeIn slotted answers.badLink answers.BAD-LINKS same answers.badEntry answers.BAD-ENTRY courseFrom entryAt needed ops remove removeAt types.quadWords
 null-unrefused = refl
 
 pub null-idle : (k : ℕ) → k < 1 → work source (world (scene 1 2 1)) (entryAt (above 0) k) ≡ nothing
@@ -278,5 +283,5 @@ output =
     ++ line 0 1 5 ++ line 1 1 4 ++ line 2 1 0 ++ line 3 1 1 ++ line 4 1 2 ++ line 5 1 3
 
 pub program-example : printed file ≡ output
-unfolding file answers._then_ answers.refuseIf printed badFile digits buildFrom cubeWords cube.cubeWord cube.cornerWord cube.uvWord cube.uvOf cube.uvIn cube.lastNaming cube.corners cube.uvEnds cube.axes ieee.toBits ieee.sub ieee.div ieee.mul ieee.ofInt answers.badAtlas answers.BAD-TEXTURE types.quadWords types.quadWord types.order types.movedWord answers.badLimits answers.BAD-TYPES answers.badCounts lowestFrom answers.badType answers.BAD-NUMBER answers.notACube types.isCube every count types.classed types.classOf types.classAt types.classOn ieee.eq ieee.ofBits ieee.lt answers.roomOf meshBy each neighbour laid slotted answers.badLink answers.BAD-LINKS same answers.badEntry answers.BAD-ENTRY courseFrom entryAt needed ops remove removeAt
+unfolding file answers._then_ answers.refuseIf printed badFile digits buildFrom cubeWords cube.cubeWord cube.cornerWord cube.uvWord cube.uvOf cube.uvIn cube.lastNaming cube.corners cube.uvEnds cube.axes ieee.toBits ieee.sub ieee.div ieee.mul ieee.ofInt answers.badAtlas answers.BAD-TEXTURE types.quadWords types.quadWord types.order types.movedWord answers.badLimits answers.BAD-TYPES answers.badCounts lowestFrom answers.badType answers.BAD-NUMBER answers.notACube types.isCube every count types.classed types.classOf types.classAt types.classOn ieee.eq ieee.ofBits ieee.lt answers.roomOf meshBy each neighbour laid attributeIn slotted answers.badLink answers.BAD-LINKS same answers.badEntry answers.BAD-ENTRY courseFrom entryAt needed ops remove removeAt
 program-example = refl

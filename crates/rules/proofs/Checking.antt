@@ -11,7 +11,8 @@ use lib.ListN.{length, getD}
 use borrow.Author.Tests.{eqb-true, eq-eqb, ltb-false, le-ltb, leb-false, lt-leb}
 use Rattle.rules.specs.Lists.{table, row, same, lowest}
 use Rattle.rules.specs.Cells.{cells, cellIn, codeIn, keyOf, firstVertex}
-use Rattle.rules.specs.Mesh.{Quad, World, Lists, NONE, typeAt, drawn, at, there, placeOf, pattern, decoded, decode, layout, slotOf}
+use Rattle.rules.specs.Cube.{floatsOf}
+use Rattle.rules.specs.Mesh.{Quad, World, quadIn, Lists, NONE, typeAt, drawn, at, there, placeOf, pattern, decoded, decode, layout, slotOf}
 use Rattle.rules.specs.Update.{blank}
 use Rattle.rules.specs.Answers.{Verdict, fine, refuse, _then_, refuseIf, refuseLowest, slotAt, badLink, slotsFilled, BAD-LINKS, BAD-TRIANGLES, wrongFace, WRONG-SET, wrongVertex, WRONG-VERTEX}
 use Rattle.rules.specs.Check.{linked, Right}
@@ -137,44 +138,44 @@ module _ (n : ℕ) (B : Lists) (Q : ℕ) where
       omega arith
 
   -- the quads read back are the links' faces, in their places
-  pub length-decode : (s : ℕ) → length (decode s Q B) ≡ Q
-  length-decode s = length-table (decoded s B) Q
+  pub length-decode : (tint : Bool) → length (decode tint Q B) ≡ Q
+  length-decode tint = length-table (decoded tint B) Q
 
-  pub key-decode : (s q : ℕ) → q < Q → keyAt (decode s Q B) q ≡ linked B q
-  key-decode s q h = ap (λ (x : Quad). x .key) (getD-table (decoded s B) Q q blank h)
+  pub key-decode : (tint : Bool) (q : ℕ) → q < Q → keyAt (decode tint Q B) q ≡ linked B q
+  key-decode tint q h = ap (λ (x : Quad). x .key) (getD-table (decoded tint B) Q q blank h)
 
-  pub words-decode : (s q : ℕ) → q < Q → (getD (decode s Q B) q blank) .words ≡ row s (B .vertices) q
-  words-decode s q h = ap (λ (x : Quad). x .words) (getD-table (decoded s B) Q q blank h)
+  pub words-decode : (tint : Bool) (q : ℕ) → q < Q → (getD (decode tint Q B) q blank) .words ≡ quadIn tint (B .vertices) q
+  words-decode tint q h = ap (λ (x : Quad). x .words) (getD-table (decoded tint B) Q q blank h)
 
-  pub distinct-decode : (s : ℕ) → ((p q : ℕ) → p < q → q < Q → linked B p ≢ linked B q) → Distinct (decode s Q B)
-  distinct-decode s d p q l h e =
-      let b : q < Q = omega (arith, length-decode s) in
-      d p q l b (sym (key-decode s p (omega arith)) ∙ e ∙ key-decode s q b)
+  pub distinct-decode : (tint : Bool) → ((p q : ℕ) → p < q → q < Q → linked B p ≢ linked B q) → Distinct (decode tint Q B)
+  distinct-decode tint d p q l h e =
+      let b : q < Q = omega (arith, length-decode tint) in
+      d p q l b (sym (key-decode tint p (omega arith)) ∙ e ∙ key-decode tint q b)
 
-  pub there-of : (s q : ℕ) → q < Q → there (linked B q) (decode s Q B) ≡ true
-  there-of s q h = is-there (decode s Q B) q (linked B q) (omega (arith, length-decode s)) (key-decode s q h)
+  pub there-of : (tint : Bool) (q : ℕ) → q < Q → there (linked B q) (decode tint Q B) ≡ true
+  there-of tint q h = is-there (decode tint Q B) q (linked B q) (omega (arith, length-decode tint)) (key-decode tint q h)
 
-  pub place-of : (s k : ℕ) → there k (decode s Q B) ≡ true → (placeOf k (decode s Q B) < Q) × (linked B (placeOf k (decode s Q B)) ≡ k)
-  place-of s k e =
-      let p = placed k (decode s Q B) e in
+  pub place-of : (tint : Bool) (k : ℕ) → there k (decode tint Q B) ≡ true → (placeOf k (decode tint Q B) < Q) × (linked B (placeOf k (decode tint Q B)) ≡ k)
+  place-of tint k e =
+      let p = placed k (decode tint Q B) e in
       let w = p .within in
-      let l : placeOf k (decode s Q B) < Q = omega (arith, length-decode s) in (l, sym (key-decode s (placeOf k (decode s Q B)) l) ∙ p .key)
+      let l : placeOf k (decode tint Q B) < Q = omega (arith, length-decode tint) in (l, sym (key-decode tint (placeOf k (decode tint Q B)) l) ∙ p .key)
 
 -- ---- the faces
-module _ (W : World) (outer g : List ℕ) (s : ℕ) (B : Lists) (Q : ℕ) (room : 6 * cells (W .size) ≤ length (B .slots)) where
+module _ (W : World) (outer g : List ℕ) (tint : Bool) (B : Lists) (Q : ℕ) (room : 6 * cells (W .size) ≤ length (B .slots)) where
   N : ℕ
   N = cells (W .size)
 
-  face-fine : (k : ℕ) → wrongFace W outer g (decode s Q B) k ≡ false → there k (decode s Q B) ≡ drawn W outer g (k / 6) (k % 6)
+  face-fine : (k : ℕ) → wrongFace W outer g (decode tint Q B) k ≡ false → there k (decode tint Q B) ≡ drawn W outer g (k / 6) (k % 6)
   unfolding wrongFace
-  face-fine k = go (drawn W outer g (k / 6) (k % 6)) (there k (decode s Q B))
+  face-fine k = go (drawn W outer g (k / 6) (k % 6)) (there k (decode tint Q B))
     where
       go : (a b : Bool) → cond a (not b) b ≡ false → b ≡ a
       go true true e = refl
       go true false e = absurd (true≢false e)
       go false b e = e
 
-  fine-face : (k : ℕ) → there k (decode s Q B) ≡ drawn W outer g (k / 6) (k % 6) → wrongFace W outer g (decode s Q B) k ≡ false
+  fine-face : (k : ℕ) → there k (decode tint Q B) ≡ drawn W outer g (k / 6) (k % 6) → wrongFace W outer g (decode tint Q B) k ≡ false
   unfolding wrongFace
   fine-face k e = rw e (go (drawn W outer g (k / 6) (k % 6)))
     where
@@ -182,39 +183,39 @@ module _ (W : World) (outer g : List ℕ) (s : ℕ) (B : Lists) (Q : ℕ) (room 
       go true = refl
       go false = refl
 
-  vertex-fine : (q : ℕ) → wrongVertex W g s B q ≡ false
-      → row s (B .vertices) q ≡ W .wordsOf (typeAt g (linked B q / 6)) (linked B q % 6) (linked B q / 6)
+  vertex-fine : (q : ℕ) → wrongVertex W g (decoded tint B q) ≡ false
+      → quadIn tint (B .vertices) q ≡ W .wordsOf (typeAt g (linked B q / 6)) (linked B q % 6) (linked B q / 6)
   unfolding wrongVertex
-  vertex-fine q e = same-true (row s (B .vertices) q) (W .wordsOf (typeAt g (linked B q / 6)) (linked B q % 6) (linked B q / 6)) (not-true _ e)
+  vertex-fine q e = same-true (quadIn tint (B .vertices) q) (W .wordsOf (typeAt g (linked B q / 6)) (linked B q % 6) (linked B q / 6)) (not-true _ e)
 
-  fine-vertex : (q : ℕ) → row s (B .vertices) q ≡ W .wordsOf (typeAt g (linked B q / 6)) (linked B q % 6) (linked B q / 6)
-      → wrongVertex W g s B q ≡ false
+  fine-vertex : (q : ℕ) → quadIn tint (B .vertices) q ≡ W .wordsOf (typeAt g (linked B q / 6)) (linked B q % 6) (linked B q / 6)
+      → wrongVertex W g (decoded tint B q) ≡ false
   unfolding wrongVertex
   fine-vertex q e = rw (e, same-refl (W .wordsOf (typeAt g (linked B q / 6)) (linked B q % 6) (linked B q / 6)))
 
   -- LAW: no refusal of 11, 12, 15 or 16 is given exactly if the mesh is right
   pub right-of-fine : (BAD-LINKS (cells (W .size)) B Q then BAD-TRIANGLES B Q) ≡ fine
-      → (WRONG-SET W outer g (decode s Q B) then WRONG-VERTEX W g s B Q) ≡ fine → Right W outer g s B Q
+      → (WRONG-SET W outer g (decode tint Q B) then WRONG-VERTEX W g (decoded tint B) Q) ≡ fine → Right W outer g tint B Q
   right-of-fine eb ef =
       let b = book-of-fine (cells (W .size)) B Q eb in
-      let t = then-fine (WRONG-SET W outer g (decode s Q B)) (WRONG-VERTEX W g s B Q) ef in
-      let set : (k : ℕ) → k < 6 * cells (W .size) → there k (decode s Q B) ≡ drawn W outer g (k / 6) (k % 6) =
-      λ k h. face-fine k (lowest-fine 15 (6 * cells (W .size)) (wrongFace W outer g (decode s Q B)) (t .0) k h) in
+      let t = then-fine (WRONG-SET W outer g (decode tint Q B)) (WRONG-VERTEX W g (decoded tint B) Q) ef in
+      let set : (k : ℕ) → k < 6 * cells (W .size) → there k (decode tint Q B) ≡ drawn W outer g (k / 6) (k % 6) =
+      λ k h. face-fine k (lowest-fine 15 (6 * cells (W .size)) (wrongFace W outer g (decode tint Q B)) (t .0) k h) in
       record {
         eachShown = λ c f hc hf d.
             let u : keyOf c f / 6 ≡ c = omega arith in
             let v : keyOf c f % 6 ≡ f = omega arith in
-            let r : there (keyOf c f) (decode s Q B) ≡ true = set (keyOf c f) (omega arith) ∙ rw (u, v) d in let i = place-of N B Q s (keyOf c f) r in (placeOf (keyOf c f) (decode s Q B), i .0, i .1);
+            let r : there (keyOf c f) (decode tint Q B) ≡ true = set (keyOf c f) (omega arith) ∙ rw (u, v) d in let i = place-of N B Q tint (keyOf c f) r in (placeOf (keyOf c f) (decode tint Q B), i .0, i .1);
         inside = λ q h. (b .codes q h, b .inside q h);
-        noOther = λ q h. let x = b .codes q h in let y = b .inside q h in sym (set (linked B q) (omega arith)) ∙ there-of N B Q s q h;
+        noOther = λ q h. let x = b .codes q h in let y = b .inside q h in sym (set (linked B q) (omega arith)) ∙ there-of N B Q tint q h;
         once = λ p q l h e. let x = b .named p (omega arith) in let y = b .named q h in let z = ap (slotAt B) e in omega arith;
-        vertices = λ q h. vertex-fine q (lowest-fine 16 Q (wrongVertex W g s B) (t .1) q h);
+        vertices = λ q h. vertex-fine q (lowest-fine 16 Q (λ q. wrongVertex W g (decoded tint B q)) (t .1) q h);
         triangles = b .triangles;
         named = b .named;
         naming = filled-named (cells (W .size)) B Q room b;
       }
 
-  pub book-of-right : Right W outer g s B Q → Book (cells (W .size)) B Q
+  pub book-of-right : Right W outer g tint B Q → Book (cells (W .size)) B Q
   book-of-right r =
       record {
         codes = λ q h. r .inside q h .0;
@@ -224,31 +225,31 @@ module _ (W : World) (outer g : List ℕ) (s : ℕ) (B : Lists) (Q : ℕ) (room 
         triangles = r .triangles;
       }
 
-  there-is-drawn : Right W outer g s B Q → (k : ℕ) → k < 6 * cells (W .size) → there k (decode s Q B) ≡ drawn W outer g (k / 6) (k % 6)
+  there-is-drawn : Right W outer g tint B Q → (k : ℕ) → k < 6 * cells (W .size) → there k (decode tint Q B) ≡ drawn W outer g (k / 6) (k % 6)
   there-is-drawn r k h = go (drawn W outer g (k / 6) (k % 6)) refl
     where
-      go : (d : Bool) → drawn W outer g (k / 6) (k % 6) ≡ d → there k (decode s Q B) ≡ d
+      go : (d : Bool) → drawn W outer g (k / 6) (k % 6) ≡ d → there k (decode tint Q B) ≡ d
       go true e =
           let i = r .eachShown (k / 6) (k % 6) (omega arith) (omega arith) e in
-          is-there (decode s Q B) (i .0) k (omega (arith, i .1, length-decode N B Q s)) (key-decode N B Q s (i .0) (i .1) ∙ i .2 ∙ omega arith)
-      go false e = both-ways (there k (decode s Q B)) (λ t. let i = place-of N B Q s k t in true≢false (sym (r .noOther (placeOf k (decode s Q B)) (i .0)) ∙ rw (i .1) e))
+          is-there (decode tint Q B) (i .0) k (omega (arith, i .1, length-decode N B Q tint)) (key-decode N B Q tint (i .0) (i .1) ∙ i .2 ∙ omega arith)
+      go false e = both-ways (there k (decode tint Q B)) (λ t. let i = place-of N B Q tint k t in true≢false (sym (r .noOther (placeOf k (decode tint Q B)) (i .0)) ∙ rw (i .1) e))
 
-  pub fine-of-right : Right W outer g s B Q
-      → ((BAD-LINKS (cells (W .size)) B Q then BAD-TRIANGLES B Q) ≡ fine) × ((WRONG-SET W outer g (decode s Q B) then WRONG-VERTEX W g s B Q) ≡ fine)
+  pub fine-of-right : Right W outer g tint B Q
+      → ((BAD-LINKS (cells (W .size)) B Q then BAD-TRIANGLES B Q) ≡ fine) × ((WRONG-SET W outer g (decode tint Q B) then WRONG-VERTEX W g (decoded tint B) Q) ≡ fine)
   fine-of-right r = (
     fine-of-book (cells (W .size)) B Q (book-of-right r),
     fine-then
-        (fine-lowest 15 (6 * cells (W .size)) (wrongFace W outer g (decode s Q B)) (λ k h. fine-face k (there-is-drawn r k h)))
-        (fine-lowest 16 Q (wrongVertex W g s B) (λ q h. fine-vertex q (r .vertices q h))),
+        (fine-lowest 15 (6 * cells (W .size)) (wrongFace W outer g (decode tint Q B)) (λ k h. fine-face k (there-is-drawn r k h)))
+        (fine-lowest 16 Q (λ q. wrongVertex W g (decoded tint B q)) (λ q h. fine-vertex q (r .vertices q h))),
   )
 
   -- a right mesh, read back, shows what culling shows
-  pub shows-of-right : Sound W → length g ≡ cells (W .size) → Right W outer g s B Q → Shows W outer g (decode s Q B)
+  pub shows-of-right : Sound W → length g ≡ cells (W .size) → Right W outer g tint B Q → Shows W outer g (decode tint Q B)
   unfolding Shows
   shows-of-right snd hg r c f hf = go (drawn W outer g c f) refl
     where
-      once : Once (decode s Q B)
-      once = once-of-distinct (decode s Q B) (distinct-decode N B Q s (r .once))
+      once : Once (decode tint Q B)
+      once = once-of-distinct (decode tint Q B) (distinct-decode N B Q tint (r .once))
 
       inGrid : drawn W outer g c f ≡ true → c < cells (W .size)
       inGrid d = on (decLt c (cells (W .size)))
@@ -257,49 +258,49 @@ module _ (W : World) (outer g : List ℕ) (s : ℕ) (B : Lists) (Q : ℕ) (room 
           on (yes h) = h
           on (no h) = absurd (true≢false (sym d ∙ not-drawn W snd outer g c f (omega arith)))
 
-      go : (d : Bool) → drawn W outer g c f ≡ d → at (keyOf c f) (decode s Q B) ≡ cond d (W .wordsOf (typeAt g c) f c ∷ []) []
+      go : (d : Bool) → drawn W outer g c f ≡ d → at (keyOf c f) (decode tint Q B) ≡ cond d (W .wordsOf (typeAt g c) f c ∷ []) []
       go true d =
           let i = r .eachShown c f (inGrid d) hf d in
-          let k = key-decode N B Q s (i .0) (i .1) ∙ i .2 in
+          let k = key-decode N B Q tint (i .0) (i .1) ∙ i .2 in
           let u : linked B (i .0) / 6 ≡ c = omega (arith, i .2) in
           let v : linked B (i .0) % 6 ≡ f = omega (arith, i .2) in
-          (rw k at (at-there (decode s Q B) (i .0) once (omega (arith, i .1, length-decode N B Q s))))
-          ∙ ap (λ (w : List ℕ). w ∷ []) (words-decode N B Q s (i .0) (i .1) ∙ rw (u, v) at (r .vertices (i .0) (i .1)))
+          (rw k at (at-there (decode tint Q B) (i .0) once (omega (arith, i .1, length-decode N B Q tint))))
+          ∙ ap (λ (w : List ℕ). w ∷ []) (words-decode N B Q tint (i .0) (i .1) ∙ rw (u, v) at (r .vertices (i .0) (i .1)))
       go false d =
-          absent (keyOf c f) (decode s Q B)
-          (both-ways (there (keyOf c f) (decode s Q B))
-          (λ t. let i = place-of N B Q s (keyOf c f) t in
-          let q : ℕ = placeOf (keyOf c f) (decode s Q B) in
+          absent (keyOf c f) (decode tint Q B)
+          (both-ways (there (keyOf c f) (decode tint Q B))
+          (λ t. let i = place-of N B Q tint (keyOf c f) t in
+          let q : ℕ = placeOf (keyOf c f) (decode tint Q B) in
           let u : linked B q / 6 ≡ c = omega (arith, i .1) in
           let v : linked B q % 6 ≡ f = omega (arith, i .1) in
           true≢false (sym (rw (u, v) at (r .noOther q (i .0))) ∙ d)))
 
 -- ---- a mesh that has no face twice, laid out: links, slots and triangles are right
-module _ (n s highest : ℕ) (m : List Quad) (B : Lists) (hn : 6 * n ≤ 3221225472) (fits : All (Fits (6 * n) s) m) (room : 6 * n ≤ length (B .slots))
+module _ (n : ℕ) (tint : Bool) (highest : ℕ) (m : List Quad) (B : Lists) (hn : 6 * n ≤ 3221225472) (fits : All (Fits (6 * n) (4 * floatsOf tint)) m) (room : 6 * n ≤ length (B .slots))
     (once : Once m) where
   abbrev after : Lists
-  after = layout (6 * n) s highest m B
+  after = layout (6 * n) tint highest m B
 
   laid-key : (q : ℕ) → q < length m → linked after q ≡ keyAt m q
-  laid-key = keys-at (6 * n) s highest hn m B fits
+  laid-key = keys-at (6 * n) (4 * floatsOf tint) highest m (B .links) fits hn
 
   laid-slot : (k : ℕ) → k < 6 * n → slotAt after k ≡ slotOf m k
-  laid-slot = slots-at (6 * n) s highest hn m B fits room
+  laid-slot = slots-at (6 * n) tint highest hn m B fits room
 
   laid-found : (k : ℕ) → there k m ≡ true → (q : ℕ) × (q < length m) × (placeOf k m ≡ q) × (linked after q ≡ k)
   laid-found k e = let p = placed k m e in (placeOf k m, p .within, refl, laid-key (placeOf k m) (p .within) ∙ p .key)
 
   laid-inside : (q : ℕ) → q < length m → (codeIn (getD (after .links) q 0) ≤ 5) × (cellIn (getD (after .links) q 0) < n)
   laid-inside q h =
-      let b = all-at (Fits (6 * n) s) m q blank fits h .0 in
-      rw (links-at (6 * n) s highest hn m B fits q h) (link-inside (keyAt m q) n (omega arith) b)
+      let b = all-at (Fits (6 * n) (4 * floatsOf tint)) m q blank fits h .0 in
+      rw (links-at (6 * n) (4 * floatsOf tint) highest m (B .links) fits q h) (link-inside (keyAt m q) n (omega arith) b)
 
   laid-once : (p q : ℕ) → p < q → q < length m → linked after p ≢ linked after q
   laid-once p q l h = rw (laid-key p (omega arith), laid-key q h) (distinct-of-once m once p q l h)
 
   laid-named : (q : ℕ) → q < length m → slotAt after (linked after q) ≡ firstVertex q
   laid-named q h =
-      let b = all-at (Fits (6 * n) s) m q blank fits h .0 in
+      let b = all-at (Fits (6 * n) (4 * floatsOf tint)) m q blank fits h .0 in
       rw (laid-key q h) (laid-slot (keyAt m q) b ∙ rw (is-there m q (keyAt m q) h refl, place-is m q (distinct-of-once m once) h))
 
   laid-naming : (k : ℕ) → k < 6 * n → slotAt after k ≢ NONE
@@ -307,39 +308,39 @@ module _ (n s highest : ℕ) (m : List Quad) (B : Lists) (hn : 6 * n ≤ 3221225
   laid-naming k h d = go (there k m) refl
     where
       go : (t : Bool) → there k m ≡ t
-          → (q : ℕ) × (q < length m) × (slotAt (layout (6 * n) s highest m B) k ≡ firstVertex q) × (linked (layout (6 * n) s highest m B) q ≡ k)
+          → (q : ℕ) × (q < length m) × (slotAt (layout (6 * n) tint highest m B) k ≡ firstVertex q) × (linked (layout (6 * n) tint highest m B) q ≡ k)
       go true e = let i = laid-found k e in (i .0, i .1, laid-slot k h ∙ rw (e, i .2), i .3)
       go false e = absurd (d (laid-slot k h ∙ rw e))
 
   -- LAW: what is laid out passes 11 and 12
-  pub book-of-laid : Book n (layout (6 * n) s highest m B) (length m)
+  pub book-of-laid : Book n (layout (6 * n) tint highest m B) (length m)
   book-of-laid =
-      let slots = length-slots (6 * n) s highest hn m B fits room in
+      let slots = length-slots (6 * n) tint highest hn m B fits room in
       record {
         codes = λ q h. laid-inside q h .0;
         inside = λ q h. laid-inside q h .1;
         named = laid-named;
         few = few-filled n after (length m) (omega arith) (λ q h. laid-inside q h .0) (λ q h. laid-inside q h .1) laid-named laid-naming;
-        triangles = triangles-at (6 * n) s highest hn m B fits;
+        triangles = triangles-at (6 * n) tint highest hn m B fits;
       }
 
 -- ---- a mesh that shows what culling shows, laid out, is right
-module _ (W : World) (outer g : List ℕ) (s highest : ℕ) (m : List Quad) (B : Lists) (hn : 6 * cells (W .size) ≤ 3221225472)
-    (fits : All (Fits (6 * cells (W .size)) s) m) (room : 6 * cells (W .size) ≤ length (B .slots)) where
-  pub right-of-shows : Shows W outer g m → Once m → Right W outer g s (layout (6 * cells (W .size)) s highest m B) (length m)
+module _ (W : World) (outer g : List ℕ) (tint : Bool) (highest : ℕ) (m : List Quad) (B : Lists) (hn : 6 * cells (W .size) ≤ 3221225472)
+    (fits : All (Fits (6 * cells (W .size)) (4 * floatsOf tint)) m) (room : 6 * cells (W .size) ≤ length (B .slots)) where
+  pub right-of-shows : Shows W outer g m → Once m → Right W outer g tint (layout (6 * cells (W .size)) tint highest m B) (length m)
   unfolding Shows
   right-of-shows sh once =
       let n = cells (W .size) in
-      let key = laid-key n s highest m B hn fits room once in
+      let key = laid-key n tint highest m B hn fits room once in
       record {
-        eachShown = λ c f hc hf d. let i = laid-found n s highest m B hn fits room once (keyOf c f) (rw (sh c f hf, d)) in (i .0, i .1, i .3);
-        inside = laid-inside n s highest m B hn fits room once;
+        eachShown = λ c f hc hf d. let i = laid-found n tint highest m B hn fits room once (keyOf c f) (rw (sh c f hf, d)) in (i .0, i .1, i .3);
+        inside = laid-inside n tint highest m B hn fits room once;
         noOther = λ q h. rw (key q h) (both q h .0);
-        once = laid-once n s highest m B hn fits room once;
-        vertices = λ q h. rw (key q h) (vertices-at (6 * n) s highest hn m B fits q h ∙ both q h .1);
-        triangles = triangles-at (6 * n) s highest hn m B fits;
-        named = laid-named n s highest m B hn fits room once;
-        naming = laid-naming n s highest m B hn fits room once;
+        once = laid-once n tint highest m B hn fits room once;
+        vertices = λ q h. rw (key q h) (vertices-at (6 * n) tint highest hn m B fits q h ∙ both q h .1);
+        triangles = triangles-at (6 * n) tint highest hn m B fits;
+        named = laid-named n tint highest m B hn fits room once;
+        naming = laid-naming n tint highest m B hn fits room once;
       }
     where
       one-of : (b : Bool) (x y : List ℕ) → cond b (x ∷ []) [] ≡ y ∷ [] → (b ≡ true) × (y ≡ x)

@@ -4,7 +4,7 @@ use mathlib.Core.Logic.{_≢_, _↔_}
 use mathlib.Core.Bool.{Bool, true, false, cond, not, _||_, false≢true}
 use mathlib.Core.List.{List, [], _∷_}
 use mathlib.Core.Option.{Option, none, some}
-use Prim.Native.Nat.{ℕ, suc, _+_, _-_, _*_, _/_, _≤_, _<_}
+use Prim.Native.Nat.{ℕ, suc, _+_, _-_, _*_, _/_, _≤_, _<_, min}
 use native.Mathlib.Nat.{mul-le-mul-left}
 use native.Mathlib.Omega.{arith}
 use native.Mathlib.Decide.{ℕ-discrete}
@@ -15,13 +15,14 @@ use borrow.Author.Tests.{eqb-true, eq-eqb, ltb-false, le-ltb, leb-false, lt-leb}
 use Rattle.rules.specs.Lists.{only, member}
 use Rattle.rules.specs.Cells.{cells, keyOf}
 use Rattle.rules.specs.Types.{floats, quadWord, quadWords, cubeOf}
-use Rattle.rules.specs.Mesh.{Quad, Lists, typeAt, drawn, allSides, culled, at, decode, layout, meshBy}
+use Rattle.rules.specs.Mesh.{Quad, Attribute, position, normal, uv, colour, Vertices, HasList, of-positions, of-normals, of-uvs, of-colours, eachList, attributeLaid, Lists, listsOf, typeAt, drawn, allSides, culled, at, decode, layout, meshBy}
 use Rattle.rules.specs.Update.{Change, Broken, Added, CullFaces, AddFaces, Entry, entryAt, Tested, work, Course, blank, u32At, emptyType, gridBy, gridAfter, gridLog, TrueBy, Honest, Mends, AddsAlike}
 use Rattle.rules.specs.Answers.{Verdict, fine, refuse, _then_, refuseIf, refuseLowest, outOf, badLimits, BAD-SIZE, BAD-GRID, badCounts, badType, BAD-TYPES, BAD-NUMBER, NOT-A-CUBE, BAD-OUTER, BAD-CELL, SHORT-SLOTS, roomOf, BAD-COUNT, badEntry, BAD-ENTRY, NO-ROOM}
 use Rattle.rules.specs.Check.{linked, Holds, Right}
 use Rattle.rules.specs.Calls.{Answer, answered, Scene, wordsIn, world, span, faces, room, typesVerdict, freshMesh, inputVerdict, meshVerdict, meshedBy, meshGrid, lentVerdict, updateVerdict, entriesOf, course, courseAnswer, updateBy, updateMesh, openVerdict, bookVerdict, faceVerdict, checkVerdict, checkBy, checkMesh}
 use Rattle.rules.proofs.ListLaws.{All, all-of, all-each, split, both-ways, or-false, not-true, length-table, length-each}
-use Rattle.rules.proofs.Laying.{Fits, length-vertices, length-triangles, length-links, length-slots, once-of-distinct, decode-layout}
+use Rattle.rules.proofs.Attributes.{lies, length-quad}
+use Rattle.rules.proofs.Laying.{Fits, length-attributes, length-triangles, length-links, length-slots, once-of-distinct, decode-layout}
 use Rattle.rules.proofs.Checking.{then-fine, fine-then, if-fine, fine-if, lowest-fine, fine-lowest, Book, book-of-fine, fine-of-book, book-of-laid, length-decode, key-decode, words-decode, distinct-decode, right-of-fine, fine-of-right, shows-of-right, right-of-shows}
 use Rattle.rules.proofs.Mending.{Sound, Shows, sides-once, no-side, not-drawn, fresh-sides, fresh-shows}
 use Rattle.rules.proofs.Ordered.{fresh-order}
@@ -72,30 +73,52 @@ module _ (S : Scene) where
 
   -- room for r quads is room in each list
   pub record Room (B : Lists) (r : ℕ) : Type 0 where
-    pub vertices : span S * r ≤ length (B .vertices)
+    pub vertices : (a : Attribute) (xs : List ℕ) → HasList (S .types .coloured) (B .vertices) a xs → 4 * a .width * r ≤ length xs
     pub triangles : 6 * r ≤ length (B .triangles)
     pub links : r ≤ length (B .links)
 
   pub room-for : (B : Lists) (r : ℕ) → r ≤ room S B → Room B r
   unfolding roomOf
-  room-for B r h = go (S .types .coloured) refl
+  room-for B r h = let l = least (S .types .coloured) h .0 in record { vertices = each-has; triangles = omega arith; links = omega arith }
     where
-      go : (b : Bool) → S .types .coloured ≡ b → Room B r
-      go true e =
-          record { vertices = rw e (let k : r ≤ length (B .vertices) / 48 = omega (arith, rw e at h) in omega arith); triangles = omega arith; links = omega arith }
-      go false e =
-          record { vertices = rw e (let k : r ≤ length (B .vertices) / 32 = omega (arith, rw e at h) in omega arith); triangles = omega arith; links = omega arith }
+      vs : Vertices
+      vs = B .vertices
 
-  same-room : (A B : Lists) → length (A .vertices) ≡ length (B .vertices) → length (A .triangles) ≡ length (B .triangles)
-      → length (A .links) ≡ length (B .links) → room S A ≡ room S B
+      others : ℕ
+      others = min (length (vs .positions) / 12) (min (length (vs .normals) / 12) (min (length (vs .uvs) / 8) (min (length (B .triangles) / 6) (length (B .links)))))
+
+      least : (b : Bool) → r ≤ cond b (min (length (vs .colours) / 16) others) others → (r ≤ others) × (b ≡ true → r ≤ length (vs .colours) / 16)
+      least true l = (omega arith, λ e. omega arith)
+      least false l = (l, λ e. absurd (false≢true e))
+
+      each-has : (a : Attribute) (xs : List ℕ) → HasList (S .types .coloured) (B .vertices) a xs → 4 * a .width * r ≤ length xs
+      each-has _ _ of-positions = let l = least (S .types .coloured) h .0 in omega arith
+      each-has _ _ of-normals = let l = least (S .types .coloured) h .0 in omega arith
+      each-has _ _ of-uvs = let l = least (S .types .coloured) h .0 in omega arith
+      each-has _ _ (of-colours e) = let l = least (S .types .coloured) h .1 e in omega arith
+
+  -- lists that become others of their lengths have the same room
+  same-room : (B : Lists) (f : Attribute → List ℕ → List ℕ) (ts ls ss : List ℕ)
+      → ((a : Attribute) (xs : List ℕ) → HasList (S .types .coloured) (B .vertices) a xs → length (f a xs) ≡ length xs)
+      → length ts ≡ length (B .triangles) → length ls ≡ length (B .links)
+      → room S (listsOf (eachList (S .types .coloured) f (B .vertices)) ts ls ss) ≡ room S B
   unfolding roomOf
-  same-room A B a b c = rw (a, b, c)
+  same-room B f ts ls ss h t l =
+      rw (h position (vs .positions) of-positions, h normal (vs .normals) of-normals, h uv (vs .uvs) of-uvs, t, l) (counted _ (S .types .coloured) refl)
+    where
+      vs : Vertices
+      vs = B .vertices
+
+      counted : (others : ℕ) (b : Bool) → S .types .coloured ≡ b
+          → cond b (min (length (cond b (f colour (vs .colours)) (vs .colours)) / 16) others) others ≡ cond b (min (length (vs .colours) / 16) others) others
+      counted others true e = rw (h colour (vs .colours) (of-colours e))
+      counted others false e = refl
 
 -- ---- a mesh laid out in lent lists
 module _ (S : Scene) (B : Lists) (highest : ℕ) (m : List Quad) (size-fine : BAD-SIZE (S .size) ≡ fine) (slots-fine : SHORT-SLOTS (S .size) B ≡ fine)
     (sane : Sane (faces S) (span S) (room S B) m highest) where
   abbrev after : Lists
-  after = layout (faces S) (span S) highest m B
+  after = layout (faces S) (S .types .coloured) highest m B
 
   small : faces S ≤ 3221225472
   small = let l = limits S size-fine .small in omega arith
@@ -104,34 +127,35 @@ module _ (S : Scene) (B : Lists) (highest : ℕ) (m : List Quad) (size-fine : BA
   slots-room = ltb-false (length (B .slots)) (faces S) (if-fine (ltb (length (B .slots)) (faces S)) 9 0 slots-fine)
 
   slots-kept : length (after .slots) ≡ length (B .slots)
-  slots-kept = length-slots (faces S) (span S) highest small m B (sane .fits) slots-room
+  slots-kept = length-slots (faces S) (S .types .coloured) highest small m B (sane .fits) slots-room
 
   room-kept : room S after ≡ room S B
   room-kept =
       let r = room-for S B highest (sane .within) in
-      same-room S after B (length-vertices (faces S) (span S) highest small m B (sane .fits) (sane .reached) (r .vertices))
-      (length-triangles (faces S) (span S) highest small m B (sane .fits) (sane .reached) (r .triangles))
-      (length-links (faces S) (span S) highest small m B (sane .fits) (sane .reached) (r .links))
+      same-room S B (attributeLaid (S .types .coloured) highest m) (after .triangles) (after .links) (after .slots)
+      (λ a xs l. length-attributes (faces S) (S .types .coloured) highest small m B (sane .fits) (sane .reached) a xs l (r .vertices a xs l))
+      (length-triangles (faces S) (S .types .coloured) highest small m B (sane .fits) (sane .reached) (r .triangles))
+      (length-links (faces S) (span S) highest m (B .links) (sane .fits) (sane .reached) (r .links))
 
   -- LAW: it passes 9 to 12
-  pub laid-lent : lentVerdict S (layout (faces S) (span S) highest m B) (length m) ≡ fine
+  pub laid-lent : lentVerdict S (layout (faces S) (S .types .coloured) highest m B) (length m) ≡ fine
   laid-lent =
       fine-then (fine-if (ltb (length (after .slots)) (faces S)) 9 0 (le-ltb (length (after .slots)) (faces S) (omega (arith, slots-kept, slots-room))))
       (fine-then (fine-if (ltb (room S after) (length m)) 10 0 (le-ltb (room S after) (length m) (omega (arith, room-kept, sane .reached, sane .within))))
       (fine-of-book (cells (S .size)) after (length m)
-      (book-of-laid (cells (S .size)) (span S) highest m B small (sane .fits) slots-room (sane .once))))
+      (book-of-laid (cells (S .size)) (S .types .coloured) highest m B small (sane .fits) slots-room (sane .once))))
 
   -- LAW: it is accepted, if it shows what culling shows
   pub laid-accepted : (outer g : List ℕ) → BAD-GRID (S .size) g ≡ fine → typesVerdict S ≡ fine → BAD-OUTER outer ≡ fine
-      → BAD-CELL (S .types) g ≡ fine → Shows (world S) outer g m → checkVerdict S outer g (layout (faces S) (span S) highest m B) (length m) ≡ fine
+      → BAD-CELL (S .types) g ≡ fine → Shows (world S) outer g m → checkVerdict S outer g (layout (faces S) (S .types .coloured) highest m B) (length m) ≡ fine
   laid-accepted outer g grid-fine types-fine outer-fine cells-fine sh =
       let l = then-fine (SHORT-SLOTS (S .size) after) _ laid-lent in
-      let c = then-fine (BAD-COUNT (floats (S .types)) after (length m)) (bookVerdict S after (length m)) (l .1) in
+      let c = then-fine (BAD-COUNT (room S after) (length m)) (bookVerdict S after (length m)) (l .1) in
       fine-then
       (fine-then (fine-then size-fine (fine-then grid-fine (fine-then types-fine (fine-then outer-fine (fine-then cells-fine (l .0)))))) (c .0))
       (fine-then (c .1)
-      (fine-of-right (world S) outer g (span S) after (length m) (omega (arith, slots-kept, slots-room))
-      (right-of-shows (world S) outer g (span S) highest m B small (sane .fits) slots-room sh (sane .once)) .1))
+      (fine-of-right (world S) outer g (S .types .coloured) after (length m) (omega (arith, slots-kept, slots-room))
+      (right-of-shows (world S) outer g (S .types .coloured) highest m B small (sane .fits) slots-room sh (sane .once)) .1))
 
 -- ---- DEMAND 3, first half: the check accepts exactly the right meshes
 
@@ -140,7 +164,7 @@ accepted : (S : Scene) (outer g : List ℕ) (B : Lists) (Q : ℕ) → (checkMesh
 accepted S outer g B Q e = zero-fine CHECK refl (checkVerdict S outer g B Q) (check-numbers S outer g B Q) e
 
 pub accepts-exactly : (S : Scene) (outer g : List ℕ) (B : Lists) (Q : ℕ) → openVerdict S outer g B Q ≡ fine
-    → (checkMesh S outer g B Q ≡ answered 0 0) ↔ Right (world S) outer g (span S) B Q
+    → (checkMesh S outer g B Q ≡ answered 0 0) ↔ Right (world S) outer g (S .types .coloured) B Q
 accepts-exactly S outer g B Q eo = (λ e. right e, λ r. ap checkBy (fine-then eo (fine-then (book r .0) (book r .1))))
   where
     slots-room : faces S ≤ length (B .slots)
@@ -152,15 +176,15 @@ accepts-exactly S outer g B Q eo = (λ e. right e, λ r. ap checkBy (fine-then e
         let h = then-fine (BAD-CELL (S .types) g) (SHORT-SLOTS (S .size) B) d .1 in
         ltb-false (length (B .slots)) (faces S) (if-fine (ltb (length (B .slots)) (faces S)) 9 0 h)
 
-    book : Right (world S) outer g (span S) B Q → (bookVerdict S B Q ≡ fine) × (faceVerdict S outer g B Q ≡ fine)
-    book r = fine-of-right (world S) outer g (span S) B Q slots-room r
+    book : Right (world S) outer g (S .types .coloured) B Q → (bookVerdict S B Q ≡ fine) × (faceVerdict S outer g B Q ≡ fine)
+    book r = fine-of-right (world S) outer g (S .types .coloured) B Q slots-room r
 
-    right : checkMesh S outer g B Q ≡ answered 0 0 → Right (world S) outer g (span S) B Q
+    right : checkMesh S outer g B Q ≡ answered 0 0 → Right (world S) outer g (S .types .coloured) B Q
     right e =
         let v = accepted S outer g B Q (ap (λ (a : Answer). a .number) e) in
         let b = then-fine (openVerdict S outer g B Q) _ v .1 in
         let c = then-fine (bookVerdict S B Q) (faceVerdict S outer g B Q) b in
-        right-of-fine (world S) outer g (span S) B Q slots-room (c .0) (c .1)
+        right-of-fine (world S) outer g (S .types .coloured) B Q slots-room (c .0) (c .1)
 
 -- ---- fresh meshes
 module _ (S : Scene) (outer g : List ℕ) (culling : Bool) (B : Lists) (accepted : meshVerdict S outer g culling B ≡ fine) where
@@ -179,11 +203,11 @@ module _ (S : Scene) (outer g : List ℕ) (culling : Bool) (B : Lists) (accepted
     faces-named : BAD-OUTER outer ≡ fine
     cells : BAD-CELL (S .types) g ≡ fine
     slots : SHORT-SLOTS (S .size) B ≡ fine
-    room : length fresh ≤ roomOf (floats (S .types)) B
+    room : length fresh ≤ room S B
 
   opened : Opened
   opened =
-      let v = then-fine (inputVerdict S outer g B) (NO-ROOM (floats (S .types)) B (length fresh)) accepted in
+      let v = then-fine (inputVerdict S outer g B) (NO-ROOM (room S B) (length fresh)) accepted in
       let a = then-fine (BAD-SIZE (S .size)) _ (v .0) in
       let b = then-fine (BAD-GRID (S .size) g) _ (a .1) in
       let c = then-fine (typesVerdict S) _ (b .1) in
@@ -216,8 +240,8 @@ module _ (S : Scene) (outer g : List ℕ) (culling : Bool) (B : Lists) (accepted
   sides : (c f : ℕ) → f < 6 → at (keyOf c f) fresh ≡ only (drawnBy culling c f) (wordsIn S (typeAt g c) f c)
   sides = rw (fresh-is culling) (fresh-sides (world S) g (drawnBy culling) (none-beyond culling))
 
-  sane : Sane (faces S) (span S) (room S B) fresh (length fresh)
-  sane =
+  pub fresh-sane : Sane (faces S) (span S) (room S B) fresh (length fresh)
+  fresh-sane =
       record {
         fits = rw (fresh-is culling) (fits-fresh (world S) snd (span S) (words-sized S) (drawnBy culling) g);
         once = sides-once (world S) (drawnBy culling) g fresh sides;
@@ -227,25 +251,25 @@ module _ (S : Scene) (outer g : List ℕ) (culling : Bool) (B : Lists) (accepted
 
   -- LAW: a fresh mesh of either algorithm, laid out, holds exactly the sides that the algorithm draws, once each, in order, with their words
   pub fresh-holds : let m = freshMesh S outer g culling in
-      Holds (world S) (cond culling (drawn (world S) outer g) (allSides (world S) g)) g (decode (span S) (length m) (layout (faces S) (span S) (length m) m B))
+      Holds (world S) (cond culling (drawn (world S) outer g) (allSides (world S) g)) g (decode (S .types .coloured) (length m) (layout (faces S) (S .types .coloured) (length m) m B))
   fresh-holds =
       let small = limits S (opened .size) .small in
-      subst (Holds (world S) (drawnBy culling) g) (sym (decode-layout (faces S) (span S) (length fresh) (omega arith) fresh B (sane .fits)))
+      subst (Holds (world S) (drawnBy culling) g) (sym (decode-layout (faces S) (S .types .coloured) (length fresh) (omega arith) fresh B (fresh-sane .fits)))
       (record { sides = sides; order = rw (fresh-is culling) (fresh-order (world S) (drawnBy culling) g) })
 
   -- LAW: and passes 9 to 12
-  pub fresh-lent : let m = freshMesh S outer g culling in lentVerdict S (layout (faces S) (span S) (length m) m B) (length m) ≡ fine
-  fresh-lent = laid-lent S B (length fresh) fresh (opened .size) (opened .slots) sane
+  pub fresh-lent : let m = freshMesh S outer g culling in lentVerdict S (layout (faces S) (S .types .coloured) (length m) m B) (length m) ≡ fine
+  fresh-lent = laid-lent S B (length fresh) fresh (opened .size) (opened .slots) fresh-sane
 
 -- ---- DEMAND 3: every culled fresh mesh passes for its own outer list
 pub fresh-accepted : (S : Scene) (outer g : List ℕ) (B : Lists) → (meshGrid S outer g true B) .answer .number ≡ 0
     → checkMesh S outer g ((meshGrid S outer g true B) .lists) ((meshGrid S outer g true B) .answer .quads) ≡ answered 0 0
 fresh-accepted S outer g B e = go (meshVerdict S outer g true B) refl e
   where
-    passes : meshVerdict S outer g true B ≡ fine → checkVerdict S outer g (layout (faces S) (span S) (length (culled (world S) outer g)) (culled (world S) outer g) B) (length (culled (world S) outer g)) ≡ fine
+    passes : meshVerdict S outer g true B ≡ fine → checkVerdict S outer g (layout (faces S) (S .types .coloured) (length (culled (world S) outer g)) (culled (world S) outer g) B) (length (culled (world S) outer g)) ≡ fine
     passes v =
         let o = opened S outer g true B v in
-        laid-accepted S B (length (culled (world S) outer g)) (culled (world S) outer g) (o .size) (o .slots) (sane S outer g true B v) outer g
+        laid-accepted S B (length (culled (world S) outer g)) (culled (world S) outer g) (o .size) (o .slots) (fresh-sane S outer g true B v) outer g
         (o .grid) (o .types) (o .faces-named) (o .cells) (fresh-shows (world S) (snd S outer g true B v) outer g (whole S outer g true B v))
 
     go : (v : Verdict) → meshVerdict S outer g true B ≡ v → (meshedBy v S (culled (world S) outer g) B) .answer .number ≡ 0
@@ -291,19 +315,19 @@ codes-log S g (e ∷ es) listed h codes =
 
 -- a lent mesh that passes 9 to 12 is one, in its room
 module _ (S : Scene) (B : Lists) (Q : ℕ) (size-fine : BAD-SIZE (S .size) ≡ fine) (slots-fine : SHORT-SLOTS (S .size) B ≡ fine)
-    (count-fine : BAD-COUNT (floats (S .types)) B Q ≡ fine) (book-fine : bookVerdict S B Q ≡ fine) where
+    (count-fine : BAD-COUNT (room S B) Q ≡ fine) (book-fine : bookVerdict S B Q ≡ fine) where
   book : Book (cells (S .size)) B Q
   book = book-of-fine (cells (S .size)) B Q book-fine
 
   counted : Q ≤ room S B
   counted = ltb-false (room S B) Q (if-fine (ltb (room S B) Q) 10 0 count-fine)
 
-  pub lent-sane : Sane (faces S) (span S) (room S B) (decode (span S) Q B) Q
+  pub lent-sane : Sane (faces S) (span S) (room S B) (decode (S .types .coloured) Q B) Q
   lent-sane =
       record {
-        fits = all-of (Fits (faces S) (span S)) (decode (span S) Q B) blank fit;
-        once = once-of-distinct (decode (span S) Q B) (distinct-decode (cells (S .size)) B Q (span S) apart);
-        reached = omega (arith, length-decode (cells (S .size)) B Q (span S));
+        fits = all-of (Fits (faces S) (span S)) (decode (S .types .coloured) Q B) blank fit;
+        once = once-of-distinct (decode (S .types .coloured) Q B) (distinct-decode (cells (S .size)) B Q (S .types .coloured) apart);
+        reached = omega (arith, length-decode (cells (S .size)) B Q (S .types .coloured));
         within = counted;
       }
     where
@@ -312,16 +336,14 @@ module _ (S : Scene) (B : Lists) (Q : ℕ) (size-fine : BAD-SIZE (S .size) ≡ f
           let x = book .named p (omega arith) in let y = book .named q h in
           let z = ap (λ (k : ℕ). getD (B .slots) k 4294967295) e in omega arith
 
-      fit : (q : ℕ) → q < length (decode (span S) Q B) → Fits (faces S) (span S) (getD (decode (span S) Q B) q blank)
+      fit : (q : ℕ) → q < length (decode (S .types .coloured) Q B) → Fits (faces S) (span S) (getD (decode (S .types .coloured) Q B) q blank)
       fit q h =
-          let l : q < Q = omega (arith, length-decode (cells (S .size)) B Q (span S)) in
+          let l : q < Q = omega (arith, length-decode (cells (S .size)) B Q (S .types .coloured)) in
           let x = book .codes q l in let y = book .inside q l in
-          let r = room-for S B Q counted .vertices in
-          let a : suc q ≤ Q = l in
-          let u = mul-le-mul-left (span S) a in (
-            rw (key-decode (cells (S .size)) B Q (span S) q l) (omega arith),
-            rw (words-decode (cells (S .size)) B Q (span S) q l)
-                (length-take-le (span S) (drop (span S * q) (B .vertices)) (rw length-drop (omega arith))),
+          let r = room-for S B Q counted .vertices in (
+            rw (key-decode (cells (S .size)) B Q (S .types .coloured) q l) (omega arith),
+            rw (words-decode (cells (S .size)) B Q (S .types .coloured) q l)
+                (length-quad (S .types .coloured) (B .vertices) q (lies (S .types .coloured) (B .vertices) Q r q l)),
           )
 
 -- the entries of an accepted log: the grid has their cells, and the table their types
@@ -353,7 +375,7 @@ module _ (tested : Tested) (S : Scene) (log : List ℕ) (B : Lists) (Q : ℕ) (a
     pub size : BAD-SIZE (S .size) ≡ fine
     pub types : typesVerdict S ≡ fine
     pub slots : SHORT-SLOTS (S .size) B ≡ fine
-    pub count : BAD-COUNT (floats (S .types)) B Q ≡ fine
+    pub count : BAD-COUNT (room S B) Q ≡ fine
     pub book : bookVerdict S B Q ≡ fine
     pub entries : BAD-ENTRY (cells (S .size)) (length (S .types .kinds)) log ≡ fine
 
@@ -363,19 +385,19 @@ module _ (tested : Tested) (S : Scene) (log : List ℕ) (B : Lists) (Q : ℕ) (a
       let t = then-fine (typesVerdict S) _ (a .1) in
       let l = then-fine (lentVerdict S B Q) (BAD-ENTRY (cells (S .size)) (length (S .types .kinds)) log) (t .1) in
       let s = then-fine (SHORT-SLOTS (S .size) B) _ (l .0) in
-      let c = then-fine (BAD-COUNT (floats (S .types)) B Q) (bookVerdict S B Q) (s .1) in
+      let c = then-fine (BAD-COUNT (room S B) Q) (bookVerdict S B Q) (s .1) in
       record { size = a .0; types = t .0; slots = s .0; count = c .0; book = c .1; entries = l .1 }
 
   pub ran-sane : Sane (faces S) (span S) (room S B) ((course tested S log B Q) .quads) ((course tested S log B Q) .highest)
   ran-sane =
       let a = asked-of in
-      course-sane (faces S) (span S) (room S B) (λ k. work tested (world S) (entryAt log k)) 0 (length log / 12) (decode (span S) Q B) 0 Q
+      course-sane (faces S) (span S) (room S B) (λ k. work tested (world S) (entryAt log k)) 0 (length log / 12) (decode (S .types .coloured) Q B) 0 Q
       (λ j x y. fits-new (world S) (sound S (a .size) (a .types)) (span S) (words-sized S) tested (entryAt log j)
       (entry-inside (cells (S .size)) (length (S .types .kinds)) log (a .entries) j (omega arith)) ((entryAt log j) .change))
       (lent-sane S B Q (a .size) (a .slots) (a .count) (a .book))
 
   -- LAW: whatever the log, what it leaves passes 9 to 12 again
-  pub ran-lent : let c = course tested S log B Q in lentVerdict S (layout (faces S) (span S) (c .highest) (c .quads) B) (length (c .quads)) ≡ fine
+  pub ran-lent : let c = course tested S log B Q in lentVerdict S (layout (faces S) (S .types .coloured) (c .highest) (c .quads) B) (length (c .quads)) ≡ fine
   ran-lent = laid-lent S B (ran .highest) (ran .quads) (asked-of .size) (asked-of .slots) ran-sane
 
 -- LAW: so do lists and count after an update that tells 0 or 14
@@ -402,7 +424,7 @@ left-lent tested S log B Q = go (updateVerdict S log B Q) refl (update-numbers S
     go : (v : Verdict) → updateVerdict S log B Q ≡ v → Within UPDATE-FIRST v → member ((updateBy v S c B) .answer .number) (0 ∷ 14 ∷ []) ≡ true
         → lentVerdict S ((updateBy v S c B) .lists) ((updateBy v S c B) .answer .quads) ≡ fine
     go fine t w h =
-        ap (λ (q : ℕ). lentVerdict S (layout (faces S) (span S) (c .highest) (c .quads) B) q) (counted (c .full)) ∙ ran-lent tested S log B Q t
+        ap (λ (q : ℕ). lentVerdict S (layout (faces S) (S .types .coloured) (c .highest) (c .quads) B) q) (counted (c .full)) ∙ ran-lent tested S log B Q t
     go (refuse n p) t (given k) h = absurd (false≢true (sym (neither n k) ∙ h))
 
 module _ (tested : Tested) (S : Scene) (g log : List ℕ) (B : Lists) (Q : ℕ) where
@@ -425,7 +447,7 @@ module _ (tested : Tested) (S : Scene) (g log : List ℕ) (B : Lists) (Q : ℕ) 
 
   mended : checkVerdict S [] g B Q ≡ fine → Honest (world S) g (entriesOf log) → Mends (world S) g (entriesOf log)
       → AddsAlike tested (world S) (entriesOf log) → updateVerdict S log B Q ≡ fine → c .full ≡ none
-      → checkVerdict S [] grid (layout (faces S) (span S) (c .highest) (c .quads) B) (length (c .quads)) ≡ fine
+      → checkVerdict S [] grid (layout (faces S) (S .types .coloured) (c .highest) (c .quads) B) (length (c .quads)) ≡ fine
   mended ec ho me al eu fu =
       let u = asked-of tested S log B Q eu in
       let o = then-fine (openVerdict S [] g B Q) _ ec in
@@ -440,8 +462,8 @@ module _ (tested : Tested) (S : Scene) (g log : List ℕ) (B : Lists) (Q : ℕ) 
       let hg = eqb-true (length g) (cells (S .size)) (not-true _ (if-fine (not (eqb (length g) (cells (S .size)))) 2 0 (b .0))) in
       let lg = length-log (world S) g (entriesOf log) in
       let room-ok = ltb-false (length (B .slots)) (faces S) (if-fine (ltb (length (B .slots)) (faces S)) 9 0 (u .slots)) in
-      let right = right-of-fine (world S) [] g (span S) B Q room-ok (bf .0) (bf .1) in
-      let sh = shows-of-right (world S) [] g (span S) B Q room-ok snd hg right in
+      let right = right-of-fine (world S) [] g (S .types .coloured) B Q room-ok (bf .0) (bf .1) in
+      let sh = shows-of-right (world S) [] g (S .types .coloured) B Q room-ok snd hg right in
       let codes : (k : ℕ) → k < length g → getD g k 0 < types =
       λ k l. leb-false types (getD g k 0) (lowest-fine 8 (length g) (λ k. leb types (getD g k 0)) (f .0) k l) in
       laid-accepted S B (c .highest) (c .quads) (u .size) (u .slots) (ran-sane tested S log B Q eu) [] grid
@@ -450,7 +472,7 @@ module _ (tested : Tested) (S : Scene) (g log : List ℕ) (B : Lists) (Q : ℕ) 
       (fine-lowest 8 (length grid) (λ k. leb types (getD grid k 0))
       (λ k l. lt-leb types (getD grid k 0)
       (codes-log S g (entriesOf log) (entries-listed (cells (S .size)) types log (u .entries)) ho codes k l)))
-      (mends-log (world S) snd tested (room S B) (entryAt log) 0 (length log / 12) g (decode (span S) Q B) 0 Q hg sh
+      (mends-log (world S) snd tested (room S B) (entryAt log) 0 (length log / 12) g (decode (S .types .coloured) Q B) 0 Q hg sh
       (λ j x y. entry-inside (cells (S .size)) types log (u .entries) j (omega arith)) ho me al fu)
 
   -- if a mesh passes with no outer face named, it passes for the new grid after any unrefused, honest log of Added and Broken alone

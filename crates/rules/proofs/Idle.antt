@@ -11,7 +11,8 @@ use lib.Seq.{take-add, drop-cons, drop-drop, getD-take, length-take-le}
 use borrow.Author.Tests.{ltb-false, le-leb}
 use Rattle.rules.specs.Lists.{table, row}
 use Rattle.rules.specs.Cells.{cells, firstVertex, linkOf}
-use Rattle.rules.specs.Mesh.{Quad, Lists, NONE, there, placeOf, rows, laid, slotOf, slotted, layout, pattern, decode}
+use Rattle.rules.specs.Cube.{floatsOf}
+use Rattle.rules.specs.Mesh.{Quad, Attribute, attributeIn, HasList, eachList, rowOf, attributeLaid, Lists, NONE, there, placeOf, rows, laid, slotOf, slotted, layout, pattern, decode}
 use Rattle.rules.specs.Update.{Tested, source, Work, nothing, ops, needed, work, entryAt, blank, courseFrom}
 use Rattle.rules.specs.Answers.{fine, slotAt, SHORT-SLOTS, BAD-COUNT, BAD-SIZE, _then_, BAD-ENTRY}
 use Rattle.rules.specs.Types.{floats}
@@ -19,6 +20,7 @@ use Rattle.rules.specs.Check.{linked}
 use Rattle.rules.specs.Calls.{answered, Scene, world, span, faces, room, bookVerdict, lentVerdict, typesVerdict, updateVerdict, updateMesh}
 use Rattle.rules.proofs.Cases.{scene, quadsIn, above, below, withAbove, null-unrefused, null-idle}
 use Rattle.rules.proofs.ListLaws.{table-is, length-table}
+use Rattle.rules.proofs.Attributes.{lies, each-list, each-stays, attribute-quad}
 use Rattle.rules.proofs.Laying.{link-of-key}
 use Rattle.rules.proofs.Index.{full-le}
 use Rattle.rules.proofs.Checking.{then-fine, if-fine, Book, book-of-fine, names-of, filled-named, length-decode, key-decode, words-decode, there-of, place-of}
@@ -48,54 +50,61 @@ laid-stands s enc m old h =
     zero-of : length m - length m ≡ 0
     zero-of = omega arith
 
-module _ (n s : ℕ) (B : Lists) (Q : ℕ) (room : 6 * n ≤ length (B .slots)) (book : Book n B Q) where
+module _ (n : ℕ) (tint : Bool) (B : Lists) (Q : ℕ) (room : 6 * n ≤ length (B .slots)) (book : Book n B Q) where
   -- a slot says where its face is
-  slot-is : (k : ℕ) → k < 6 * n → slotAt B k ≡ slotOf (decode s Q B) k
-  slot-is k h = go (there k (decode s Q B)) refl
+  slot-is : (k : ℕ) → k < 6 * n → slotAt B k ≡ slotOf (decode tint Q B) k
+  slot-is k h = go (there k (decode tint Q B)) refl
     where
-      none-left : there k (decode s Q B) ≡ false → Dec (slotAt B k ≡ NONE) → slotAt B k ≡ NONE
+      none-left : there k (decode tint Q B) ≡ false → Dec (slotAt B k ≡ NONE) → slotAt B k ≡ NONE
       none-left e (yes d) = d
       none-left e (no d) =
           let i = filled-named n B Q room book k h d in
-          absurd (clash (sym (there-of n B Q s (i .0) (i .1)) ∙ rw (i .3) e))
+          absurd (clash (sym (there-of n B Q tint (i .0) (i .1)) ∙ rw (i .3) e))
         where
           clash : true ≡ false → ⊥
           clash z = let y : _≡_ {A = ℕ} 0 1 = cc in omega arith
 
-      go : (t : Bool) → there k (decode s Q B) ≡ t → slotAt B k ≡ cond t (firstVertex (placeOf k (decode s Q B))) NONE
-      go true e = let i = place-of n B Q s k e in ap (slotAt B) (sym (i .1)) ∙ book .named (placeOf k (decode s Q B)) (i .0)
+      go : (t : Bool) → there k (decode tint Q B) ≡ t → slotAt B k ≡ cond t (firstVertex (placeOf k (decode tint Q B))) NONE
+      go true e = let i = place-of n B Q tint k e in ap (slotAt B) (sym (i .1)) ∙ book .named (placeOf k (decode tint Q B)) (i .0)
       go false e = none-left e (ℕ-discrete (slotAt B k) NONE)
 
   -- LAW: a lent mesh, read and laid out again, is what was lent
-  pub layout-stands : Q ≤ length (B .links) → layout (6 * n) s Q (decode s Q B) B ≡ B
+  pub layout-stands : Q ≤ length (B .links) → ((a : Attribute) (xs : List ℕ) → HasList tint (B .vertices) a xs → 4 * a .width * Q ≤ length xs)
+      → layout (6 * n) tint Q (decode tint Q B) B ≡ B
   unfolding slotted
-  layout-stands fit = λ i. record { vertices = v i; triangles = t i; links = l i; slots = z i }
+  layout-stands fit long = λ i. record { vertices = v i; triangles = t i; links = l i; slots = z i }
     where
-      len : length (decode s Q B) ≡ Q
-      len = length-decode n B Q s
+      len : length (decode tint Q B) ≡ Q
+      len = length-decode n B Q tint
 
-      by-rows : (w : ℕ) (enc : ℕ → Quad → List ℕ) (old : List ℕ) → ((q : ℕ) → q < Q → row w old q ≡ enc q (getD (decode s Q B) q blank))
-          → laid w enc Q (decode s Q B) old ≡ old
+      by-rows : (w : ℕ) (enc : ℕ → Quad → List ℕ) (old : List ℕ) → ((q : ℕ) → q < Q → row w old q ≡ enc q (getD (decode tint Q B) q blank))
+          → laid w enc Q (decode tint Q B) old ≡ old
       by-rows w enc old h =
-          ap (λ (k : ℕ). laid w enc k (decode s Q B) old) (sym len)
-          ∙ laid-stands w enc (decode s Q B) old (λ q b. h q (omega (arith, len)))
+          ap (λ (k : ℕ). laid w enc k (decode tint Q B) old) (sym len)
+          ∙ laid-stands w enc (decode tint Q B) old (λ q b. h q (omega (arith, len)))
 
-      v : laid s (λ q x. x .words) Q (decode s Q B) (B .vertices) ≡ B .vertices
-      v = by-rows s (λ q x. x .words) (B .vertices) (λ q h. sym (words-decode n B Q s q h))
+      one : (a : Attribute) (xs : List ℕ) → HasList tint (B .vertices) a xs → attributeLaid tint Q (decode tint Q B) a xs ≡ xs
+      one a xs l =
+          by-rows (4 * a .width) (λ q x. rowOf tint a x) xs
+          (λ q h. sym (ap (λ (w : List ℕ). attributeIn (floatsOf tint) a 4 w) (words-decode n B Q tint q h)
+          ∙ attribute-quad tint (B .vertices) q (lies tint (B .vertices) Q long q h) a xs l))
 
-      t : laid 6 (λ q x. pattern q) Q (decode s Q B) (B .triangles) ≡ B .triangles
+      v : eachList tint (attributeLaid tint Q (decode tint Q B)) (B .vertices) ≡ B .vertices
+      v = each-list tint (B .vertices) (attributeLaid tint Q (decode tint Q B)) (λ a xs. xs) one ∙ each-stays tint (B .vertices)
+
+      t : laid 6 (λ q x. pattern q) Q (decode tint Q B) (B .triangles) ≡ B .triangles
       t = by-rows 6 (λ q x. pattern q) (B .triangles) (book .triangles)
 
-      l : laid 1 (λ q x. linkOf (x .key) ∷ []) Q (decode s Q B) (B .links) ≡ B .links
+      l : laid 1 (λ q x. linkOf (x .key) ∷ []) Q (decode tint Q B) (B .links) ≡ B .links
       l =
           by-rows 1 (λ q x. linkOf (x .key) ∷ []) (B .links)
           (λ q h. let e : 1 * q ≡ q = omega arith in
-          rw (e, drop-cons (B .links) q 0 (omega arith), key-decode n B Q s q h, link-of-key (getD (B .links) q 0) (book .codes q h)))
+          rw (e, drop-cons (B .links) q 0 (omega arith), key-decode n B Q tint q h, link-of-key (getD (B .links) q 0) (book .codes q h)))
 
-      z : table (6 * n) (slotOf (decode s Q B)) ++ drop (6 * n) (B .slots) ≡ B .slots
+      z : table (6 * n) (slotOf (decode tint Q B)) ++ drop (6 * n) (B .slots) ≡ B .slots
       z =
           ap (λ (x : List ℕ). x ++ drop (6 * n) (B .slots))
-          (table-is (slotOf (decode s Q B)) (6 * n) (take (6 * n) (B .slots)) NONE (length-take-le (6 * n) (B .slots) room)
+          (table-is (slotOf (decode tint Q B)) (6 * n) (take (6 * n) (B .slots)) NONE (length-take-le (6 * n) (B .slots) room)
           (λ k h. getD-take (6 * n) (B .slots) k NONE h ∙ slot-is k h))
           ∙ take-append-drop (6 * n) (B .slots)
 
@@ -124,15 +133,15 @@ idle tested S log B Q v h =
     let b = then-fine (typesVerdict S) _ a .1 in
     let c = then-fine (lentVerdict S B Q) (BAD-ENTRY (cells (S .size)) (length (S .types .kinds)) log) b .0 in
     let d = then-fine (SHORT-SLOTS (S .size) B) _ c in
-    let e = then-fine (BAD-COUNT (floats (S .types)) B Q) (bookVerdict S B Q) (d .1) in
+    let e = then-fine (BAD-COUNT (room S B) Q) (bookVerdict S B Q) (d .1) in
     let slots = ltb-false (length (B .slots)) (faces S) (if-fine _ 9 0 (d .0)) in
     let counted = ltb-false (room S B) Q (if-fine _ 10 0 (e .0)) in
     let book = book-of-fine (cells (S .size)) B Q (e .1) in
-    let len = length-decode (cells (S .size)) B Q (span S) in
-    let stands = layout-stands (cells (S .size)) (span S) B Q slots book (room-for S B Q counted .links) in
-    let run = idle-course (room S B) (λ k. work tested (world S) (entryAt log k)) 0 (length log / 12) (λ k a b. h k (omega arith)) (decode (span S) Q B) 0 Q (omega arith) in
+    let len = length-decode (cells (S .size)) B Q (S .types .coloured) in
+    let stands = layout-stands (cells (S .size)) (S .types .coloured) B Q slots book (room-for S B Q counted .links) (room-for S B Q counted .vertices) in
+    let run = idle-course (room S B) (λ k. work tested (world S) (entryAt log k)) 0 (length log / 12) (λ k a b. h k (omega arith)) (decode (S .types .coloured) Q B) 0 Q (omega arith) in
     rw (v, run) (λ i. record { answer = answered (len i) 0; lists = stands i })
 
--- ---- case 9 of 01, Added Null: number, place, Q, `moved` and the four lists are as before
+-- ---- case 9 of 01, Added Null: number, place, Q, `moved` and the lists are as before
 pub null-changes-nothing : withAbove source 0 ≡ record { answer = answered (quadsIn below) 0; lists = below .lists }
 null-changes-nothing = idle source (scene 1 2 1) (above 0) (below .lists) (quadsIn below) null-unrefused null-idle

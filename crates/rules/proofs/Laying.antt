@@ -1,4 +1,4 @@
--- How quads lie in the four lists: what is read back is what was laid. Assumes nothing.
+-- How quads lie in the lists: what is read back is what was laid. Assumes nothing.
 use mathlib.Core.Path.{_≡_, refl, sym, ap, _∙_}
 use mathlib.Core.Logic.{_≢_}
 use mathlib.Core.Bool.{Bool, true, false, not}
@@ -11,10 +11,12 @@ use lib.Seq.{getD-take, getD-drop, take-at, drop-append-add}
 use borrow.Author.Tests.{eq-eqb, ne-eqb, eqb-true}
 use Rattle.rules.specs.Lists.{only, table, row, isNil}
 use Rattle.rules.specs.Cells.{UNIT, cellIn, codeIn, keyIn, linkOf}
-use Rattle.rules.specs.Mesh.{Quad, at, there, placeOf, Lists, NONE, pattern, rows, laid, slotOf, slotted, layout, decoded, decode}
+use Rattle.rules.specs.Cube.{floatsOf}
+use Rattle.rules.specs.Mesh.{Quad, at, there, placeOf, Attribute, HasList, quadIn, Lists, NONE, pattern, rows, laid, slotOf, slotted, rowOf, attributeLaid, layout, decoded, decode}
 use Rattle.rules.specs.Update.{blank}
 use Rattle.rules.specs.Answers.{slotAt}
 use Rattle.rules.proofs.ListLaws.{All, all-at, length-table, getD-table, table-is}
+use Rattle.rules.proofs.Attributes.{length-attribute, inside-of, of-each, quad-of-attributes}
 use Rattle.rules.proofs.Quads.{Once, placed, absent, lone}
 
 -- ---- link words
@@ -81,7 +83,7 @@ row-at s xs q k h = getD-take s (drop (s * q) xs) k 0 h ∙ getD-drop (s * q) xs
 pub row-one : (xs : List ℕ) (q : ℕ) → getD xs q 0 ≡ getD (row 1 xs q) 0 0
 row-one xs q = let e : q ≡ 1 * q + 0 = omega arith in ap (λ (j : ℕ). getD xs j 0) e ∙ sym (row-at 1 xs q 0 (omega arith))
 
--- ---- the four lists
+-- ---- the lists
 
 -- a quad of a mesh of n faces and s words a quad
 abbrev pub Fits : ℕ → ℕ → Quad → Type 0
@@ -90,50 +92,66 @@ Fits n s q = (q .key < n) × (length (q .words) ≡ s)
 abbrev pub keyAt : List Quad → ℕ → ℕ
 keyAt m q = (getD m q blank) .key
 
-words-sized : (n s : ℕ) (m : List Quad) → All (Fits n s) m → Sized s (λ q x. x .words) m
-words-sized n s [] h = tt
-words-sized n s (x ∷ m) h = (λ i. h .0 .1, words-sized n s m (h .1))
-
 fixed-sized : (s : ℕ) (enc : ℕ → Quad → List ℕ) → ((i : ℕ) (x : Quad) → length (enc i x) ≡ s) → (m : List Quad) → Sized s enc m
 fixed-sized s enc h [] = tt
 fixed-sized s enc h (x ∷ m) = (λ i. h i x, fixed-sized s enc h m)
 
-module _ (n s highest : ℕ) (hn : n ≤ 3221225472) (m : List Quad) (B : Lists) (fits : All (Fits n s) m) where
+-- the links
+module _ (n s highest : ℕ) (m : List Quad) (old : List ℕ) (fits : All (Fits n s) m) where
+  abbrev pub linksLaid : List ℕ
+  linksLaid = laid 1 (λ q x. linkOf (x .key) ∷ []) highest m old
+
+  one-word : Sized 1 (λ q x. linkOf (x .key) ∷ []) m
+  one-word = fixed-sized 1 (λ q x. linkOf (x .key) ∷ []) (λ i x. refl) m
+
+  pub links-at : (q : ℕ) → q < length m → getD linksLaid q 0 ≡ linkOf (keyAt m q)
+  links-at q h = row-one linksLaid q ∙ ap (λ (r : List ℕ). getD r 0 0) (row-laid 1 (λ q x. linkOf (x .key) ∷ []) highest m old one-word q h)
+
+  pub keys-at : n ≤ 3221225472 → (q : ℕ) → q < length m → keyIn (getD linksLaid q 0) ≡ keyAt m q
+  keys-at hn q h = let f = all-at (Fits n s) m q blank fits h .0 in ap keyIn (links-at q h) ∙ key-of-link (keyAt m q) (omega arith)
+
+  pub length-links : length m ≤ highest → highest ≤ length old → length linksLaid ≡ length old
+  length-links low h = length-laid 1 (λ q x. linkOf (x .key) ∷ []) highest m old one-word low (omega arith)
+
+-- each attribute's row has its four vertices' floats
+pub rows-sized : (tint : Bool) (a : Attribute) → a .start + a .width ≤ floatsOf tint → (n : ℕ) (m : List Quad) → All (Fits n (4 * floatsOf tint)) m
+    → Sized (4 * a .width) (λ q x. rowOf tint a x) m
+rows-sized tint a inside n [] h = tt
+rows-sized tint a inside n (x ∷ m) h =
+    (λ i. length-attribute (floatsOf tint) a inside 4 (x .words) (omega (arith, h .0 .1)) ∙ omega arith, rows-sized tint a inside n m (h .1))
+
+module _ (n : ℕ) (tint : Bool) (highest : ℕ) (hn : n ≤ 3221225472) (m : List Quad) (B : Lists) (fits : All (Fits n (4 * floatsOf tint)) m) where
   abbrev after : Lists
-  after = layout n s highest m B
+  after = layout n tint highest m B
 
-  pub links-at : (q : ℕ) → q < length m → getD (after .links) q 0 ≡ linkOf (keyAt m q)
-  links-at q h =
-      row-one (after .links) q
-      ∙ ap (λ (r : List ℕ). getD r 0 0)
-      (row-laid 1 (λ q x. linkOf (x .key) ∷ []) highest m (B .links) (fixed-sized 1 (λ q x. linkOf (x .key) ∷ []) (λ i x. refl) m) q h)
+  -- an attribute's list has the attribute of each quad at its place
+  pub attribute-at : (a : Attribute) (xs : List ℕ) → HasList tint (B .vertices) a xs → (q : ℕ) → q < length m
+      → row (4 * a .width) (attributeLaid tint highest m a xs) q ≡ rowOf tint a (getD m q blank)
+  attribute-at a xs l = row-laid (4 * a .width) (λ q x. rowOf tint a x) highest m xs (rows-sized tint a (inside-of tint (B .vertices) a xs l) n m fits)
 
-  pub keys-at : (q : ℕ) → q < length m → keyIn (getD (after .links) q 0) ≡ keyAt m q
-  keys-at q h =
-      let f = all-at (Fits n s) m q blank fits h .0 in ap keyIn (links-at q h) ∙ key-of-link (keyAt m q) (omega arith)
-
-  pub vertices-at : (q : ℕ) → q < length m → row s (after .vertices) q ≡ (getD m q blank) .words
-  vertices-at = row-laid s (λ q x. x .words) highest m (B .vertices) (words-sized n s m fits)
+  pub vertices-at : (q : ℕ) → q < length m → quadIn tint (after .vertices) q ≡ (getD m q blank) .words
+  vertices-at q h =
+      quad-of-attributes tint (after .vertices) q ((getD m q blank) .words) (all-at (Fits n (4 * floatsOf tint)) m q blank fits h .1)
+      (λ a ys l. let x = of-each tint (B .vertices) (attributeLaid tint highest m) a ys l in
+      ap (λ (r : List ℕ). row (4 * a .width) r q) (x .2) ∙ attribute-at a (x .0) (x .1) q h)
 
   pub triangles-at : (q : ℕ) → q < length m → row 6 (after .triangles) q ≡ pattern q
   triangles-at = row-laid 6 (λ q x. pattern q) highest m (B .triangles) (fixed-sized 6 (λ q x. pattern q) (λ i x. refl) m)
 
   -- LAW: what is laid out decodes to itself
-  pub decode-layout : decode s (length m) after ≡ m
+  pub decode-layout : decode tint (length m) after ≡ m
   decode-layout =
-      table-is (decoded s after) (length m) m blank refl
-      (λ q h. let k = sym (keys-at q h) in let w = sym (vertices-at q h) in λ i. record { key = k i; words = w i })
+      table-is (decoded tint after) (length m) m blank refl
+      (λ q h. let k = sym (keys-at n (4 * floatsOf tint) highest m (B .links) fits hn q h) in let w = sym (vertices-at q h) in λ i. record { key = k i; words = w i })
 
   module _ (low : length m ≤ highest) where
-    pub length-vertices : s * highest ≤ length (B .vertices) → length (after .vertices) ≡ length (B .vertices)
-    length-vertices = length-laid s (λ q x. x .words) highest m (B .vertices) (words-sized n s m fits) low
+    pub length-attributes : (a : Attribute) (xs : List ℕ) → HasList tint (B .vertices) a xs → 4 * a .width * highest ≤ length xs
+        → length (attributeLaid tint highest m a xs) ≡ length xs
+    length-attributes a xs l =
+        length-laid (4 * a .width) (λ q x. rowOf tint a x) highest m xs (rows-sized tint a (inside-of tint (B .vertices) a xs l) n m fits) low
 
     pub length-triangles : 6 * highest ≤ length (B .triangles) → length (after .triangles) ≡ length (B .triangles)
     length-triangles = length-laid 6 (λ q x. pattern q) highest m (B .triangles) (fixed-sized 6 (λ q x. pattern q) (λ i x. refl) m) low
-
-    pub length-links : highest ≤ length (B .links) → length (after .links) ≡ length (B .links)
-    length-links h =
-        length-laid 1 (λ q x. linkOf (x .key) ∷ []) highest m (B .links) (fixed-sized 1 (λ q x. linkOf (x .key) ∷ []) (λ i x. refl) m) low (omega arith)
 
   module _ (room : n ≤ length (B .slots)) where
     pub length-slots : length (after .slots) ≡ length (B .slots)

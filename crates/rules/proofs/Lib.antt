@@ -8,6 +8,7 @@ pub mod Neighbours
 pub mod Quads
 pub mod Mending
 pub mod Ordered
+pub mod Attributes
 pub mod Laying
 pub mod Index
 pub mod Checking
@@ -17,4 +18,5 @@ pub mod Modes
 pub mod Refusals
 pub mod Demands
 pub mod Idle
+pub mod Apart
 pub mod Witness

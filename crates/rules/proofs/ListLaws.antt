@@ -62,6 +62,12 @@ each-split {A = A} (suc a) b i p =
     let y : i + suc a ≡ suc i + a = omega arith in
     rw (z, y) (ap (λ (l : List A). p i ++ l) (each-split a b (suc i) p) ∙ sym (append-assoc (p i) (each a (suc i) p) (each b (suc i + a) p)))
 
+-- counted from elsewhere
+pub each-on {ℓ} : {A : Type ℓ} (u v i : ℕ) (p : ℕ → List A) → each v (u + i) p ≡ each v i (λ k. p (u + k))
+unfolding each
+each-on u zero i p = refl
+each-on {A = A} u (suc v) i p = let e : suc (u + i) ≡ u + suc i = omega arith in rw e (ap (λ (r : List A). p (u + i) ++ r) (each-on u v (suc i) p))
+
 pub record Reads {ℓ} (A : Type ℓ) (M : Type 0) : Type ℓ where
   pub read : List A → M
   pub none : M
@@ -175,6 +181,11 @@ lowestFrom-le zero i bad = omega arith
 lowestFrom-le (suc n) i bad =
     split (λ t. cond t i (lowestFrom (suc i) n bad) ≤ i + suc n) (bad i) (λ e. omega arith) (λ e. omega (arith, lowestFrom-le n (suc i) bad))
 
+lowestFrom-ge : (n i : ℕ) (bad : ℕ → Bool) → i ≤ lowestFrom i n bad
+unfolding lowestFrom
+lowestFrom-ge zero i bad = omega arith
+lowestFrom-ge (suc n) i bad = split (λ t. i ≤ cond t i (lowestFrom (suc i) n bad)) (bad i) (λ e. omega arith) (λ e. omega (arith, lowestFrom-ge n (suc i) bad))
+
 pub lowestFrom-bad : (n i : ℕ) (bad : ℕ → Bool) → lowestFrom i n bad < i + n → bad (lowestFrom i n bad) ≡ true
 unfolding lowestFrom
 lowestFrom-bad zero i bad h = absurd (omega arith)
@@ -185,6 +196,32 @@ lowestFrom-bad (suc n) i bad h =
 -- the lowest bad one is bad
 pub lowest-bad : (n : ℕ) (bad : ℕ → Bool) → lowest n bad < n → bad (lowest n bad) ≡ true
 lowest-bad n bad h = lowestFrom-bad n 0 bad (omega arith)
+
+lowestFrom-cong : (n i : ℕ) (p q : ℕ → Bool) → ((k : ℕ) → i ≤ k → k < i + n → p k ≡ q k) → lowestFrom i n p ≡ lowestFrom i n q
+unfolding lowestFrom
+lowestFrom-cong zero i p q e = refl
+lowestFrom-cong (suc n) i p q e =
+    rw (e i (omega arith) (omega arith), lowestFrom-cong n (suc i) p q (λ k a b. e k (omega arith) (omega arith)))
+
+-- tests that agree find the same
+pub lowest-cong : (n : ℕ) (p q : ℕ → Bool) → ((k : ℕ) → k < n → p k ≡ q k) → lowest n p ≡ lowest n q
+lowest-cong n p q e = lowestFrom-cong n 0 p q (λ k a b. e k (omega arith))
+
+-- the lowest of q below the lowest of p is the lowest of either
+lowestFrom-either : (n i : ℕ) (p q : ℕ → Bool) → lowestFrom i (lowestFrom i n p - i) q ≡ lowestFrom i n (λ k. p k || q k)
+unfolding lowestFrom
+lowestFrom-either zero i p q = let z : i - i ≡ 0 = omega arith in rw z
+lowestFrom-either (suc n) i p q = split (λ t. lowestFrom i (cond t i (lowestFrom (suc i) n p) - i) q ≡ cond (t || q i) i (lowestFrom (suc i) n (λ k. p k || q k))) (p i)
+    (λ e. let z : i - i ≡ 0 = omega arith in rw z)
+    (λ e. let l = lowestFrom-ge n (suc i) p in
+    let s : lowestFrom (suc i) n p - i ≡ suc (lowestFrom (suc i) n p - suc i) = omega arith in
+    rw s (ap (cond (q i) i) (lowestFrom-either n (suc i) p q)))
+
+pub lowest-either : (n : ℕ) (p q : ℕ → Bool) → lowest (lowest n p) q ≡ lowest n (λ k. p k || q k)
+lowest-either n p q = let e : lowest n p ≡ lowest n p - 0 = omega arith in ap (λ (m : ℕ). lowest m q) e ∙ lowestFrom-either n 0 p q
+
+pub lowest-le : (n : ℕ) (p : ℕ → Bool) → lowest n p ≤ n
+lowest-le n p = omega (arith, lowestFrom-le n 0 p)
 
 pub every-true : (n : ℕ) (p : ℕ → Bool) → every n p ≡ true → (k : ℕ) → k < n → p k ≡ true
 unfolding every

@@ -11,7 +11,7 @@ use Rattle.rules.specs.Lists.{each}
 use Rattle.rules.specs.Cells.{Size, neighbour}
 use Rattle.rules.specs.Mesh.{World, Lists, isNormalCube, covering, decode}
 use Rattle.rules.specs.Update.{Change, Broken, Added, CullFaces, AddFaces, Entry, entryAt, Tested, itself, hide, nothing, added, workBy, work, Course, Alike, AlikeBy, AddsAlike}
-use Rattle.rules.specs.Calls.{Scene, world, span, room, entriesOf, updateVerdict, updateBy, updateMesh}
+use Rattle.rules.specs.Calls.{Scene, world, room, entriesOf, updateVerdict, updateBy, updateMesh}
 use Rattle.rules.proofs.ListLaws.{split, each-same}
 use Rattle.rules.proofs.Courses.{course-alike}
 
@@ -74,6 +74,6 @@ pub modes-agree : (tested : Tested) (S : Scene) (log : List ℕ) (B : Lists) (Q 
 modes-agree tested S log B Q h =
     ap (λ (c : Course). updateBy (updateVerdict S log B Q) S c B)
     (course-alike (room S B) (λ k. work tested (world S) (entryAt log k)) (λ k. work itself (world S) (entryAt log k)) 0 (length log / 12)
-    (decode (span S) Q B) 0 Q
+    (decode (S .types .coloured) Q B) 0 Q
     (λ j l. work-alike tested (world S) (entryAt log j) ((entryAt log j) .change)
     (alike-at tested (world S) (entryAt log) 0 (length log / 12) h j (omega arith) l)))

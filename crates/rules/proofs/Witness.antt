@@ -9,7 +9,7 @@ use lib.Ieee as ieee
 use Rattle.rules.specs.Lists.{each, every, count, lowestFrom, same}
 use Rattle.rules.specs.Cells.{neighbour}
 use Rattle.rules.specs.Types as types
-use Rattle.rules.specs.Mesh.{meshBy, laid, slotted}
+use Rattle.rules.specs.Mesh.{attributeIn, meshBy, laid, slotted}
 use Rattle.rules.specs.Update.{entryAt, removeAt, remove, ops, needed, courseFrom, emptyType, source, itself, gridLog, Honest, Mends, AddsAlike}
 use Rattle.rules.specs.Answers as answers
 use Rattle.rules.specs.Calls.{Scene, Outcome, answered, world, entriesOf, meshGrid, updateMesh, checkMesh}
@@ -68,7 +68,7 @@ unfolding answers._then_ answers.refuseIf answers.badLimits answers.BAD-TYPES an
 meshed = refl
 
 unrefused : after .answer .number ≡ 0
-unfolding answers._then_ answers.refuseIf answers.badLimits answers.BAD-TYPES answers.badCounts lowestFrom answers.badType answers.BAD-NUMBER answers.notACube types.isCube every types.classed types.classOf types.classAt types.classOn ieee.eq ieee.ofBits ieee.lt answers.roomOf meshBy each neighbour count laid slotted answers.badLink answers.BAD-LINKS same answers.badEntry answers.BAD-ENTRY courseFrom entryAt needed ops remove removeAt types.quadWords
+unfolding answers._then_ answers.refuseIf answers.badLimits answers.BAD-TYPES answers.badCounts lowestFrom answers.badType answers.BAD-NUMBER answers.notACube types.isCube every types.classed types.classOf types.classAt types.classOn ieee.eq ieee.ofBits ieee.lt answers.roomOf meshBy each neighbour count laid attributeIn slotted answers.badLink answers.BAD-LINKS same answers.badEntry answers.BAD-ENTRY courseFrom entryAt needed ops remove removeAt types.quadWords
 unrefused = refl
 
 -- the fresh mesh passes, the log is honest and not refused, and so the mended mesh passes
@@ -81,7 +81,7 @@ abbrev tight : Outcome
 tight = meshGrid S [] grid true (lent 10 2)
 
 pub no-room-witness : (updateMesh source S log (tight .lists) (tight .answer .quads)) .answer ≡ record { number = 14; place = 1; quads = 6; moved = 14 }
-unfolding answers._then_ answers.refuseIf answers.badLimits answers.BAD-TYPES answers.badCounts lowestFrom answers.badType answers.BAD-NUMBER answers.notACube types.isCube every types.classed types.classOf types.classAt types.classOn ieee.eq ieee.ofBits ieee.lt answers.roomOf meshBy each neighbour count laid slotted answers.badLink answers.BAD-LINKS same answers.badEntry answers.BAD-ENTRY courseFrom entryAt needed ops remove removeAt types.quadWords
+unfolding answers._then_ answers.refuseIf answers.badLimits answers.BAD-TYPES answers.badCounts lowestFrom answers.badType answers.BAD-NUMBER answers.notACube types.isCube every types.classed types.classOf types.classAt types.classOn ieee.eq ieee.ofBits ieee.lt answers.roomOf meshBy each neighbour count laid attributeIn slotted answers.badLink answers.BAD-LINKS same answers.badEntry answers.BAD-ENTRY courseFrom entryAt needed ops remove removeAt types.quadWords
 no-room-witness = refl
 
 -- ---- the new mode: a slab that covers only Bottom is laid on a cube, then the cube under it is dug
@@ -120,7 +120,7 @@ unfolding answers._then_ answers.refuseIf answers.badLimits answers.BAD-TYPES an
 bare-meshed = refl
 
 slab-unrefused : laidOn .answer .number ≡ 0
-unfolding answers._then_ answers.refuseIf answers.badLimits answers.BAD-TYPES answers.badCounts lowestFrom answers.badType answers.BAD-NUMBER answers.notACube types.isCube every types.classed types.classOf types.classAt types.classOn ieee.eq ieee.ofBits ieee.lt answers.roomOf meshBy each neighbour count laid slotted answers.badLink answers.BAD-LINKS same answers.badEntry answers.BAD-ENTRY courseFrom entryAt needed ops remove removeAt types.quadWords
+unfolding answers._then_ answers.refuseIf answers.badLimits answers.BAD-TYPES answers.badCounts lowestFrom answers.badType answers.BAD-NUMBER answers.notACube types.isCube every types.classed types.classOf types.classAt types.classOn ieee.eq ieee.ofBits ieee.lt answers.roomOf meshBy each neighbour count laid attributeIn slotted answers.badLink answers.BAD-LINKS same answers.badEntry answers.BAD-ENTRY courseFrom entryAt needed ops remove removeAt types.quadWords
 slab-unrefused = refl
 
 pub slab-witness : checkMesh G [] (gridLog (world G) (entriesOf slabLog) ground) (laidOn .lists) (laidOn .answer .quads) ≡ answered 0 0

@@ -106,15 +106,18 @@ SHORT-SLOTS s B = refuseIf (ltb (length (B .slots)) (6 * cells s)) 9 0
 abbrev pub SHORT-CUBE : Bool → List ℕ → Verdict
 SHORT-CUBE coloured out = refuseIf (ltb (length out) (24 * floatsOf coloured)) 9 0
 
--- ---- room in quads: the least of vertices/(4·floats), triangles/6, links
+-- ---- room in quads: the least over all lists, the colour list counted only with colour (02, Q-8)
 
-unfoldable pub roomOf : ℕ → Lists → ℕ
-roomOf floats B = min (length (B .vertices) / (4 * floats)) (min (length (B .triangles) / 6) (length (B .links)))
+unfoldable pub roomOf : Bool → Lists → ℕ
+roomOf coloured B =
+    let vs = B .vertices in
+    let others = min (length (vs .positions) / 12) (min (length (vs .normals) / 12) (min (length (vs .uvs) / 8) (min (length (B .triangles) / 6) (length (B .links))))) in
+    cond coloured (min (length (vs .colours) / 16) others) others
 
 -- ---- 10: Q over the room
 
-abbrev pub BAD-COUNT : ℕ → Lists → ℕ → Verdict
-BAD-COUNT floats B Q = refuseIf (ltb (roomOf floats B) Q) 10 0
+abbrev pub BAD-COUNT : ℕ → ℕ → Verdict
+BAD-COUNT room Q = refuseIf (ltb room Q) 10 0
 
 -- ---- 11: a link's code > 5, cell outside, or slot not 4q, the lowest quad; more filled slots than Q, place Q
 
@@ -156,8 +159,8 @@ BAD-ENTRY cells types log =
 
 -- ---- 14: the quads needed exceed the room
 
-abbrev pub NO-ROOM : ℕ → Lists → ℕ → Verdict
-NO-ROOM floats B quads = refuseIf (ltb (roomOf floats B) quads) 14 0
+abbrev pub NO-ROOM : ℕ → ℕ → Verdict
+NO-ROOM room quads = refuseIf (ltb room quads) 14 0
 
 -- ---- 15: a face missing or extra, the lowest 6·cell + face
 
@@ -172,9 +175,8 @@ WRONG-SET W outer g m = refuseLowest 15 (6 * cells (W .size)) (wrongFace W outer
 
 -- ---- 16: the first quad that differs in any of its floats, compared as bits
 
-unfoldable pub wrongVertex : World → List ℕ → ℕ → Lists → ℕ → Bool
-wrongVertex W g s B q =
-    let k = keyIn (getD (B .links) q 0) in not (same (row s (B .vertices) q) (W .wordsOf (typeAt g (k / 6)) (k % 6) (k / 6)))
+unfoldable pub wrongVertex : World → List ℕ → Quad → Bool
+wrongVertex W g x = not (same (x .words) (W .wordsOf (typeAt g (x .key / 6)) (x .key % 6) (x .key / 6)))
 
-abbrev pub WRONG-VERTEX : World → List ℕ → ℕ → Lists → ℕ → Verdict
-WRONG-VERTEX W g s B Q = refuseLowest 16 Q (wrongVertex W g s B)
+abbrev pub WRONG-VERTEX : World → List ℕ → (ℕ → Quad) → ℕ → Verdict
+WRONG-VERTEX W g quad Q = refuseLowest 16 Q (λ q. wrongVertex W g (quad q))

@@ -8,7 +8,7 @@ use Rattle.rules.specs.Lists.{table}
 use Rattle.rules.specs.Cells.{Size, Triple, cells, coordinates}
 use Rattle.rules.specs.Types.{Types, floats, cubeOf, quadWords}
 use Rattle.rules.specs.Cube.{Shape, floatsOf, cubeWords}
-use Rattle.rules.specs.Mesh.{Quad, World, Lists, culled, naive, layout, decode}
+use Rattle.rules.specs.Mesh.{Quad, World, Lists, culled, naive, layout, decoded, decode}
 use Rattle.rules.specs.Update.{Entry, entryAt, Tested, work, Course, courseFrom}
 use Rattle.rules.specs.Answers.{Verdict, fine, refuse, _then_, BAD-SIZE, BAD-GRID, BAD-TYPES, BAD-NUMBER, BAD-ATLAS, NOT-A-CUBE, BAD-OUTER, BAD-TEXTURE, BAD-CELL, SHORT-SLOTS, SHORT-CUBE, roomOf, BAD-COUNT, BAD-LINKS, BAD-TRIANGLES, BAD-ENTRY, NO-ROOM, WRONG-SET, WRONG-VERTEX}
 
@@ -64,7 +64,7 @@ abbrev pub faces : Scene → ℕ
 faces S = 6 * cells (S .size)
 
 abbrev pub room : Scene → Lists → ℕ
-room S B = roomOf (floats (S .types)) B
+room S B = roomOf (S .types .coloured) B
 
 -- 3, 4 (no padding is given) and 6
 abbrev pub registryVerdict : Types → Triple → Triple → Verdict
@@ -88,11 +88,14 @@ inputVerdict S outer g B =
     BAD-SIZE (S .size) then BAD-GRID (S .size) g then typesVerdict S then BAD-OUTER outer then BAD-CELL (S .types) g
     then SHORT-SLOTS (S .size) B
 
+abbrev pub meshVerdictIn : ℕ → Scene → List ℕ → List ℕ → Bool → Lists → Verdict
+meshVerdictIn room S outer g culling B = inputVerdict S outer g B then NO-ROOM room (length (freshMesh S outer g culling))
+
 abbrev pub meshVerdict : Scene → List ℕ → List ℕ → Bool → Lists → Verdict
-meshVerdict S outer g culling B = inputVerdict S outer g B then NO-ROOM (floats (S .types)) B (length (freshMesh S outer g culling))
+meshVerdict S outer g culling B = meshVerdictIn (room S B) S outer g culling B
 
 abbrev pub meshedBy : Verdict → Scene → List Quad → Lists → Outcome
-meshedBy fine S m B = record { answer = answered (length m) 0; lists = layout (faces S) (span S) (length m) m B }
+meshedBy fine S m B = record { answer = answered (length m) 0; lists = layout (faces S) (S .types .coloured) (length m) m B }
 meshedBy (refuse n p) S m B = record { answer = refused n p; lists = B }
 
 abbrev pub meshGrid : Scene → List ℕ → List ℕ → Bool → Lists → Outcome
@@ -101,20 +104,27 @@ meshGrid S outer g culling B = meshedBy (meshVerdict S outer g culling B) S (fre
 -- ---- Update: 2, 3, 4, 6, 9 to 14
 
 -- 9 to 12: what is asked of a lent mesh
+abbrev pub lentVerdictIn : ℕ → Scene → Lists → ℕ → Verdict
+lentVerdictIn room S B Q = SHORT-SLOTS (S .size) B then BAD-COUNT room Q then BAD-LINKS (cells (S .size)) B Q then BAD-TRIANGLES B Q
+
 abbrev pub lentVerdict : Scene → Lists → ℕ → Verdict
-lentVerdict S B Q =
-    SHORT-SLOTS (S .size) B then BAD-COUNT (floats (S .types)) B Q then BAD-LINKS (cells (S .size)) B Q then BAD-TRIANGLES B Q
+lentVerdict S B Q = lentVerdictIn (room S B) S B Q
+
+abbrev pub updateVerdictIn : ℕ → Scene → List ℕ → Lists → ℕ → Verdict
+updateVerdictIn room S log B Q =
+    BAD-SIZE (S .size) then typesVerdict S then lentVerdictIn room S B Q then BAD-ENTRY (cells (S .size)) (length (S .types .kinds)) log
 
 abbrev pub updateVerdict : Scene → List ℕ → Lists → ℕ → Verdict
-updateVerdict S log B Q =
-    BAD-SIZE (S .size) then typesVerdict S then lentVerdict S B Q then BAD-ENTRY (cells (S .size)) (length (S .types .kinds)) log
+updateVerdict S log B Q = updateVerdictIn (room S B) S log B Q
 
 abbrev pub entriesOf : List ℕ → List Entry
 entriesOf log = table (length log / 12) (entryAt log)
 
+abbrev pub courseIn : ℕ → Tested → Scene → List ℕ → List Quad → ℕ → Course
+courseIn room tested S log m Q = courseFrom room (λ k. work tested (world S) (entryAt log k)) 0 (length log / 12) m 0 Q
+
 abbrev pub course : Tested → Scene → List ℕ → Lists → ℕ → Course
-course tested S log B Q =
-    courseFrom (room S B) (λ k. work tested (world S) (entryAt log k)) 0 (length log / 12) (decode (span S) Q B) 0 Q
+course tested S log B Q = courseIn (room S B) tested S log (decode (S .types .coloured) Q B) Q
 
 -- NO_ROOM alone also returns Q and `moved` and keeps the earlier entries
 abbrev pub courseAnswer : Course → Option ℕ → Answer
@@ -122,7 +132,7 @@ courseAnswer c none = answered (length (c .quads)) (c .moved)
 courseAnswer c (some k) = record { number = 14; place = k; quads = length (c .quads); moved = c .moved }
 
 abbrev pub updateBy : Verdict → Scene → Course → Lists → Outcome
-updateBy fine S c B = record { answer = courseAnswer c (c .full); lists = layout (faces S) (span S) (c .highest) (c .quads) B }
+updateBy fine S c B = record { answer = courseAnswer c (c .full); lists = layout (faces S) (S .types .coloured) (c .highest) (c .quads) B }
 updateBy (refuse n p) S c B = record { answer = refused n p; lists = B }
 
 abbrev pub updateMesh : Tested → Scene → List ℕ → Lists → ℕ → Outcome
@@ -131,14 +141,20 @@ updateMesh tested S log B Q = updateBy (updateVerdict S log B Q) S (course teste
 -- ---- Check: 2, 3, 4, 6 to 12, 15, 16
 
 -- 2, 3, 4, 6 to 10: what is asked before the mesh is looked at
+abbrev pub openVerdictIn : ℕ → Scene → List ℕ → List ℕ → Lists → ℕ → Verdict
+openVerdictIn room S outer g B Q = inputVerdict S outer g B then BAD-COUNT room Q
+
 abbrev pub openVerdict : Scene → List ℕ → List ℕ → Lists → ℕ → Verdict
-openVerdict S outer g B Q = inputVerdict S outer g B then BAD-COUNT (floats (S .types)) B Q
+openVerdict S outer g B Q = openVerdictIn (room S B) S outer g B Q
 
 abbrev pub bookVerdict : Scene → Lists → ℕ → Verdict
 bookVerdict S B Q = BAD-LINKS (cells (S .size)) B Q then BAD-TRIANGLES B Q
 
+abbrev pub faceVerdictOf : (ℕ → Quad) → Scene → List ℕ → List ℕ → ℕ → Verdict
+faceVerdictOf quad S outer g Q = WRONG-SET (world S) outer g (table Q quad) then WRONG-VERTEX (world S) g quad Q
+
 abbrev pub faceVerdict : Scene → List ℕ → List ℕ → Lists → ℕ → Verdict
-faceVerdict S outer g B Q = WRONG-SET (world S) outer g (decode (span S) Q B) then WRONG-VERTEX (world S) g (span S) B Q
+faceVerdict S outer g B Q = faceVerdictOf (decoded (S .types .coloured) B) S outer g Q
 
 abbrev pub checkVerdict : Scene → List ℕ → List ℕ → Lists → ℕ → Verdict
 checkVerdict S outer g B Q = openVerdict S outer g B Q then bookVerdict S B Q then faceVerdict S outer g B Q

@@ -9,4 +9,5 @@ pub mod Update
 pub mod Answers
 pub mod Check
 pub mod Calls
+pub mod Together
 pub mod Program

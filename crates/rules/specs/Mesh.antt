@@ -1,11 +1,13 @@
--- 01, "A mesh": the quads, how they lie in the four lists, and fresh meshing. Definitions only.
+-- 01, "A mesh"; 02, Q-8: the quads, fresh meshing, and how the quads lie in the lists. Definitions only.
 use Prim.Native.Nat.{ℕ, suc, _+_, _-_, _*_}
-use mathlib.Core.Bool.{Bool, cond, not, _&&_}
+use mathlib.Core.Path.{_≡_}
+use mathlib.Core.Bool.{Bool, true, cond, not, _&&_}
 use mathlib.Core.List.{List, [], _∷_, _++_}
 use mathlib.Core.Option.{Option, none, some}
 use lib.ListN.{length, getD, drop, replicate}
 use lib.Dec.{eqb}
-use Rattle.rules.specs.Lists.{each, table, only, row, isNil, member, filled}
+use Rattle.rules.specs.Lists.{each, table, only, part, row, isNil, member, filled}
+use Rattle.rules.specs.Cube.{floatsOf}
 use Rattle.rules.specs.Cells.{Size, cells, opposite, neighbour, keyOf, keyIn, linkOf, firstVertex, has}
 
 -- a quad: the face it shows, 6 · cell + face, and the words of its four vertices
@@ -79,20 +81,81 @@ abbrev pub placeOf : ℕ → List Quad → ℕ
 placeOf k [] = 0
 placeOf k (q ∷ m) = cond (eqb k (q .key)) 0 (suc (placeOf k m))
 
--- ---- the four lists
+-- ---- the attributes of a vertex (02, Q-8)
+
+-- where its floats start among a vertex's, and how many they are
+pub record Attribute : Type 0 where
+  pub start : ℕ
+  pub width : ℕ
+
+abbrev pub position : Attribute
+position = record { start = 0; width = 3 }
+
+abbrev pub normal : Attribute
+normal = record { start = 3; width = 3 }
+
+abbrev pub uv : Attribute
+uv = record { start = 6; width = 2 }
+
+abbrev pub colour : Attribute
+colour = record { start = 8; width = 4 }
+
+-- an attribute of v vertices, one after the other, n floats a vertex
+unfoldable pub attributeIn : ℕ → Attribute → ℕ → List ℕ → List ℕ
+attributeIn n a v xs = each v 0 (λ i. part (n * i + a .start) (a .width) xs)
+
+-- one list for each attribute
+pub record Vertices : Type 0 where
+  pub positions : List ℕ
+  pub normals : List ℕ
+  pub uvs : List ℕ
+  pub colours : List ℕ
+
+abbrev pub verticesOf : List ℕ → List ℕ → List ℕ → List ℕ → Vertices
+verticesOf positions normals uvs colours = record { positions = positions; normals = normals; uvs = uvs; colours = colours }
+
+-- an attribute that vertices have, and its list
+pub data HasList (coloured : Bool) (vs : Vertices) : Attribute → List ℕ → Type 0 where
+  of-positions : HasList coloured vs position (vs .positions)
+  of-normals : HasList coloured vs normal (vs .normals)
+  of-uvs : HasList coloured vs uv (vs .uvs)
+  of-colours : coloured ≡ true → HasList coloured vs colour (vs .colours)
+
+-- what becomes of the list of each attribute; without colour the colour list stays as it is
+abbrev pub eachList : Bool → (Attribute → List ℕ → List ℕ) → Vertices → Vertices
+eachList coloured f vs =
+    record {
+      positions = f position (vs .positions);
+      normals = f normal (vs .normals);
+      uvs = f uv (vs .uvs);
+      colours = cond coloured (f colour (vs .colours)) (vs .colours);
+    }
+
+-- vertex v, put together from its attributes
+unfoldable pub vertexIn : Bool → Vertices → ℕ → List ℕ
+vertexIn coloured vs v = row 3 (vs .positions) v ++ (row 3 (vs .normals) v ++ (row 2 (vs .uvs) v ++ cond coloured (row 4 (vs .colours) v) []))
+
+-- quad q: its four vertices
+unfoldable pub quadIn : Bool → Vertices → ℕ → List ℕ
+quadIn coloured vs q = each 4 0 (λ i. vertexIn coloured vs (4 * q + i))
+
+-- ---- the lists
 
 pub record Lists : Type 0 where
-  pub vertices : List ℕ
+  pub vertices : Vertices
   pub triangles : List ℕ
   pub links : List ℕ
   pub slots : List ℕ
 
-abbrev pub listsOf : List ℕ → List ℕ → List ℕ → List ℕ → Lists
+abbrev pub listsOf : Vertices → List ℕ → List ℕ → List ℕ → Lists
 listsOf vertices triangles links slots = record { vertices = vertices; triangles = triangles; links = links; slots = slots }
+
+abbrev pub noVertices : Vertices
+noVertices = verticesOf [] [] [] []
 
 -- links and slots alone
 abbrev pub bookOf : List ℕ → List ℕ → Lists
-bookOf links slots = listsOf [] [] links slots
+bookOf links slots = listsOf noVertices [] links slots
 
 abbrev pub NONE : ℕ
 NONE = 4294967295
@@ -118,19 +181,26 @@ slotOf m k = cond (there k m) (firstVertex (placeOf k m)) NONE
 unfoldable pub slotted : ℕ → List Quad → List ℕ → List ℕ
 slotted n m old = filled n (slotOf m) old
 
--- Per quad: four vertices (s words), six triangle words, one link word. Per cell: six slots
-abbrev pub layout : ℕ → ℕ → ℕ → List Quad → Lists → Lists
-layout n s highest m B =
+-- an attribute of a quad, and its list
+abbrev pub rowOf : Bool → Attribute → Quad → List ℕ
+rowOf coloured a x = attributeIn (floatsOf coloured) a 4 (x .words)
+
+abbrev pub attributeLaid : Bool → ℕ → List Quad → Attribute → List ℕ → List ℕ
+attributeLaid coloured highest m a old = laid (4 * a .width) (λ q x. rowOf coloured a x) highest m old
+
+-- Per quad: four vertices, six triangle words, one link word. Per cell: six slots
+abbrev pub layout : ℕ → Bool → ℕ → List Quad → Lists → Lists
+layout n coloured highest m B =
     record {
-      vertices = laid s (λ q x. x .words) highest m (B .vertices);
+      vertices = eachList coloured (attributeLaid coloured highest m) (B .vertices);
       triangles = laid 6 (λ q x. pattern q) highest m (B .triangles);
       links = laid 1 (λ q x. linkOf (x .key) ∷ []) highest m (B .links);
       slots = slotted n m (B .slots);
     }
 
 -- the first Q quads that the lists hold
-abbrev pub decoded : ℕ → Lists → ℕ → Quad
-decoded s B q = record { key = keyIn (getD (B .links) q 0); words = row s (B .vertices) q }
+abbrev pub decoded : Bool → Lists → ℕ → Quad
+decoded coloured B q = record { key = keyIn (getD (B .links) q 0); words = quadIn coloured (B .vertices) q }
 
-abbrev pub decode : ℕ → ℕ → Lists → List Quad
-decode s Q B = table Q (decoded s B)
+abbrev pub decode : Bool → ℕ → Lists → List Quad
+decode coloured Q B = table Q (decoded coloured B)

@@ -119,7 +119,7 @@ outerIn file = each 6 0 (λ f. only (has (word file 8) f) f)
 abbrev pub roomIn : List ℕ → Lists
 roomIn file =
     record {
-      vertices = replicate (128 * (4 * floatsOf (colouredIn file))) 0;
+      vertices = record { positions = replicate (128 * 12) 0; normals = replicate (128 * 12) 0; uvs = replicate (128 * 8) 0; colours = replicate (128 * 16) 0 };
       triangles = replicate (128 * 6) 0;
       links = replicate 128 0;
       slots = replicate (6 * cells (sizeIn file)) 0;
@@ -180,7 +180,7 @@ abbrev pub refusedLine : Answer → List ℕ
 refusedLine a = REFUSED ++ decimal (a .number) ++ AT ++ decimal (a .place) ++ (LINE ∷ [])
 
 abbrev pub linesBy : Scene → Outcome → ℕ → List ℕ
-linesBy S o zero = meshLines (o .answer) (decode (span S) (o .answer .quads) (o .lists))
+linesBy S o zero = meshLines (o .answer) (decode (S .types .coloured) (o .answer .quads) (o .lists))
 linesBy S o (suc n) = refusedLine (o .answer)
 
 abbrev pub linesOf : Scene → Outcome → List ℕ

@@ -44,6 +44,12 @@ replayed s row [] S = S
 replayed s row (gone q ∷ xs) S = replayed s row xs (shelf (freed s q (S .quads) (S .words)) (S .quads - 1))
 replayed s row (came k t ∷ xs) S = replayed s row xs (shelf (rows.put (s * S .quads) (row k t) (S .words)) (S .quads + 1))
 
+-- the quads that are left
+abbrev pub left : List Step → ℕ → ℕ
+left [] Q = Q
+left (gone q ∷ xs) Q = left xs (Q - 1)
+left (came k t ∷ xs) Q = left xs (Q + 1)
+
 -- ---- what steps ask for: a place that is there, room, and a key and a type that can be drawn
 abbrev pub Can : (ℕ → ℕ → Type 0) → ℕ → List Step → ℕ → Type 0
 Can P R [] Q = Unit {0}

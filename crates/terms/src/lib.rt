@@ -14,9 +14,12 @@ pub struct Scene {
     pub centre: Triple,
 }
 
-// How many words the four lists of a mesh have.
+// How many words the lists of a mesh have.
 pub struct Lengths {
-    pub vertices: usize,
+    pub positions: usize,
+    pub normals: usize,
+    pub uvs: usize,
+    pub colours: usize,
     pub triangles: usize,
     pub links: usize,
     pub slots: usize,

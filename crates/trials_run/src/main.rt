@@ -3,14 +3,14 @@
 // There are four sets of them, a file each: damaged meshes, which tools/damage_vectors.py writes, logs (log_vectors.py), fresh meshes
 // (mesh_vectors.py) and the Rust's answers (rust_vectors.py). A file is records of words, read by vectors::read_record. One that starts with 0 is a base, any other a trial on the base before it.
 //
-// A base: 0; width, height, length; whether coloured; d; centre (0 to 10); the lengths of eight lists, which are grid, kinds, sets, registry,
-// vertices, triangles, links, slots (11 to 18); then these lists, a word for each byte of the first three, which end within 4,096 words. The last
-// four hold a mesh and spare room, at most 8,192 words each.
+// A base: 0; width, height, length; whether coloured; d; centre (0 to 10); the lengths of eleven lists, which are grid, kinds, sets, registry,
+// positions, normals, uvs, colours, triangles, links, slots (11 to 21); then these lists, a word for each byte of the first three, which end within
+// 4,096 words. The last seven hold a mesh and spare room, at most 8,192 words each; without colour the colours are words that no call may touch.
 //
 // A trial: 1; the call, which is 0 meshing by Naive, 1 by Culling, 2 an update by the opposite side, 3 a check, 4 an update by the side itself; 1 if
-// it goes on from what the trial before left, else it starts from the base; the quads given (0 to 3); how much is lent of each of the eight lists
-// (4 to 11); the numbers of bytes of outer list and log (12, 13); what must be answered, which is number, place, quads, moved, each 0 where the answer
-// has none (14 to 17); the number of words that patch the base before the call (18); then outer list and log, four bytes a word, each from a word's
+// it goes on from what the trial before left, else it starts from the base; the quads given (0 to 3); how much is lent of each of the eleven lists
+// (4 to 14); the numbers of bytes of outer list and log (15, 16); what must be answered, which is number, place, quads, moved, each 0 where the answer
+// has none (17 to 20); the number of words that patch the base before the call (21); then outer list and log, four bytes a word, each from a word's
 // start; these patches; and up to the record's end the patches that make of it what must be there after the call.
 // A patch: a place in the base's record, how many words, and the words. So any word of scene, types, grid and mesh can be another one;
 // the lengths can't.
@@ -40,7 +40,7 @@ ghost use Prim.Native.Nat.{_≤_, _<_};
 ghost use lib.ListN.{length};
 
 // How many words come before the lists, in a base as in a trial.
-const HEAD: usize = 19;
+const HEAD: usize = 22;
 
 // Where the lengths of a base's lists start, and in a trial how much is lent of them.
 const LENGTHS: usize = 11;
@@ -92,9 +92,9 @@ fn bytes_part<'a>(list: &'a [u8], start: usize, n: usize) -> &'a [u8] {
     &list[from..to]
 }
 
-// Where a list of a base starts; the eight are numbered from 0, and 8 is where they end.
+// Where a list of a base starts; the eleven are numbered from 0, and 11 is where they end.
 fn start_of(base: &[u32], list: usize) -> usize
-    requires { ⌜ list ≤ 8 ⌝ }
+    requires { ⌜ list ≤ 11 ⌝ }
 {
     let mut start = HEAD;
     let mut k: usize = 0;
@@ -106,7 +106,7 @@ fn start_of(base: &[u32], list: usize) -> usize
 }
 
 fn list_of<'a>(base: &'a [u32], list: usize) -> &'a [u32]
-    requires { ⌜ list < 8 ⌝ }
+    requires { ⌜ list < 11 ⌝ }
 {
     part(base, start_of(base, list), count(base, LENGTHS + list))
 }
@@ -115,17 +115,17 @@ fn list_of<'a>(base: &'a [u32], list: usize) -> &'a [u32]
 fn log_at(trial: &[u32]) -> usize
     ensures { λ r. ⌜ r < 8589934592 ⌝ }
 {
-    HEAD + words_for(count(trial, 12))
+    HEAD + words_for(count(trial, 15))
 }
 
 fn before_at(trial: &[u32]) -> usize
     ensures { λ r. ⌜ r < 17179869184 ⌝ }
 {
-    log_at(trial) + words_for(count(trial, 13))
+    log_at(trial) + words_for(count(trial, 16))
 }
 
 fn after_at(trial: &[u32]) -> usize {
-    before_at(trial) + count(trial, 18)
+    before_at(trial) + count(trial, 21)
 }
 
 fn triple_at(r: &[u32], at: usize) -> Triple
@@ -188,7 +188,7 @@ fn patch(patches: &[u32], image: &mut [u32]) -> bool {
 
 fn is_lent_whole(trial: &[u32], base: &[u32]) -> bool {
     let mut list: usize = 0;
-    while list < 8 {
+    while list < 11 {
         if word(base, LENGTHS + list) < word(trial, LENT + list) {
             return false;
         }
@@ -203,7 +203,7 @@ fn is_formed(trial: &[u32], base: &[u32]) -> bool {
         & (word(trial, 1) < 5)
         & (word(trial, 2) < 2)
         & (after_at(trial) <= trial.len())
-        & (start_of(base, 8) == base.len())
+        & (start_of(base, 11) == base.len())
         & (start_of(base, 3) <= 4096)
         & is_lent_whole(trial, base)
 }
@@ -218,7 +218,7 @@ fn start(goes_on: bool, base: &[u32], image: &mut [u32]) {
 // Makes what the call starts from.
 fn prepare(trial: &[u32], base: &[u32], image: &mut [u32]) -> bool {
     start(word(trial, 2) == 1, base, image);
-    patch(part(trial, before_at(trial), count(trial, 18)), image)
+    patch(part(trial, before_at(trial), count(trial, 21)), image)
 }
 
 // Makes what must be there after the call.
@@ -228,13 +228,13 @@ fn conclude(trial: &[u32], image: &mut [u32]) -> bool {
 
 // Lays a list of a base into room of its own.
 fn fill(base: &[u32], list: usize, room: &mut [u32])
-    requires { ⌜ list < 8 ⌝ }
+    requires { ⌜ list < 11 ⌝ }
 {
     copy(list_of(base, list), room);
 }
 
 fn is_left(base: &[u32], list: usize, room: &[u32]) -> bool
-    requires { ⌜ list < 8 ⌝ }
+    requires { ⌜ list < 11 ⌝ }
 {
     let words = list_of(base, list);
     holds(part(room, 0, words.len()), words)
@@ -251,20 +251,20 @@ fn low_of(base: &[u32]) -> [u8; 4096]
 
 // The part of a list that is lent.
 fn lent_words<'a>(trial: &[u32], base: &'a [u32], list: usize) -> &'a [u32]
-    requires { ⌜ list < 8 ⌝ }
+    requires { ⌜ list < 11 ⌝ }
 {
     part(base, start_of(base, list), count(trial, LENT + list))
 }
 
 fn lent_bytes<'a>(trial: &[u32], base: &[u32], low: &'a [u8], list: usize) -> &'a [u8]
-    requires { ⌜ list < 8 ⌝ }
+    requires { ⌜ list < 11 ⌝ }
 {
     bytes_part(low, start_of(base, list), count(trial, LENT + list))
 }
 
 // How much is lent of the room for a list.
 fn lent_of(trial: &[u32], list: usize) -> usize
-    requires { ⌜ list < 8 ⌝ }
+    requires { ⌜ list < 11 ⌝ }
     ensures { λ r. ⌜ r ≤ 8192 ⌝ }
 {
     least(count(trial, LENT + list), 8192)
@@ -272,11 +272,11 @@ fn lent_of(trial: &[u32], list: usize) -> usize
 
 // `bytes` are those of the trial, here and below.
 fn outer_of<'a>(trial: &[u32], bytes: &'a [u8]) -> &'a [u8] {
-    bytes_part(bytes, 4 * HEAD, count(trial, 12))
+    bytes_part(bytes, 4 * HEAD, count(trial, 15))
 }
 
 fn log_of<'a>(trial: &[u32], bytes: &'a [u8]) -> &'a [u8] {
-    bytes_part(bytes, 4 * log_at(trial), count(trial, 13))
+    bytes_part(bytes, 4 * log_at(trial), count(trial, 16))
 }
 
 // Does the call that the trial names. `low` has the lowest byte of each word of the image.
@@ -285,7 +285,10 @@ fn answer(
     bytes: &[u8],
     image: &[u32],
     low: &[u8],
-    vertices: &mut [u32],
+    positions: &mut [u32],
+    normals: &mut [u32],
+    uvs: &mut [u32],
+    colours: &mut [u32],
     triangles: &mut [u32],
     links: &mut [u32],
     slots: &mut [u32],
@@ -308,7 +311,10 @@ fn answer(
             covers,
             registry,
             algorithm_of(call == 1),
-            vertices,
+            positions,
+            normals,
+            uvs,
+            colours,
             triangles,
             links,
             slots,
@@ -322,7 +328,10 @@ fn answer(
             kinds,
             covers,
             registry,
-            vertices,
+            positions,
+            normals,
+            uvs,
+            colours,
             triangles,
             links,
             slots,
@@ -336,7 +345,10 @@ fn answer(
         registry,
         tested_of(call == 4),
         log,
-        vertices,
+        positions,
+        normals,
+        uvs,
+        colours,
         triangles,
         links,
         slots,
@@ -345,54 +357,83 @@ fn answer(
 }
 
 fn is_told(told: Told, trial: &[u32]) -> bool {
-    (told.number == word(trial, 14))
-        & (told.place == count(trial, 15))
-        & (told.quads == count(trial, 16))
-        & (told.moved == word(trial, 17) as u64)
+    (told.number == word(trial, 17))
+        & (told.place == count(trial, 18))
+        & (told.quads == count(trial, 19))
+        & (told.moved == word(trial, 20) as u64)
 }
 
 // Whether what must be there after the call is there. The image becomes that.
 fn are_left(
     trial: &[u32],
     image: &mut [u32],
-    vertices: &[u32],
+    positions: &[u32],
+    normals: &[u32],
+    uvs: &[u32],
+    colours: &[u32],
     triangles: &[u32],
     links: &[u32],
     slots: &[u32],
 ) -> bool {
     conclude(trial, image)
-        & is_left(image, 4, vertices)
-        & is_left(image, 5, triangles)
-        & is_left(image, 6, links)
-        & is_left(image, 7, slots)
+        & is_left(image, 4, positions)
+        & is_left(image, 5, normals)
+        & is_left(image, 6, uvs)
+        & is_left(image, 7, colours)
+        & is_left(image, 8, triangles)
+        & is_left(image, 9, links)
+        & is_left(image, 10, slots)
 }
 
 fn is_right_on(trial: &[u32], bytes: &[u8], image: &mut [u32]) -> bool {
     let seen = &image[..];
     let low = low_of(seen);
-    let mut vertices = [0; 8192];
+    let mut positions = [0; 8192];
+    let mut normals = [0; 8192];
+    let mut uvs = [0; 8192];
+    let mut colours = [0; 8192];
     let mut triangles = [0; 8192];
     let mut links = [0; 8192];
     let mut slots = [0; 8192];
-    fill(seen, 4, &mut vertices);
-    fill(seen, 5, &mut triangles);
-    fill(seen, 6, &mut links);
-    fill(seen, 7, &mut slots);
-    let v = lent_of(trial, 4);
-    let t = lent_of(trial, 5);
-    let l = lent_of(trial, 6);
-    let s = lent_of(trial, 7);
+    fill(seen, 4, &mut positions);
+    fill(seen, 5, &mut normals);
+    fill(seen, 6, &mut uvs);
+    fill(seen, 7, &mut colours);
+    fill(seen, 8, &mut triangles);
+    fill(seen, 9, &mut links);
+    fill(seen, 10, &mut slots);
+    let p = lent_of(trial, 4);
+    let n = lent_of(trial, 5);
+    let u = lent_of(trial, 6);
+    let c = lent_of(trial, 7);
+    let t = lent_of(trial, 8);
+    let l = lent_of(trial, 9);
+    let s = lent_of(trial, 10);
     let told = answer(
         trial,
         bytes,
         seen,
         &low,
-        &mut vertices[..v],
+        &mut positions[..p],
+        &mut normals[..n],
+        &mut uvs[..u],
+        &mut colours[..c],
         &mut triangles[..t],
         &mut links[..l],
         &mut slots[..s],
     );
-    is_told(told, trial) & are_left(trial, image, &vertices, &triangles, &links, &slots)
+    is_told(told, trial)
+        & are_left(
+            trial,
+            image,
+            &positions,
+            &normals,
+            &uvs,
+            &colours,
+            &triangles,
+            &links,
+            &slots,
+        )
 }
 
 fn is_right(trial: &[u32], bytes: &[u8], base: &[u32], image: &mut [u32]) -> bool {
@@ -470,8 +511,8 @@ fn replay(path: &[u8], name: &[u8]) {
 }
 
 fn main() {
-    replay(b"damages", b"damages (30 wrong on purpose):");
-    replay(b"logs", b"logs (30 wrong on purpose):");
-    replay(b"meshes", b"meshes (30 wrong on purpose):");
-    replay(b"rust_answers", b"rust answers (30 wrong on purpose):");
+    replay(b"damages", b"damages (36 wrong on purpose):");
+    replay(b"logs", b"logs (36 wrong on purpose):");
+    replay(b"meshes", b"meshes (36 wrong on purpose):");
+    replay(b"rust_answers", b"rust answers (36 wrong on purpose):");
 }

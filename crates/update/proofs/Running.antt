@@ -1,30 +1,34 @@
--- A log on the index and the vertices, entry by entry: the lists stay the layout of the rule's mesh. Assumes nothing.
+-- A log on the index and the attributes, entry by entry: the lists stay the layout of the rule's mesh. Assumes nothing.
 use mathlib.Core.Path.{_≡_, refl, sym, ap, _∙_, subst}
 use mathlib.Core.Bool.{true, not}
 use mathlib.Core.List.{List, []}
 use mathlib.Core.Option.{Option, none, some}
 use Prim.Native.Nat.{ℕ, suc, _+_, _-_, _*_, _/_, _%_, _^_, _≤_, _<_}
+use native.Mathlib.Nat.{mul-le-mul-left}
 use native.Mathlib.Omega.{arith}
 use lib.Dec.{leb}
 use lib.ListN.{length, getD, List·getD-eq-default}
 use borrow.Author.Tests.{eq-eqb, le-leb, lt-leb}
 use Rattle.rules.specs.Lists.{each}
 use Rattle.rules.specs.Cells.{cells, neighbour}
-use Rattle.rules.specs.Mesh.{Quad, NONE, there, laid, slotOf}
+use Rattle.rules.specs.Mesh.{Quad, Attribute, position, Vertices, HasList, of-positions, NONE, there, slotOf, rowOf, attributeLaid}
 use Rattle.rules.specs.Update as rule
 use Rattle.rules.specs.Update.{Tested, Entry, Op, run, moves, highest, ops, needed, work, entryAt, courseFrom}
 use Rattle.rules.specs.Calls.{Scene, world, span, faces}
-use Rattle.rules.proofs.ListLaws.{All, all-kept, length-table}
+use Rattle.rules.proofs.ListLaws.{All, length-table}
 use Rattle.rules.proofs.Neighbours.{beside, opposite-lt}
 use Rattle.rules.proofs.Acting.{acting, Acts, after, acting-same, acting-acts, acting-all}
-use Rattle.rules.proofs.Laying.{Fits}
+use Rattle.rules.proofs.Attributes.{inside-of, each-list, each-again}
+use Rattle.rules.proofs.Laying.{Fits, Sized, length-laid, rows-sized}
 use Rattle.rules.proofs.Mending.{Sound}
 use Rattle.rules.proofs.Courses.{Sane, sane-step, Good, good-ops, highest-needed, fits-new, entry-moves}
 use Rattle.rules.proofs.Demands.{words-sized}
 use Rattle.mesh_metadata.proofs.Meshes as meshes
-use Rattle.steps.specs.Steps.{Step, Deed, stepsIn, Shelf, shelf, replayed, quadBy, opsOf, stepsOf, Can, Able}
+use Rattle.drawing.proofs.Sides.{row-wide}
+use Rattle.drawing.proofs.Lengths.{Alike, each-alike, alike-long}
+use Rattle.steps.specs.Steps.{Step, Deed, stepsIn, Shelf, shelf, quadBy, opsOf, stepsOf, Can, Able}
 use Rattle.steps.proofs.Replaying.{replay-run}
-use Rattle.steps.specs.Rows.{wordsBy, Drawn, Replaying}
+use Rattle.steps.specs.Rows.{wordsBy, runOf, runAll, Drawn, ReplayingAll}
 use Rattle.works.specs.declared.Work.{Work}
 use Rattle.works.specs.Sets.{meant, setIn, packed, keyOr, keysAround, keyMet, deeds, CubesDrawn}
 use Rattle.works.proofs.Works.{all-few, near-key}
@@ -33,7 +37,7 @@ use Rattle.indexing.specs.Index.{Index, indexRun, bookOf, Ground, Ready}
 use Rattle.indexing.specs.Due.{isBare, dueOf, fitsIn, Gridded}
 use Rattle.indexing.proofs.Booking.{slot-none, length-steps, run-booked}
 use Rattle.indexing.proofs.Due.{due-few, due-cubes, due-ops, room-told}
-use Rattle.update.specs.Runs.{Ended, laidOut, meshIn, courseIn, Holds, Logging}
+use Rattle.update.specs.Runs.{Ended, laidOut, meshIn, courseOn, Holds, Logging}
 use Rattle.update.proofs.Drawing.{bare, deeds-able}
 
 -- the index, before an entry
@@ -41,10 +45,10 @@ abbrev pub indexAt : List ℕ → List ℕ → ℕ → ℕ → ℕ → List ℕ 
 indexAt links slots quads moved top steps = record { links = links; slots = slots; quads = quads; moved = moved; top = top; steps = stepsIn 0 steps }
 
 -- entry k is next: the lists hold a mesh, and what is left of the log on it is the whole on what was there
-pub record Running (tested : Tested) (S : Scene) (room : ℕ) (log vs₀ ls₀ : List ℕ) (Q k h : ℕ) (vs ls ss : List ℕ) (q v : ℕ) : Type 0 where
+pub record Running (tested : Tested) (S : Scene) (room : ℕ) (log : List ℕ) (vs₀ : Vertices) (ls₀ : List ℕ) (Q k h : ℕ) (vs : Vertices) (ls ss : List ℕ) (q v : ℕ) : Type 0 where
   pub mesh : List Quad
   pub below : k ≤ length log / 12
-  pub left : courseFrom room (λ j. work tested (world S) (entryAt log j)) k (length log / 12 - k) mesh v h ≡ courseIn tested S room log vs₀ ls₀ Q
+  pub left : courseFrom room (λ j. work tested (world S) (entryAt log j)) k (length log / 12 - k) mesh v h ≡ courseOn tested S room log vs₀ ls₀ Q
   pub holds : Holds S room vs₀ ls₀ mesh h vs ls ss q
   pub moves : v ≤ 60 * k
 
@@ -56,7 +60,7 @@ pub record Found (tested : Tested) (S : Scene) (log ss : List ℕ) (k : ℕ) (e 
   pub keys : ks ≡ keysAround (S .size) (e .cell)
   pub due : d ≡ dueOf ss ks (e .cell) w
 
-module _ (tested : Tested) {S : Scene} {room : ℕ} {log vs₀ ls₀ ss₀ : List ℕ} {Q : ℕ} (g : Logging S room log vs₀ ls₀ ss₀ Q) where
+module _ (tested : Tested) {S : Scene} {room : ℕ} {log : List ℕ} {vs₀ : Vertices} {ls₀ ss₀ : List ℕ} {Q : ℕ} (g : Logging S room log vs₀ ls₀ ss₀ Q) where
   abbrev works : ℕ → rule.Work
   works j = work tested (world S) (entryAt log j)
 
@@ -83,18 +87,30 @@ module _ (tested : Tested) {S : Scene} {room : ℕ} {log vs₀ ls₀ ss₀ : Lis
   abbrev ground : Ground
   ground = record { words = wordsBy (bare S); span = span S; room = room; faces = faces S; old = ls₀; long = g .words; small = grid-small }
 
-  module _ {k h q v : ℕ} {vs ls ss : List ℕ} (r : Running tested S room log vs₀ ls₀ Q k h vs ls ss q v) where
+  module _ {k h q v : ℕ} {vs : Vertices} {ls ss : List ℕ} (r : Running tested S room log vs₀ ls₀ Q k h vs ls ss q v) where
     abbrev m : List Quad
     m = r .mesh
 
     abbrev sane : Sane (faces S) (span S) room m h
     sane = r .holds .sane
 
+    sized : (a : Attribute) (xs : List ℕ) → HasList (S .types .coloured) vs₀ a xs → Sized (4 * a .width) (λ q x. rowOf (S .types .coloured) a x) m
+    sized a xs l = rows-sized (S .types .coloured) a (inside-of (S .types .coloured) vs₀ a xs l) (faces S) m (sane .fits)
+
     length-slots : length ss ≡ faces S
     length-slots = ap length (r .holds .slots) ∙ length-table (slotOf m) (faces S)
 
     pub run-small : q < 2 ^ 32
     run-small = omega (arith, meshes.small (faces S) (span S) m grid-small (sane .fits) (sane .once), r .holds .count)
+
+    -- the attributes' lists are as long as they were
+    pub run-lengths : Alike vs vs₀
+    run-lengths =
+        let b = sane .within in
+        rw (r .holds .vertices)
+        (each-alike (S .types .coloured) vs₀ (attributeLaid (S .types .coloured) h m)
+        (λ a xs l. length-laid (4 * a .width) (λ q x. rowOf (S .types .coloured) a x) h m xs (sized a xs l) (sane .reached)
+        (omega (arith, g .rows a xs l, mul-le-mul-left (4 * a .width) b))))
 
     told : (j : ℕ) → j < faces S → isBare ss j ≡ not (there j m)
     told j l = ap (λ (xs : List ℕ). isBare xs j) (r .holds .slots) ∙ slot-none ground m h sane j l
@@ -108,7 +124,7 @@ module _ (tested : Tested) {S : Scene} {room : ℕ} {log vs₀ ls₀ ss₀ : Lis
         rw (a, le-leb (needed (works k) m) room fit, b)
 
     -- ---- an entry that finds no room
-    pub run-full : k < length log / 12 → room < needed (works k) m → record { full = some k; quads = m; moved = v; highest = h } ≡ courseIn tested S room log vs₀ ls₀ Q
+    pub run-full : k < length log / 12 → room < needed (works k) m → record { full = some k; quads = m; moved = v; highest = h } ≡ courseOn tested S room log vs₀ ls₀ Q
     unfolding courseFrom
     run-full lt over =
         let a : length log / 12 - k ≡ suc (length log / 12 - (k + 1)) = omega arith in
@@ -222,38 +238,42 @@ module _ (tested : Tested) {S : Scene} {room : ℕ} {log vs₀ ls₀ ss₀ : Lis
         pub run-few : 2 * length (done .steps) ≤ length xs
         run-few = let n = ap length steps-are ∙ length-steps ground ds m in omega (arith, n, all-few ks e (packed d))
 
-        replayed-now : Can (Drawn (bare S)) room steps (length m) × (replayed (span S) (wordsBy (bare S)) steps (shelf (laid (span S) (λ q x. x .words) h m vs₀) (length m))
-            ≡ shelf (laid (span S) (λ q x. x .words) (highest h os m) (run os m) vs₀) (length (run os m)))
-        replayed-now =
-            replay-run (span S) (λ x. x .words) (wordsBy (bare S)) (Drawn (bare S)) (λ n t d. words-sized S t (n % 6) (n / 6)) room vs₀ (g .rows) ds m h
-            (all-kept (λ x f i. f .1) m (sane .fits)) able (sane .reached) acts-now fits-deeds
+        -- the steps on an attribute's list
+        replayed-now : (a : Attribute) (xs : List ℕ) → HasList (S .types .coloured) vs₀ a xs → Can (Drawn (bare S)) room steps (length m)
+            × (runOf (bare S) a steps (shelf (attributeLaid (S .types .coloured) h m a xs) (length m)) ≡ shelf (attributeLaid (S .types .coloured) (highest h os m) (run os m) a xs) (length (run os m)))
+        replayed-now a xs l =
+            let has = inside-of (S .types .coloured) vs₀ a xs l in
+            replay-run (4 * a .width) (rowOf (S .types .coloured) a) (wordsBy (bare S)) (Drawn (bare S)) (λ n t d. row-wide S a has t (n % 6) (n / 6)) room xs (g .rows a xs l) ds m h
+            (sized a xs l) able (sane .reached) acts-now fits-deeds
 
-        pub run-replaying : length vs ≡ length vs₀ → Replaying (bare S) (done .steps) (shelf vs q)
-        run-replaying kept =
+        pub run-replaying : ReplayingAll (bare S) (done .steps) vs q
+        run-replaying =
             let c = r .holds .count in
             let l = sane .reached in
             let b = sane .within in
-            let y = g .rows in
             record {
               room = room;
               within = g .within;
-              fits = omega arith;
+              fits = alike-long (S .types .coloured) vs₀ vs room run-lengths (g .rows);
               here = omega arith;
               can = subst (Can (Drawn (bare S)) room (done .steps)) (sym c)
-                  (subst (λ (ys : List Step). Can (Drawn (bare S)) room ys (length m)) (sym steps-are) (replayed-now .0));
+                  (subst (λ (ys : List Step). Can (Drawn (bare S)) room ys (length m)) (sym steps-are) (replayed-now position (vs₀ .positions) of-positions .0));
             }
 
         -- what the entry leaves
-        pub run-on : {vs′ : List ℕ} {c : ℕ} {ls′ ss′ : List ℕ} {q′ v′ h′ : ℕ} {ys : List Step}
+        pub run-on : {vs′ : Vertices} {ls′ ss′ : List ℕ} {q′ v′ h′ : ℕ} {ys : List Step}
             → record { links = ls′; slots = ss′; quads = q′; moved = v′; top = h′; steps = ys } ≡ done
-            → shelf vs′ c ≡ replayed (span S) (wordsBy (bare S)) (done .steps) (shelf vs q)
+            → vs′ ≡ runAll (bare S) (done .steps) q vs
             → Running tested S room log vs₀ ls₀ Q (k + 1) h′ vs′ ls′ ss′ q′ v′
         run-on {vs′} i s =
             let after : List Quad = run (ops (works k)) m in
+            let top = highest h (ops (works k)) m in
+            let tint = S .types .coloured in
             let rows = s
-            ∙ (λ j. replayed (span S) (wordsBy (bare S)) (steps-are j) (shelf (r .holds .vertices j) (r .holds .count j)))
-            ∙ replayed-now .1
-            ∙ ap (λ (x : ℕ × ℕ × List Quad). shelf (laid (span S) (λ q x. x .words) (x .0) (x .2) vs₀) (length (x .2))) same in
+            ∙ (λ j. runAll (bare S) (steps-are j) (r .holds .count j) (r .holds .vertices j))
+            ∙ each-again tint vs₀ (λ a ws. (runOf (bare S) a steps (shelf ws (length m))) .words) (attributeLaid tint h m)
+            ∙ each-list tint vs₀ (λ a ws. (runOf (bare S) a steps (shelf (attributeLaid tint h m a ws) (length m))) .words) (attributeLaid tint top after)
+            (λ a ws l. ap (λ (x : Shelf). x .words) (replayed-now a ws l .1) ∙ ap (λ (x : ℕ × ℕ × List Quad). attributeLaid tint (x .0) (x .2) a ws) same) in
             let few = entry-moves tested (world S) (entryAt log k) m in
             let old = r .moves in
             subst (λ (I : Index). Running tested S room log vs₀ ls₀ Q (k + 1) (I .top) vs′ (I .links) (I .slots) (I .quads) (I .moved)) (sym (i ∙ ran))
@@ -264,14 +284,14 @@ module _ (tested : Tested) {S : Scene} {room : ℕ} {log vs₀ ls₀ ss₀ : Lis
               holds = record {
                 sane = sane-step (faces S) (span S) room (works k) m h sane fits fit;
                 count = refl;
-                vertices = ap (λ (x : Shelf). x .words) rows;
+                vertices = rows;
                 links = refl;
                 slots = refl;
               };
               moves = omega arith;
             })
 
-    pub run-through : length log / 12 ≤ k → record { full = none; quads = m; moved = v; highest = h } ≡ courseIn tested S room log vs₀ ls₀ Q
+    pub run-through : length log / 12 ≤ k → record { full = none; quads = m; moved = v; highest = h } ≡ courseOn tested S room log vs₀ ls₀ Q
     unfolding courseFrom
     run-through over =
         let b = r .below in
@@ -279,9 +299,9 @@ module _ (tested : Tested) {S : Scene} {room : ℕ} {log vs₀ ls₀ ss₀ : Lis
         sym (ap (λ (n : ℕ). courseFrom room works k n m v h) z) ∙ r .left
 
     -- the lists at that point, as the course leaves them
-    pub run-ended : {o : Option ℕ} → record { full = o; quads = m; moved = v; highest = h } ≡ courseIn tested S room log vs₀ ls₀ Q
+    pub run-ended : {o : Option ℕ} → record { full = o; quads = m; moved = v; highest = h } ≡ courseOn tested S room log vs₀ ls₀ Q
         → _≡_ {A = Ended} (record { full = o; quads = q; moved = v; highest = h; vertices = vs; links = ls; slots = ss })
-        (laidOut S vs₀ ls₀ (courseIn tested S room log vs₀ ls₀ Q))
+        (laidOut S vs₀ ls₀ (courseOn tested S room log vs₀ ls₀ Q))
     run-ended {o} e =
         let a = r .holds .count in
         let b = r .holds .vertices in

@@ -25,7 +25,7 @@ use Rattle.mesh_metadata.proofs.Slots.{order}
 use Rattle.mesh_metadata.proofs.Meshes as meshes
 use Rattle.vav.specs.Rows.{put, zeros}
 use Rattle.drawing.proofs.Patterns.{length-patterns}
-use Rattle.update.specs.Runs.{Ended, laidOut, courseIn, Logging, patternsMended}
+use Rattle.update.specs.Runs.{Ended, laidOut, ranBy, Logging, patternsMended}
 
 -- ---- the triangles by their counts
 patterns-are : (i : ℕ) (m : List Quad) → rows (λ q x. pattern q) i m ≡ each (length m) i pattern
@@ -80,16 +80,17 @@ module _ {tested : Tested} {S : Scene} {log : List ℕ} {B : Lists} {Q n R : ℕ
   lent-ends = rw (b .lent) slots-room
 
   abbrev m : List Quad
-  m = decode (span S) Q B
+  m = decode (S .types .coloured) Q B
 
   sane : Sane (faces S) (span S) (room S B) m Q
   sane = lent-sane S B Q (a .size) (a .slots) (a .count) (a .book)
 
-  stands : layout (faces S) (span S) Q m B ≡ B
-  stands = layout-stands (cells (S .size)) (span S) B Q slots-room (book-of-fine (cells (S .size)) B Q (a .book)) (room-for S B Q (sane .within) .links)
+  stands : layout (faces S) (S .types .coloured) Q m B ≡ B
+  stands = layout-stands (cells (S .size)) (S .types .coloured) B Q slots-room (book-of-fine (cells (S .size)) B Q (a .book)) (room-for S B Q (sane .within) .links)
+      (room-for S B Q (sane .within) .vertices)
 
   length-mesh : length m ≡ Q
-  length-mesh = length-decode (cells (S .size)) B Q (span S)
+  length-mesh = length-decode (cells (S .size)) B Q (S .types .coloured)
 
   few-entries : length log / 12 ≤ 16777216
   unfolding BAD-ENTRY badEntry
@@ -126,9 +127,9 @@ module _ {tested : Tested} {S : Scene} {log : List ℕ} {B : Lists} {Q n R : ℕ
   left : Sane (faces S) (span S) (room S B) (c .quads) (c .highest)
   left = ran-sane tested S log B Q (b .accepted)
 
-  module _ {r : Ended} (e : r ≡ laidOut S (B .vertices) (B .links) (courseIn tested S R log (B .vertices) (B .links) Q)) where
+  module _ {r : Ended} (e : r ≡ ranBy tested S R log (B .vertices) (B .links) Q) where
     rule : r ≡ laidOut S (B .vertices) (B .links) c
-    rule = e ∙ ap (λ (x : ℕ). laidOut S (B .vertices) (B .links) (courseIn tested S x log (B .vertices) (B .links) Q)) (b .found)
+    rule = e ∙ ap (λ (x : ℕ). ranBy tested S x log (B .vertices) (B .links) Q) (b .found)
 
     pub mend-ready : (r .quads ≤ r .highest) × (6 * r .highest ≤ length (B .triangles)) × (4 * r .quads ≤ NONE)
     mend-ready =
@@ -144,4 +145,4 @@ module _ {tested : Tested} {S : Scene} {log : List ℕ} {B : Lists} {Q n R : ℕ
         let past = course-past (room S B) (λ k. work tested (world S) (entryAt log k)) 0 (length log / 12) m 0 Q (omega (arith, length-mesh)) in
         let t = patterns-laid (B .triangles) Q (c .highest) m (c .quads) length-mesh (ap (λ (x : Lists). x .triangles) (sym stands)) (left .reached) past in
         let answers : says (length (c .quads)) (c .moved) ≡ courseAnswer c (c .full) = s ∙ ap (courseAnswer c) (sym f ∙ ap (λ (x : Ended). x .full) rule) in
-        rw (k, rule, t, b .lent, b .accepted) (λ i. record { answer = answers i; lists = layout (faces S) (span S) (c .highest) (c .quads) B })
+        rw (k, rule, t, b .lent, b .accepted) (λ i. record { answer = answers i; lists = layout (faces S) (S .types .coloured) (c .highest) (c .quads) B })

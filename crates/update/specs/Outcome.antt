@@ -2,11 +2,10 @@
 use Prim.Native.Nat.{ℕ}
 use mathlib.Core.Path.{_≡_}
 use mathlib.Core.List.{List}
-use Rattle.rules.specs.Types.{floats}
 use Rattle.rules.specs.Mesh.{Lists}
 use Rattle.rules.specs.Update.{Tested}
 use Rattle.rules.specs.Answers.{Verdict, _then_, BAD-SIZE, SHORT-SLOTS, BAD-COUNT}
-use Rattle.rules.specs.Calls.{Scene, Answer, answered, Outcome, typesVerdict, updateMesh}
+use Rattle.rules.specs.Calls.{Scene, Answer, answered, Outcome, room, typesVerdict, updateMesh}
 use Rattle.answers.specs.Verdicts.{numberOf}
 use Rattle.update.specs.declared.Updated.{Updated}
 use Rattle.update.specs.declared.Updated.the-variants.{Done, Refused}
@@ -26,4 +25,4 @@ Updates tested S log B Q r exit = outcomeOf r exit ≡ updateMesh tested S log B
 
 -- 2, 3, 4, 6, 9 and 10: what is asked before the mesh is looked at
 abbrev pub toldVerdict : Scene → Lists → ℕ → Verdict
-toldVerdict S B Q = BAD-SIZE (S .size) then typesVerdict S then SHORT-SLOTS (S .size) B then BAD-COUNT (floats (S .types)) B Q
+toldVerdict S B Q = BAD-SIZE (S .size) then typesVerdict S then SHORT-SLOTS (S .size) B then BAD-COUNT (room S B) Q

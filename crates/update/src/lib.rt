@@ -16,7 +16,7 @@ use lent::links::links_verdict;
 use lent::room_of;
 use lent::size_verdict;
 use lent::triangles::triangles_verdict;
-use steps::replay;
+use steps::replay_steps;
 use terms::Count;
 use terms::Lengths;
 use terms::Scene;
@@ -29,13 +29,13 @@ use works::work_of;
 ghost use mathlib.Core.Path.{_≡_};
 ghost use Prim.Native.Nat.{_*_, _≤_};
 ghost use lib.ListN.{length};
-ghost use Rattle.rules.specs.Mesh.{NONE, Lists};
+ghost use Rattle.rules.specs.Mesh.{verticesOf, NONE, Lists};
 ghost use Rattle.rules.specs.Answers.{BAD-ENTRY};
 ghost use Rattle.answers.specs.Verdicts.{verdictOf};
 ghost use Rattle.terms.specs.Scenes.{sceneOf};
 ghost use Rattle.terms.specs.Modes.{testedBy};
 ghost use Rattle.terms.specs.Loans.{sceneLent, before, after};
-ghost use Rattle.update.specs.Runs.{ranOf, laidOut, courseIn, Logging, patternsMended};
+ghost use Rattle.update.specs.Runs.{ranOf, ranBy, Logging, patternsMended};
 ghost use Rattle.lent.specs.Scenes.{Long};
 ghost use Rattle.update.specs.Outcome.{Updates, toldVerdict};
 
@@ -60,9 +60,12 @@ pub struct Ran {
     pub highest: usize,
 }
 
-// The entries of a log in order, up to the first that finds no room: each on the index, and by its steps on the vertices.
+// The entries of a log in order, up to the first that finds no room: each on the index, and by its steps on the list of each attribute.
 fn run_log(
-    vertices: &mut [u32],
+    positions: &mut [u32],
+    normals: &mut [u32],
+    uvs: &mut [u32],
+    colours: &mut [u32],
     links: &mut [u32],
     slots: &mut [u32],
     kinds: &[u8],
@@ -71,10 +74,11 @@ fn run_log(
     log: &[u8],
     task: Task,
 ) -> Ran
-    requires { ⌜ Logging (sceneOf (task .scene) (now kinds) (now covers) (now cubes)) (task .room) (now log) (now vertices) (now links) (now slots) (task .quads) ⌝ }
-    ensures { λ r. ⌜ ranOf r (now (vertices .exit)) (now (links .exit)) (now (slots .exit))
-        ≡ laidOut (sceneOf (task .scene) (now (kinds .entry)) (now (covers .entry)) (now (cubes .entry))) (now (vertices .entry)) (now (links .entry))
-        (courseIn (testedBy (task .tested)) (sceneOf (task .scene) (now (kinds .entry)) (now (covers .entry)) (now (cubes .entry))) (task .room) (now (log .entry)) (now (vertices .entry)) (now (links .entry)) (task .quads)) ⌝ }
+    requires { ⌜ Logging (sceneOf (task .scene) (now kinds) (now covers) (now cubes)) (task .room) (now log)
+        (verticesOf (now positions) (now normals) (now uvs) (now colours)) (now links) (now slots) (task .quads) ⌝ }
+    ensures { λ r. ⌜ ranOf r (verticesOf (now (positions .exit)) (now (normals .exit)) (now (uvs .exit)) (now (colours .exit))) (now (links .exit)) (now (slots .exit))
+        ≡ ranBy (testedBy (task .tested)) (sceneOf (task .scene) (now (kinds .entry)) (now (covers .entry)) (now (cubes .entry))) (task .room) (now (log .entry))
+        (verticesOf (now (positions .entry)) (now (normals .entry)) (now (uvs .entry)) (now (colours .entry))) (now (links .entry)) (task .quads) ⌝ }
 {
     let scene = task.scene;
     let tested = task.tested;
@@ -114,7 +118,18 @@ fn run_log(
                 steps: 0,
             },
         );
-        replay(vertices, scene, cubes, inverse, &steps, tally.steps, quads);
+        let words = 2 * tally.steps;
+        replay_steps(
+            positions,
+            normals,
+            uvs,
+            colours,
+            scene,
+            cubes,
+            inverse,
+            &steps[..words],
+            quads,
+        );
         quads = tally.quads;
         moved = tally.moved;
         highest = tally.top;
@@ -190,18 +205,24 @@ pub fn update_mesh(
     cubes: &[u32],
     tested: Tested,
     log: &[u8],
-    vertices: &mut [u32],
+    positions: &mut [u32],
+    normals: &mut [u32],
+    uvs: &mut [u32],
+    colours: &mut [u32],
     triangles: &mut [u32],
     links: &mut [u32],
     slots: &mut [u32],
     quads: usize,
 ) -> Updated
     ensures { λ r. ⌜ Updates (testedBy tested) (sceneLent scene kinds covers cubes) (now (log .entry))
-        (before vertices triangles links slots) quads r (after vertices triangles links slots) ⌝ }
+        (before positions normals uvs colours triangles links slots) quads r (after positions normals uvs colours triangles links slots) ⌝ }
 {
     let none = Count { quads: 0, moved: 0 };
     let lengths = Lengths {
-        vertices: vertices.len(),
+        positions: positions.len(),
+        normals: normals.len(),
+        uvs: uvs.len(),
+        colours: colours.len(),
         triangles: triangles.len(),
         links: links.len(),
         slots: slots.len(),
@@ -231,7 +252,19 @@ pub fn update_mesh(
     };
     let six = 6 * cells as usize;
     let faces = &mut slots[..six];
-    let ran = run_log(vertices, links, faces, kinds, covers, cubes, log, task);
+    let ran = run_log(
+        positions,
+        normals,
+        uvs,
+        colours,
+        links,
+        faces,
+        kinds,
+        covers,
+        cubes,
+        log,
+        task,
+    );
     let count = ran.count;
     mend_patterns(triangles, quads, count.quads, ran.highest);
     let end = ran.end;

@@ -1,11 +1,46 @@
-// Rows of a lent list of words, n words a row: one word a quad for links, six for triangles, 32 or 48 for vertices.
+// Rows of a lent list of words, n words a row: one word a quad for links, six for triangles, and for the attributes of its four vertices 8, 12 or 16.
 ghost use mathlib.Core.Path.{_≡_};
 ghost use mathlib.Core.List.{[], _∷_};
 ghost use Prim.Native.Nat.{_+_, _-_, _*_, _≤_, _<_};
 ghost use lib.ListN.{length};
-ghost use Rattle.rules.specs.Lists.{part, row};
+ghost use Rattle.rules.specs.Lists.{part};
 ghost use Rattle.rules.specs.Update.{movedBy};
+ghost use Rattle.vav.specs.Attributes.{attributeOf};
 ghost use Rattle.vav.specs.Rows.{put, zeros, sourceOf, freed};
+
+// An attribute of a vertex, which has a list of its own.
+pub enum Attribute {
+    Position,
+    Normal,
+    Uv,
+    Colour,
+}
+
+impl Attribute {
+    // Where its floats start among a vertex's.
+    pub fn start(self) -> usize
+        ensures { λ r. ⌜ r ≡ (attributeOf self) .start ⌝ }
+    {
+        match self {
+            Attribute::Position => 0,
+            Attribute::Normal => 3,
+            Attribute::Uv => 6,
+            Attribute::Colour => 8,
+        }
+    }
+
+    // How many they are.
+    pub fn width(self) -> usize
+        ensures { λ r. ⌜ r ≡ (attributeOf self) .width ⌝ }
+    {
+        match self {
+            Attribute::Position => 3,
+            Attribute::Normal => 3,
+            Attribute::Uv => 2,
+            Attribute::Colour => 4,
+        }
+    }
+}
 
 // Writes four words. Read before they are written, they go at once.
 pub fn write_four(list: &mut [u32], at: usize, a: u32, b: u32, c: u32, d: u32)
@@ -32,13 +67,22 @@ pub fn extend(list: &mut [u32], row: &[u32], count: usize)
     }
 }
 
-// Copies row `from` of another list over row `to`.
-pub fn select(list: &mut [u32], source: &[u32], n: usize, from: usize, to: usize)
-    requires { ⌜ (n * to + n ≤ length (now list)) × (n * from + n ≤ length (now source)) ⌝ }
-    ensures { λ _. ⌜ now (list .exit) ≡ put (n * to) (row n (now (source .entry)) from) (now (list .entry)) ⌝ }
+// Copies an attribute of vertex `from` of another list, n floats a vertex, over row `to` of the attribute's own.
+pub fn select(
+    list: &mut [u32],
+    source: &[u32],
+    n: usize,
+    attribute: Attribute,
+    from: usize,
+    to: usize,
+)
+    requires { ⌜ ((attributeOf attribute) .width * to + (attributeOf attribute) .width ≤ length (now list))
+        × (n * from + (attributeOf attribute) .start + (attributeOf attribute) .width ≤ length (now source)) ⌝ }
+    ensures { λ _. ⌜ now (list .exit) ≡ put ((attributeOf attribute) .width * to)
+        (part (n * from + (attributeOf attribute) .start) ((attributeOf attribute) .width) (now (source .entry))) (now (list .entry)) ⌝ }
 {
-    let start = n * from;
-    let end = start + n;
+    let start = n * from + attribute.start();
+    let end = start + attribute.width();
     extend(list, &source[start..end], to);
 }
 

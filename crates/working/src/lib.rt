@@ -118,15 +118,18 @@ pub fn work_lists(
     kinds: &[u8],
     covers: &[u8],
     cubes: &[u32],
-    vertices: &mut [u32],
+    positions: &mut [u32],
+    normals: &mut [u32],
+    uvs: &mut [u32],
+    colours: &mut [u32],
     triangles: &mut [u32],
     links: &mut [u32],
     slots: &mut [u32],
 ) -> Told
     requires { ⌜ Good (now file) ⌝ }
-    ensures { λ r. ⌜ outcome (toldOf r) (after vertices triangles links slots)
+    ensures { λ r. ⌜ outcome (toldOf r) (after positions normals uvs colours triangles links slots)
         ≡ workedOn (now (file .entry)) (sceneWith (now (file .entry)) (now (kinds .entry)) (now (covers .entry)) (now (cubes .entry)))
-        (now (outer .entry)) (before vertices triangles links slots) ⌝ }
+        (now (outer .entry)) (before positions normals uvs colours triangles links slots) ⌝ }
 {
     let scene = scene_in(file);
     let algorithm = algorithm_of(read_work(file).culling);
@@ -138,7 +141,10 @@ pub fn work_lists(
         covers,
         cubes,
         algorithm,
-        vertices,
+        positions,
+        normals,
+        uvs,
+        colours,
         triangles,
         links,
         slots,
@@ -153,7 +159,10 @@ pub fn work_lists(
         cubes,
         Tested::Opposite,
         log_of(file),
-        vertices,
+        positions,
+        normals,
+        uvs,
+        colours,
         triangles,
         links,
         slots,

@@ -6,7 +6,7 @@ use plain::{Buffers, Cube, Held, Refusal, Sizes, Tested, Types};
 /// The level of the C interface that this stands for.
 #[no_mangle]
 pub extern "C" fn meshem_abi() -> u32 {
-    2
+    3
 }
 
 unsafe fn lent<'a, T>(data: *const T, len: usize) -> &'a [T] {
@@ -65,7 +65,9 @@ pub unsafe extern "C" fn meshem_mesh_grid(
     coloured: u32,
     dx: u32, dy: u32, dz: u32, cx: u32, cy: u32, cz: u32,
     algorithm: u32,
-    vertices: *mut u32, vertices_len: usize, triangles: *mut u32, triangles_len: usize,
+    positions: *mut u32, positions_len: usize, normals: *mut u32, normals_len: usize,
+    uvs: *mut u32, uvs_len: usize, colours: *mut u32, colours_len: usize,
+    triangles: *mut u32, triangles_len: usize,
     links: *mut u32, links_len: usize, slots: *mut u32, slots_len: usize,
     place: *mut u64, quads: *mut u64,
 ) -> u32 {
@@ -78,7 +80,10 @@ pub unsafe extern "C" fn meshem_mesh_grid(
         centre: [cx, cy, cz],
     };
     let mut buffers = Buffers {
-        vertices: lent_mut(vertices, vertices_len),
+        positions: lent_mut(positions, positions_len),
+        normals: lent_mut(normals, normals_len),
+        uvs: lent_mut(uvs, uvs_len),
+        colours: lent_mut(colours, colours_len),
         triangles: lent_mut(triangles, triangles_len),
         links: lent_mut(links, links_len),
         slots: lent_mut(slots, slots_len),
@@ -98,7 +103,9 @@ pub unsafe extern "C" fn meshem_mesh_grid(
 #[no_mangle]
 #[rustfmt::skip]
 pub unsafe extern "C" fn meshem_update_mesh(
-    vertices: *mut u32, vertices_len: usize, triangles: *mut u32, triangles_len: usize,
+    positions: *mut u32, positions_len: usize, normals: *mut u32, normals_len: usize,
+    uvs: *mut u32, uvs_len: usize, colours: *mut u32, colours_len: usize,
+    triangles: *mut u32, triangles_len: usize,
     links: *mut u32, links_len: usize, slots: *mut u32, slots_len: usize,
     count: u64,
     width: u32, height: u32, length: u32,
@@ -118,7 +125,10 @@ pub unsafe extern "C" fn meshem_update_mesh(
         centre: [cx, cy, cz],
     };
     let mut buffers = Buffers {
-        vertices: lent_mut(vertices, vertices_len),
+        positions: lent_mut(positions, positions_len),
+        normals: lent_mut(normals, normals_len),
+        uvs: lent_mut(uvs, uvs_len),
+        colours: lent_mut(colours, colours_len),
         triangles: lent_mut(triangles, triangles_len),
         links: lent_mut(links, links_len),
         slots: lent_mut(slots, slots_len),
@@ -144,7 +154,9 @@ pub unsafe extern "C" fn meshem_check_mesh(
     kinds: *const u8, kinds_len: usize, covers: *const u8, covers_len: usize,
     cubes: *const u32, cubes_len: usize, coloured: u32,
     dx: u32, dy: u32, dz: u32, cx: u32, cy: u32, cz: u32,
-    vertices: *const u32, vertices_len: usize, triangles: *const u32, triangles_len: usize,
+    positions: *const u32, positions_len: usize, normals: *const u32, normals_len: usize,
+    uvs: *const u32, uvs_len: usize, colours: *const u32, colours_len: usize,
+    triangles: *const u32, triangles_len: usize,
     links: *const u32, links_len: usize, slots: *const u32, slots_len: usize,
     count: u64,
     place: *mut u64,
@@ -158,7 +170,10 @@ pub unsafe extern "C" fn meshem_check_mesh(
         centre: [cx, cy, cz],
     };
     let mesh = Held {
-        vertices: lent(vertices, vertices_len),
+        positions: lent(positions, positions_len),
+        normals: lent(normals, normals_len),
+        uvs: lent(uvs, uvs_len),
+        colours: lent(colours, colours_len),
         triangles: lent(triangles, triangles_len),
         links: lent(links, links_len),
         slots: lent(slots, slots_len),

@@ -1,6 +1,6 @@
 //! `update_mesh` once more, written for speed: what the library's time is held against. It answers as the reading in `update.rs` does, word for word.
 //!
-//! What is lent is tested in one pass a list. Then every entry is done on links, slots and vertices at once; what it changes is found before anything
+//! What is lent is tested in one pass a list. Then every entry is done on links, slots and attributes at once; what it changes is found before anything
 //! is. Triangle words and freed places depend on the counts alone, and are written last.
 
 use crate::mesh::pattern;
@@ -109,9 +109,6 @@ impl Inverse {
     }
 }
 
-/// Which of a vertex's first four words a quad moves.
-const MOVED: [u32; 4] = [u32::MAX, u32::MAX, u32::MAX, 0];
-
 /// What a log is done by: the grid, and the types by code, nothing for a code that is no type's.
 struct Rules<'a> {
     sizes: Sizes,
@@ -122,9 +119,7 @@ struct Rules<'a> {
     is_cube: [bool; 256],
     covers: [u8; 256],
     cubes: &'a [u32],
-    d: [f32; 4],
-    /// MOVED, which the compiler can't see: so it works the four out alike, and at once.
-    moved: [u32; 4],
+    d: [f32; 3],
     tested: Tested,
     room: usize,
 }
@@ -141,9 +136,8 @@ impl<'a> Rules<'a> {
             _ => opposite(face).wrapping_sub(steps[face / 2]),
         });
         let (width, length) = (Inverse::of(sizes.width), Inverse::of(sizes.length));
-        let [x, y, z] = types.d.map(f32::from_bits);
-        let (d, moved) = ([x, y, z, 0.0], std::hint::black_box(MOVED));
-        Rules { sizes, width, length, facing, is_cube, covers, cubes: types.cubes, d, moved, tested, room }
+        let d = types.d.map(f32::from_bits);
+        Rules { sizes, width, length, facing, is_cube, covers, cubes: types.cubes, d, tested, room }
     }
 
     /// x, y, z of a cell, without a division; the fourth is 0.
@@ -179,18 +173,31 @@ struct Due {
     hidden: u8,
 }
 
-/// Copies a vertex, its position moved.
+/// The words of an attribute of a quad, from a cube's face: of its vertices 0, 1, 3, 2, in each from the same float on.
 #[inline(always)]
-fn write_vertex<const FLOATS: usize>(out: &mut [u32], vertex: &[u32], offset: [f32; 4], moved: [u32; 4]) {
-    let sum = |word: usize| (f32::from_bits(vertex[word]) + offset[word]).to_bits();
-    let head: [u32; 4] = std::array::from_fn(|word| sum(word) & moved[word] | vertex[word] & !moved[word]);
-    out[..4].copy_from_slice(&head);
-    out[4..FLOATS].copy_from_slice(&vertex[4..FLOATS]);
+fn attribute<const FLOATS: usize, const WORDS: usize>(face: &[u32], from: usize) -> [u32; WORDS] {
+    let floats = WORDS / 4;
+    std::array::from_fn(|word| face[[0, 1, 3, 2][word / floats] * FLOATS + from + word % floats])
 }
 
-/// A mesh that is mended, its vertices of so many floats.
+/// Lays the words of a quad into a list.
+#[inline(always)]
+fn put<const WORDS: usize>(list: &mut [u32], quad: usize, words: [u32; WORDS]) {
+    list[quad * WORDS..][..WORDS].copy_from_slice(&words);
+}
+
+/// Copies the words of a quad to an earlier place.
+#[inline(always)]
+fn bring<const WORDS: usize>(list: &mut [u32], from: usize, to: usize) {
+    list.copy_within(from * WORDS..from * WORDS + WORDS, to * WORDS);
+}
+
+/// A mesh that is mended, its cubes' vertices of so many floats.
 struct Mesh<'a, const FLOATS: usize> {
-    vertices: &'a mut [u32],
+    positions: &'a mut [u32],
+    normals: &'a mut [u32],
+    uvs: &'a mut [u32],
+    colours: &'a mut [u32],
     links: &'a mut [u32],
     slots: &'a mut [u32],
     quads: usize,
@@ -199,7 +206,10 @@ struct Mesh<'a, const FLOATS: usize> {
 
 fn mend<const FLOATS: usize>(buffers: &mut Buffers, before: usize, log: &[u8], rules: &Rules) -> Updated {
     let mut mesh = Mesh::<FLOATS> {
-        vertices: buffers.vertices,
+        positions: buffers.positions,
+        normals: buffers.normals,
+        uvs: buffers.uvs,
+        colours: buffers.colours,
         links: buffers.links,
         slots: &mut buffers.slots[..FACES * rules.sizes.cells()],
         quads: before,
@@ -215,8 +225,10 @@ fn mend<const FLOATS: usize>(buffers: &mut Buffers, before: usize, log: &[u8], r
         highest = highest.max(top);
     }
     let Mesh { quads, moved, .. } = mesh;
-    let words = 4 * FLOATS;
-    buffers.vertices[words * quads..words * highest].fill(0);
+    for (attribute, list) in buffers.attributes(FLOATS == floats(true)) {
+        let words = 4 * attribute.len();
+        list[words * quads..words * highest].fill(0);
+    }
     buffers.links[quads..highest].fill(0);
     buffers.triangles[6 * quads..6 * highest].fill(0);
     for quad in before..quads {
@@ -226,7 +238,7 @@ fn mend<const FLOATS: usize>(buffers: &mut Buffers, before: usize, log: &[u8], r
 }
 
 impl<const FLOATS: usize> Mesh<'_, FLOATS> {
-    const WORDS: usize = 4 * FLOATS;
+    const COLOURED: bool = FLOATS == floats(true);
 
     /// Does an entry, and tells the highest number of quads on the way; nothing, if it finds no room.
     #[inline(always)]
@@ -275,17 +287,20 @@ impl<const FLOATS: usize> Mesh<'_, FLOATS> {
         Some(top)
     }
 
-    /// Draws the quad of a face after the last one: its vertices in the order 0, 1, 3, 2, their positions moved to the cell.
+    /// Draws the quad of a face after the last one, its positions moved to the cell.
     #[inline(always)]
     fn draw(&mut self, key: usize, face: usize, at: [i32; 4], voxel: u8, rules: &Rules) {
         let quad = self.quads;
-        let offset: [f32; 4] = std::array::from_fn(|axis| at[axis] as f32 * rules.d[axis]);
-        let cube = &rules.cubes[(FACES * voxel as usize + face) * Self::WORDS..][..Self::WORDS];
-        let out = &mut self.vertices[quad * Self::WORDS..][..Self::WORDS];
-        write_vertex::<FLOATS>(out, cube, offset, rules.moved);
-        write_vertex::<FLOATS>(&mut out[FLOATS..], &cube[FLOATS..], offset, rules.moved);
-        write_vertex::<FLOATS>(&mut out[2 * FLOATS..], &cube[3 * FLOATS..], offset, rules.moved);
-        write_vertex::<FLOATS>(&mut out[3 * FLOATS..], &cube[2 * FLOATS..], offset, rules.moved);
+        let offset: [f32; 3] = std::array::from_fn(|axis| at[axis] as f32 * rules.d[axis]);
+        let cube = &rules.cubes[(FACES * voxel as usize + face) * 4 * FLOATS..][..4 * FLOATS];
+        let positions = attribute::<FLOATS, 12>(cube, 0);
+        let moved = std::array::from_fn(|word| (f32::from_bits(positions[word]) + offset[word % 3]).to_bits());
+        put::<12>(self.positions, quad, moved);
+        put::<12>(self.normals, quad, attribute::<FLOATS, 12>(cube, 3));
+        put::<8>(self.uvs, quad, attribute::<FLOATS, 8>(cube, 6));
+        if Self::COLOURED {
+            put::<16>(self.colours, quad, attribute::<FLOATS, 16>(cube, 8));
+        }
         self.links[quad] = link(key / FACES, face);
         self.slots[key] = 4 * quad as u32;
         self.quads = quad + 1;
@@ -307,11 +322,15 @@ impl<const FLOATS: usize> Mesh<'_, FLOATS> {
         }
     }
 
-    /// A quad brings its vertices and link, and its slot names the new place.
+    /// A quad brings its attributes and link, and its slot names the new place.
     #[inline(always)]
     fn bring(&mut self, from: usize, to: usize) {
-        let (low, high) = self.vertices.split_at_mut(from * Self::WORDS);
-        low[to * Self::WORDS..][..Self::WORDS].copy_from_slice(&high[..Self::WORDS]);
+        bring::<12>(self.positions, from, to);
+        bring::<12>(self.normals, from, to);
+        bring::<8>(self.uvs, from, to);
+        if Self::COLOURED {
+            bring::<16>(self.colours, from, to);
+        }
         let link = self.links[from];
         self.links[to] = link;
         self.slots[key_of(link)] = 4 * to as u32;

@@ -1,5 +1,6 @@
-//! Document 01's four calls, with document 02's second mode of the update, in plain safe Rust, written from their text alone. It has no proof: it is the second reading that the
-//! differential holds refusals, `moved` and zeroed places to, where the Rust says nothing. `fast` has the update once more, written for speed.
+//! Document 01's four calls, with document 02's second mode of the update and its attributes apart, in plain safe Rust, written from their text alone.
+//! It has no proof: it is the second reading that the differential holds refusals, `moved` and zeroed places to, where the Rust says nothing.
+//! `fast` has the update once more, written for speed.
 #![forbid(unsafe_code)]
 
 mod check;

@@ -1,10 +1,14 @@
 //! A mesh in its buffers, and `mesh_grid`.
 
 use crate::*;
+use std::ops::Range;
 
 /// The lent room of a mesh.
 pub struct Buffers<'a> {
-    pub vertices: &'a mut [u32],
+    pub positions: &'a mut [u32],
+    pub normals: &'a mut [u32],
+    pub uvs: &'a mut [u32],
+    pub colours: &'a mut [u32],
     pub triangles: &'a mut [u32],
     pub links: &'a mut [u32],
     pub slots: &'a mut [u32],
@@ -13,15 +17,44 @@ pub struct Buffers<'a> {
 /// A mesh that is only read.
 #[derive(Clone, Copy)]
 pub struct Held<'a> {
-    pub vertices: &'a [u32],
+    pub positions: &'a [u32],
+    pub normals: &'a [u32],
+    pub uvs: &'a [u32],
+    pub colours: &'a [u32],
     pub triangles: &'a [u32],
     pub links: &'a [u32],
     pub slots: &'a [u32],
 }
 
+/// Which floats of a cube's vertex are its position, its normal, its uv and its colour.
+const ATTRIBUTES: [Range<usize>; 4] = [0..3, 3..6, 6..8, 8..12];
+
+/// The attributes that a vertex has.
+const fn attributes(coloured: bool) -> usize {
+    if coloured {
+        4
+    } else {
+        3
+    }
+}
+
 impl Buffers<'_> {
     pub(crate) fn held(&self) -> Held<'_> {
-        Held { vertices: self.vertices, triangles: self.triangles, links: self.links, slots: self.slots }
+        Held {
+            positions: self.positions,
+            normals: self.normals,
+            uvs: self.uvs,
+            colours: self.colours,
+            triangles: self.triangles,
+            links: self.links,
+            slots: self.slots,
+        }
+    }
+
+    /// The list of each attribute, with its floats of a cube's vertex.
+    pub(crate) fn attributes(&mut self, coloured: bool) -> impl Iterator<Item = (Range<usize>, &mut [u32])> {
+        let lists = [&mut *self.positions, &mut *self.normals, &mut *self.uvs, &mut *self.colours];
+        ATTRIBUTES.into_iter().zip(lists).take(attributes(coloured))
     }
 }
 
@@ -31,9 +64,16 @@ pub(crate) fn pattern(quad: usize) -> [u32; 6] {
 }
 
 impl Held<'_> {
-    /// Room in quads.
+    /// The list of each attribute, with its floats of a cube's vertex.
+    pub(crate) fn attributes(&self, coloured: bool) -> impl Iterator<Item = (Range<usize>, &[u32])> {
+        let lists = [self.positions, self.normals, self.uvs, self.colours];
+        ATTRIBUTES.into_iter().zip(lists).take(attributes(coloured))
+    }
+
+    /// Room in quads: the least over all lists, the colour list counted only with colour.
     pub(crate) fn room(&self, coloured: bool) -> usize {
-        (self.vertices.len() / (4 * floats(coloured))).min(self.triangles.len() / 6).min(self.links.len())
+        let quads = self.attributes(coloured).map(|(floats, list)| list.len() / (4 * floats.len()));
+        quads.fold(self.links.len().min(self.triangles.len() / 6), usize::min)
     }
 
     /// SHORT_ROOM, BAD_COUNT, BAD_LINKS, BAD_TRIANGLES.
@@ -58,15 +98,24 @@ pub(crate) fn linked(link: u32) -> (usize, usize) {
     ((link & OFFSET_MASK) as usize, 5 - (link >> 29) as usize)
 }
 
-/// The words of one quad: the cube's 4f, 4f+1, 4f+3, 4f+2, each position plus (coordinate as f32 · d).
-pub(crate) fn write_quad(out: &mut [u32], cell: usize, face: usize, voxel: u8, sizes: Sizes, types: &Types) {
-    let words = floats(types.coloured);
+/// The words of an attribute of one quad: the cube's 4f, 4f+1, 4f+3, 4f+2, each position plus (coordinate as f32 · d).
+pub(crate) fn write_quad(
+    out: &mut [u32],
+    attribute: Range<usize>,
+    cell: usize,
+    face: usize,
+    voxel: u8,
+    sizes: Sizes,
+    types: &Types,
+) {
     let at = sizes.coordinates(cell);
-    for (vertex, corner) in out.chunks_exact_mut(words).zip([0, 1, 3, 2]) {
-        vertex.copy_from_slice(&types.cube(voxel)[(4 * face + corner) * words..][..words]);
-        for axis in 0..3 {
-            let offset = at[axis] as f32 * f32::from_bits(types.d[axis]);
-            vertex[axis] = (f32::from_bits(vertex[axis]) + offset).to_bits();
+    for (vertex, corner) in out.chunks_exact_mut(attribute.len()).zip([0, 1, 3, 2]) {
+        vertex.copy_from_slice(&types.vertex(voxel, 4 * face + corner)[attribute.clone()]);
+        if attribute == ATTRIBUTES[0] {
+            for axis in 0..3 {
+                let offset = at[axis] as f32 * f32::from_bits(types.d[axis]);
+                vertex[axis] = (f32::from_bits(vertex[axis]) + offset).to_bits();
+            }
         }
     }
 }
@@ -74,8 +123,10 @@ pub(crate) fn write_quad(out: &mut [u32], cell: usize, face: usize, voxel: u8, s
 impl Buffers<'_> {
     /// Quad and slot as a fresh mesh writes them.
     pub(crate) fn write(&mut self, quad: usize, cell: usize, face: usize, voxel: u8, sizes: Sizes, types: &Types) {
-        let words = 4 * floats(types.coloured);
-        write_quad(&mut self.vertices[quad * words..][..words], cell, face, voxel, sizes, types);
+        for (attribute, list) in self.attributes(types.coloured) {
+            let words = 4 * attribute.len();
+            write_quad(&mut list[quad * words..][..words], attribute, cell, face, voxel, sizes, types);
+        }
         self.triangles[6 * quad..][..6].copy_from_slice(&pattern(quad));
         self.links[quad] = link(cell, face);
         self.slots[6 * cell + face] = 4 * quad as u32;

@@ -74,15 +74,14 @@ impl<'a> Types<'a> {
         covers(self.covers[voxel as usize], face)
     }
 
-    /// The 24 vertices of a type.
-    pub(crate) fn cube(&self, voxel: u8) -> &'a [u32] {
-        let words = 24 * floats(self.coloured);
-        &self.cubes[voxel as usize * words..][..words]
+    /// One of the 24 vertices of a type.
+    pub(crate) fn vertex(&self, voxel: u8, vertex: usize) -> &'a [u32] {
+        let words = floats(self.coloured);
+        &self.cubes[(24 * voxel as usize + vertex) * words..][..words]
     }
 
     fn classes_right(&self, voxel: u8) -> bool {
-        let cube = self.cube(voxel);
-        let position = |vertex: usize| &cube[vertex * floats(self.coloured)..][..3];
+        let position = |vertex: usize| &self.vertex(voxel, vertex)[..3];
         let triangle = |face: usize, corners: [usize; 3]| {
             let [a, b, c] = corners.map(|corner| position(4 * face + corner));
             self.class(a, b, c) == Some(face)

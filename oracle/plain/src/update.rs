@@ -203,10 +203,12 @@ impl Update<'_, '_> {
         self.quads = last;
     }
 
-    /// A quad brings its vertices and link, and its slot names the new place.
+    /// A quad brings its attributes and link, and its slot names the new place.
     fn bring(&mut self, from: usize, to: usize) {
-        let words = 4 * floats(self.types.coloured);
-        self.buffers.vertices.copy_within(from * words..(from + 1) * words, to * words);
+        for (attribute, list) in self.buffers.attributes(self.types.coloured) {
+            let words = 4 * attribute.len();
+            list.copy_within(from * words..(from + 1) * words, to * words);
+        }
         self.buffers.links[to] = self.buffers.links[from];
         let (cell, face) = linked(self.buffers.links[to]);
         self.buffers.slots[6 * cell + face] = 4 * to as u32;
@@ -215,8 +217,10 @@ impl Update<'_, '_> {
     }
 
     fn clear(&mut self, quad: usize) {
-        let words = 4 * floats(self.types.coloured);
-        self.buffers.vertices[quad * words..][..words].fill(0);
+        for (attribute, list) in self.buffers.attributes(self.types.coloured) {
+            let words = 4 * attribute.len();
+            list[quad * words..][..words].fill(0);
+        }
         self.buffers.triangles[6 * quad..][..6].fill(0);
         self.buffers.links[quad] = 0;
     }

@@ -7,7 +7,7 @@
 //!
 //! The file is its head, then records one after another:
 //!
-//!     head      0x5348534D, version 1, number of records
+//!     head      0x5348534D, version 2, number of records
 //!     record    tag, number of words that follow, those words
 //!
 //! Tag 1, a cube: `generate_voxel_mesh` and its answer.
@@ -27,7 +27,8 @@
 //!
 //! A mesh:
 //!
-//!     quads Q, links (Q), triangle words (6·Q), vertices (4·Q vertices), slots (6·c; 4,294,967,295 for none)
+//!     quads Q, links (Q), triangle words (6·Q), positions (12·Q), normals (12·Q), uvs (8·Q), colours (16·Q if coloured, else none),
+//!     slots (6·c; 4,294,967,295 for none)
 //!
 //! Everything is accepted by document 01. `moved` is not in it: the Rust doesn't count.
 
@@ -35,7 +36,7 @@ use oracle::cases::{cube_of, entry, paper_types, Candour, Case, Random};
 use oracle::rust::{cube, mesh, CubeParameters, Registry, Types, Words, ENTRY};
 
 const MAGIC: u32 = u32::from_le_bytes(*b"MSHS");
-const VERSION: u32 = 1;
+const VERSION: u32 = 2;
 const SEED: u64 = 2_026;
 /// The most words of the file: 400,000 bytes.
 const MOST_WORDS: usize = 100_000;
@@ -129,7 +130,8 @@ fn packed(bytes: &[u8]) -> impl Iterator<Item = u32> + '_ {
 }
 
 fn mesh_words(mesh: &Words) -> Vec<u32> {
-    [&[mesh.links.len() as u32][..], &mesh.links, &mesh.triangles, &mesh.vertices, &mesh.slots].concat()
+    let Words { positions, normals, uvs, colours, triangles, links, slots } = mesh;
+    [&[links.len() as u32][..], links, triangles, positions, normals, uvs, colours, slots].concat()
 }
 
 /// Cubes with something to say, then any.

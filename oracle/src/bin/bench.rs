@@ -11,7 +11,8 @@ use oracle::calls::Calls;
 use oracle::cases::{cube_of, Case, Random};
 use oracle::grounds::{edits, half_full, terrain, ROCK};
 use oracle::library::Library;
-use oracle::rust::{self, cube, floats, Registry, Words, ENTRY};
+use oracle::room::laid;
+use oracle::rust::{self, cube, Registry, Words, ENTRY};
 use oracle::timing::{median, time, timed};
 use plain::Tested;
 use std::hint::black_box;
@@ -192,7 +193,7 @@ impl Bench {
         meshed.update(&registry, &case.log);
         let expected = meshed.words();
         let most = fresh.links.len() + 6 * case.log.len() / ENTRY;
-        let start = with_room(&fresh, most, case);
+        let start = laid(&fresh, room_for(most, case));
         let mut call = Case { grid: vec![], log: vec![0; step], ..case.clone() };
         let mut mend = |room: &mut Words| {
             let mut quads = fresh.links.len() as u64;
@@ -206,13 +207,13 @@ impl Bench {
         };
         let mut room = start.clone();
         let quads = mend(&mut room);
-        let length = expected.links.len();
-        assert_eq!(quads, length as u64, "{name}");
-        assert!(room.links[..length] == expected.links && room.slots == expected.slots, "{name}: the two indexes differ");
-        assert!(room.vertices[..expected.vertices.len()] == expected.vertices, "{name}: the two meshes differ");
-        assert!(room.triangles[..expected.triangles.len()] == expected.triangles, "{name}: the two meshes' triangles differ");
+        assert_eq!(quads, expected.links.len() as u64, "{name}");
+        for ((word, list), (_, due)) in room.lists().into_iter().zip(expected.lists()) {
+            assert!(list[..due.len()] == *due, "{name}: a {word} differs");
+        }
 
-        let tested = Words { vertices: vec![], ..fresh.clone() };
+        let Words { triangles, links, slots, .. } = fresh.clone();
+        let tested = Words { triangles, links, slots, ..Words::default() };
         let ([rust, library, plain], rounds) = self.interleaved([
             &mut || {
                 let mut meshed = rust_mesh(case, &registry);
@@ -261,35 +262,27 @@ fn rust_mesh(case: &Case, registry: &Registry) -> rust::Meshed {
 }
 
 fn room_for(quads: usize, case: &Case) -> Words {
+    let coloured = case.types.coloured as usize;
     Words {
-        vertices: vec![0; 4 * floats(case.types.coloured) * quads],
+        positions: vec![0; 12 * quads],
+        normals: vec![0; 12 * quads],
+        uvs: vec![0; 8 * quads],
+        colours: vec![0; 16 * quads * coloured],
         triangles: vec![0; 6 * quads],
         links: vec![0; quads],
         slots: vec![0; 6 * case.grid.len()],
     }
 }
 
-/// A mesh in lists with room for more.
-fn with_room(mesh: &Words, quads: usize, case: &Case) -> Words {
-    let mut room = room_for(quads, case);
-    room.vertices[..mesh.vertices.len()].copy_from_slice(&mesh.vertices);
-    room.triangles[..mesh.triangles.len()].copy_from_slice(&mesh.triangles);
-    room.links[..mesh.links.len()].copy_from_slice(&mesh.links);
-    room.slots.copy_from_slice(&mesh.slots);
-    room
-}
-
 fn bytes_of(mesh: &Words) -> usize {
-    4 * [&mesh.vertices, &mesh.triangles, &mesh.links, &mesh.slots].map(Vec::len).iter().sum::<usize>()
+    4 * mesh.lists().iter().map(|(_, list)| list.len()).sum::<usize>()
 }
 
 fn set(lists: &mut Words) {
-    for list in [&mut lists.vertices, &mut lists.triangles, &mut lists.links, &mut lists.slots] {
-        black_box(list).fill(0);
-    }
+    lists.lists_mut().into_iter().for_each(|list| black_box(list).fill(0));
 }
 
 fn sum(mesh: &Words) -> u32 {
-    let total = |list: &Vec<u32>| black_box(list).iter().fold(0, |sum: u32, &word| sum.wrapping_add(word));
-    [&mesh.vertices, &mesh.triangles, &mesh.links, &mesh.slots].map(total).iter().fold(0, |sum, &part| sum.wrapping_add(part))
+    let total = |list: &[u32]| black_box(list).iter().fold(0, |sum: u32, &word| sum.wrapping_add(word));
+    mesh.lists().into_iter().fold(0, |sum, (_, list)| sum.wrapping_add(total(list)))
 }

@@ -5,13 +5,15 @@
 //! How a row is timed stands in `src/rows.rs`; both libraries' code lies alike at each of the four places. A row that is slower than BOUND is timed
 //! twice more, and the median of its three ratios counts. SECONDS (110) is shared out among the rows.
 //!
+//! The former library may be of level 2: its vertices are then joined and parted off the clock, and compared attribute by attribute.
+//!
 //! The exit status is 0 if no row is slower than BOUND, else 1. The program panics if the two differ in a word.
 
 use oracle::cases::{Case, Random};
 use oracle::grounds::{cubes_of, edits, half_full, noise, terrain};
-use oracle::library::former::{Former0, PLACES};
+use oracle::library::former;
 use oracle::library::placed::Now0;
-use oracle::rows::{mesh_of, Row};
+use oracle::rows::{mesh_of, Places, Row};
 use oracle::timing::time;
 use plain::Tested;
 use std::process::ExitCode;
@@ -24,11 +26,14 @@ const WALK: usize = 200;
 
 fn main() -> ExitCode {
     Now0::assert_level();
-    Former0::assert_level();
     let mut arguments = std::env::args().skip(1).map(|argument| argument.parse().expect("a number"));
     let (seconds, seed) = (arguments.next().unwrap_or(110), arguments.next().unwrap_or(1));
-    let mut bench = Bench { share: Duration::from_secs(seconds) / ROWS, rows: 0, slower: vec![] };
-    println!("Seed {seed}. A ratio is now / former in a round, by medians.\n");
+    let share = Duration::from_secs(seconds) / ROWS;
+    let mut bench = Bench { places: former::places(), share, rows: 0, slower: vec![] };
+    println!(
+        "Seed {seed}. A ratio is now / former in a round, by medians. The former library is of level {}.\n",
+        former::level()
+    );
     println!("| | quads | former | now | now / former | rounds | |\n|---|---|---|---|---|---|---|");
     all_rows(&mut bench, &mut Random(seed));
     assert_eq!(bench.rows, ROWS);
@@ -53,6 +58,7 @@ fn all_rows(bench: &mut Bench, random: &mut Random) {
 }
 
 struct Bench {
+    places: Places<'static>,
     share: Duration,
     rows: u32,
     slower: Vec<String>,
@@ -83,10 +89,10 @@ impl Bench {
     }
 
     fn row(&mut self, name: String, mut row: Row) {
-        row.compare(PLACES[0], &name);
-        let mut runs = vec![row.time(&PLACES, self.share)];
+        row.compare(self.places[0], &name);
+        let mut runs = vec![row.time(&self.places, self.share)];
         if runs[0].ratio > BOUND {
-            runs.extend([(); 2].map(|()| row.time(&PLACES, self.share)));
+            runs.extend([(); 2].map(|()| row.time(&self.places, self.share)));
         }
         runs.sort_by(|run, other| run.ratio.total_cmp(&other.ratio));
         let ratios: Vec<String> = runs.iter().map(|run| format!("{:.2}", run.ratio)).collect();

@@ -13,7 +13,7 @@ use oracle::cases::{simpler, simpler_to_mend, Added, Case, Random};
 use oracle::compare::{Compared, Comparison, Tally, Updates, MODES};
 use oracle::faults::{limits, Faulty};
 use oracle::library::Library;
-use oracle::rust::ENTRY;
+use oracle::rust::{Words, ENTRY};
 use plain::NO_ROOM;
 use std::panic::{catch_unwind, AssertUnwindSafe};
 use std::time::Instant;
@@ -167,7 +167,9 @@ fn print_faulty(faulty: &Faulty, difference: &str) {
     }
     print(case);
     println!("  the side tested: {:?}", case.tested);
-    println!("  count {count}, room {} floats, {} triangle words", room.vertices.len(), room.triangles.len());
+    let Words { positions, normals, uvs, colours, triangles, .. } = room;
+    let [p, n, u, c, t] = [positions, normals, uvs, colours, triangles].map(Vec::len);
+    println!("  count {count}, room {p} floats of positions, {n} of normals, {u} of uvs, {c} of colours, {t} triangle words");
     println!("  links {:x?}\n  slots {:x?}", room.links, room.slots);
 }
 

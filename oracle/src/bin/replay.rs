@@ -7,9 +7,8 @@
 use oracle::calls::{Answer, Calls};
 use oracle::cases::Case;
 use oracle::library::Library;
+use oracle::room::{laid, room_for, SPARE};
 use oracle::rust::{floats, CubeParameters, Types, Words, ENTRY};
-
-const SPARE: u32 = 0xA5A5_A5A5;
 
 fn main() {
     Library::assert_level();
@@ -18,7 +17,7 @@ fn main() {
     assert_eq!(bytes.len() % 4, 0, "whole words");
     let words: Vec<u32> = bytes.chunks(4).map(|four| u32::from_le_bytes(four.try_into().unwrap())).collect();
     let mut file = Reader(&words);
-    assert_eq!(file.many(2), [u32::from_le_bytes(*b"MSHS"), 1], "the head");
+    assert_eq!(file.many(2), [u32::from_le_bytes(*b"MSHS"), 2], "the head");
     let records = file.one();
     let mut types = Types::default();
     let mut counts = [0; 4];
@@ -67,9 +66,15 @@ impl<'a> Reader<'a> {
     }
     fn mesh(&mut self, case: &Case) -> Words {
         let quads = self.one() as usize;
-        let (links, triangles) = (self.many(quads).to_vec(), self.many(6 * quads).to_vec());
-        let vertices = self.many(4 * quads * floats(case.types.coloured)).to_vec();
-        Words { links, triangles, vertices, slots: self.many(6 * case.grid.len()).to_vec() }
+        Words {
+            links: self.many(quads).to_vec(),
+            triangles: self.many(6 * quads).to_vec(),
+            positions: self.many(12 * quads).to_vec(),
+            normals: self.many(12 * quads).to_vec(),
+            uvs: self.many(8 * quads).to_vec(),
+            colours: self.many(16 * quads * case.types.coloured as usize).to_vec(),
+            slots: self.many(6 * case.grid.len()).to_vec(),
+        }
     }
 }
 
@@ -94,23 +99,18 @@ fn replay_grid(number: u32, record: &mut Reader, types: &Types) {
     let case = Case { dims, outer, grid, types: types.clone(), naive, log, ..Case::default() };
     let (fresh, updated) = (record.mesh(&case), record.mesh(&case));
 
-    let quads = 6 * cells;
-    let mut room = Words {
-        vertices: vec![SPARE; quads * 4 * floats(types.coloured)],
-        triangles: vec![SPARE; quads * 6],
-        links: vec![SPARE; quads],
-        slots: vec![SPARE; quads],
-    };
+    let empty = room_for(6 * cells, &case);
+    let mut room = empty.clone();
     let answer = Library.mesh_grid(&case, &mut room);
     assert_mesh(number, answer, &room, &fresh);
+    assert!(room == laid(&fresh, empty), "record {number}: a word of the spare room has changed");
     let answer = Library.update_mesh(&case, &mut room, answer.quads);
     assert_mesh(number, answer, &room, &updated);
 }
 
 fn assert_mesh(number: u32, answer: Answer, room: &Words, expected: &Words) {
     assert_eq!((answer.number, answer.quads), (0, expected.links.len() as u64), "record {number}: refusal, quads");
-    assert_eq!(room.links[..expected.links.len()], expected.links, "record {number}: links");
-    assert_eq!(room.triangles[..expected.triangles.len()], expected.triangles, "record {number}: triangle words");
-    assert_eq!(room.vertices[..expected.vertices.len()], expected.vertices, "record {number}: vertices");
-    assert_eq!(room.slots, expected.slots, "record {number}: slots");
+    for ((word, list), (_, due)) in room.lists().into_iter().zip(expected.lists()) {
+        assert_eq!(list[..due.len()], *due, "record {number}: each {word}");
+    }
 }

@@ -1,10 +1,12 @@
 //! The calls on lists that you lend: a mapped graphics buffer, a part of a larger list, a list kept from frame to frame. Nothing is
 //! allocated or copied; the lists have the library's layout.
 //!
-//! Per quad: four vertices of 8 floats, or of 12 if the registry has colour, six triangle words, one link (which cell and face it is).
-//! Per cell: six slots (which vertex each face's quad starts at, [`NO_QUAD`] for none). The room in quads is what the shortest of
-//! vertices, triangles and links holds. Nothing in the lists says whether they have colour: a registry that differs in it from the one
-//! they were meshed by is not noticed, and misreads them.
+//! Per quad: the attributes of four vertices, a list each; six triangle words; one link (which cell and face it is). Per cell: six slots
+//! (which vertex each face's quad starts at, [`NO_QUAD`] for none). The room in quads is what the shortest list but the slots holds. The
+//! colours count only if the registry has colour. If it has none, they are neither read nor written, and may be `&mut []`.
+//!
+//! Nothing in the lists says whether they have colour. A registry without colour leaves the colours of a mesh that has them where they
+//! are, out of step with what moves. One with colour takes what stands in the list for colours.
 //!
 //! ```
 //! use nalumoce::lent::{self, Room, UpdateError};
@@ -15,8 +17,17 @@
 //! # let air = registry.add(VoxelMesh::Null, Sides::NONE)?;
 //! # let rock = registry.add(VoxelMesh::NormalCube(&cube), Sides::ALL)?;
 //! let (dims, grid) = ((2, 1, 1), [rock, rock]);
-//! let (mut vertices, mut triangles, mut links, mut slots) = ([0.0; 16 * 32], [0; 16 * 6], [0; 16], [0; 2 * 6]);
-//! let mut room = Room { vertices: &mut vertices, triangles: &mut triangles, links: &mut links, slots: &mut slots };
+//! let (mut positions, mut normals, mut uvs) = ([[0.0; 3]; 16 * 4], [[0.0; 3]; 16 * 4], [[0.0; 2]; 16 * 4]);
+//! let (mut triangles, mut links, mut slots) = ([0; 16 * 6], [0; 16], [0; 2 * 6]);
+//! let mut room = Room {
+//!     positions: &mut positions,
+//!     normals: &mut normals,
+//!     uvs: &mut uvs,
+//!     colours: &mut [],
+//!     triangles: &mut triangles,
+//!     links: &mut links,
+//!     slots: &mut slots,
+//! };
 //! let quads = lent::mesh_grid(dims, &[], &grid, &registry, MeshingAlgorithm::Culling, &mut room)?;
 //! assert_eq!(quads, 10);
 //!
@@ -39,11 +50,17 @@ use std::fmt;
 /// A slot without a quad.
 pub const NO_QUAD: u32 = u32::MAX;
 
-/// The four lists of a mesh, lent to be written.
+/// The lists of a mesh, lent to be written.
 #[derive(Debug)]
 pub struct Room<'a> {
-    /// Per quad four vertices.
-    pub vertices: &'a mut [f32],
+    /// Per quad four.
+    pub positions: &'a mut [[f32; 3]],
+    /// Per quad four.
+    pub normals: &'a mut [[f32; 3]],
+    /// Per quad four.
+    pub uvs: &'a mut [[f32; 2]],
+    /// Per quad four; without colour anything.
+    pub colours: &'a mut [[f32; 4]],
     /// Per quad six words.
     pub triangles: &'a mut [u32],
     /// Per quad one word.
@@ -55,15 +72,29 @@ pub struct Room<'a> {
 impl Room<'_> {
     /// The same lists, to be read.
     pub fn lists(&self) -> Lists<'_> {
-        Lists { vertices: self.vertices, triangles: self.triangles, links: self.links, slots: self.slots }
+        Lists {
+            positions: self.positions,
+            normals: self.normals,
+            uvs: self.uvs,
+            colours: self.colours,
+            triangles: self.triangles,
+            links: self.links,
+            slots: self.slots,
+        }
     }
 }
 
-/// The four lists of a mesh, lent to be read.
+/// The lists of a mesh, lent to be read.
 #[derive(Clone, Copy, Debug)]
 pub struct Lists<'a> {
-    /// Per quad four vertices.
-    pub vertices: &'a [f32],
+    /// Per quad four.
+    pub positions: &'a [[f32; 3]],
+    /// Per quad four.
+    pub normals: &'a [[f32; 3]],
+    /// Per quad four.
+    pub uvs: &'a [[f32; 2]],
+    /// Per quad four; without colour anything.
+    pub colours: &'a [[f32; 4]],
     /// Per quad six words.
     pub triangles: &'a [u32],
     /// Per quad one word.

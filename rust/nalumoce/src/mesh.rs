@@ -2,7 +2,6 @@
 
 use crate::lent::{self, Lists, Room, UpdateError, Updated, NO_QUAD};
 use crate::raw::Tested;
-use crate::registry::floats;
 use crate::{Dimensions, Face, Log, Reason, Refusal, VoxelChange, VoxelRegistry};
 
 /// The variants of the meshing algorithm.
@@ -14,29 +13,27 @@ pub enum MeshingAlgorithm {
     Culling,
 }
 
-/// A mesh: vertices and triangles. The [`MeshMD`] made with it belongs to it, and no other does.
+/// A mesh: the attributes of its vertices, and triangles. The [`MeshMD`] made with it belongs to it, and no other does.
 #[derive(Clone, Debug)]
 pub struct Mesh {
-    vertices: Vec<f32>,
+    positions: Vec<[f32; 3]>,
+    normals: Vec<[f32; 3]>,
+    uvs: Vec<[f32; 2]>,
+    /// None without colour.
+    colours: Option<Vec<[f32; 4]>>,
     triangles: Vec<u32>,
     quads: usize,
-    coloured: bool,
 }
 
 impl Mesh {
+    fn without_room(coloured: bool) -> Mesh {
+        let colours = coloured.then(Vec::new);
+        Mesh { positions: vec![], normals: vec![], uvs: vec![], colours, triangles: vec![], quads: 0 }
+    }
+
     /// How many quads there are, of four vertices and two triangles each.
     pub fn quads(&self) -> usize {
         self.quads
-    }
-
-    /// The floats of a vertex: 8, or 12 with colour.
-    pub fn floats(&self) -> usize {
-        floats(self.coloured)
-    }
-
-    /// All vertices: position 3, normal 3, uv 2, and colour 4 if there is one.
-    pub fn vertices(&self) -> &[f32] {
-        &self.vertices[..4 * self.floats() * self.quads]
     }
 
     /// The triangles, three vertex numbers each.
@@ -45,27 +42,27 @@ impl Mesh {
     }
 
     /// The position of each vertex.
-    pub fn positions(&self) -> impl ExactSizeIterator<Item = [f32; 3]> + '_ {
-        self.attribute(0)
+    pub fn positions(&self) -> &[[f32; 3]] {
+        &self.positions[..4 * self.quads]
     }
 
     /// The normal of each vertex.
-    pub fn normals(&self) -> impl ExactSizeIterator<Item = [f32; 3]> + '_ {
-        self.attribute(3)
+    pub fn normals(&self) -> &[[f32; 3]] {
+        &self.normals[..4 * self.quads]
     }
 
     /// The place in the atlas of each vertex.
-    pub fn uvs(&self) -> impl ExactSizeIterator<Item = [f32; 2]> + '_ {
-        self.attribute(6)
+    pub fn uvs(&self) -> &[[f32; 2]] {
+        &self.uvs[..4 * self.quads]
     }
 
     /// The colour of each vertex, if they have one.
-    pub fn colors(&self) -> Option<impl ExactSizeIterator<Item = [f32; 4]> + '_> {
-        self.coloured.then(|| self.attribute(8))
+    pub fn colours(&self) -> Option<&[[f32; 4]]> {
+        self.colours.as_ref().map(|colours| &colours[..4 * self.quads])
     }
 
-    fn attribute<const N: usize>(&self, from: usize) -> impl ExactSizeIterator<Item = [f32; N]> + '_ {
-        self.vertices().chunks_exact(self.floats()).map(move |vertex| std::array::from_fn(|i| vertex[from + i]))
+    fn is_coloured(&self) -> bool {
+        self.colours.is_some()
     }
 }
 
@@ -112,11 +109,24 @@ impl MeshMD {
 
 /// The lists of a mesh and its index as one room.
 fn room<'a>(mesh: &'a mut Mesh, metadata: &'a mut MeshMD) -> Room<'a> {
-    Room { vertices: &mut mesh.vertices, triangles: &mut mesh.triangles, links: &mut metadata.links, slots: &mut metadata.slots }
+    Room {
+        positions: &mut mesh.positions,
+        normals: &mut mesh.normals,
+        uvs: &mut mesh.uvs,
+        colours: mesh.colours.as_deref_mut().unwrap_or_default(),
+        triangles: &mut mesh.triangles,
+        links: &mut metadata.links,
+        slots: &mut metadata.slots,
+    }
 }
 
 fn set_room(mesh: &mut Mesh, metadata: &mut MeshMD, quads: usize) {
-    mesh.vertices.resize(4 * mesh.floats() * quads, 0.0);
+    mesh.positions.resize(4 * quads, [0.0; 3]);
+    mesh.normals.resize(4 * quads, [0.0; 3]);
+    mesh.uvs.resize(4 * quads, [0.0; 2]);
+    if let Some(colours) = &mut mesh.colours {
+        colours.resize(4 * quads, [0.0; 4]);
+    }
     mesh.triangles.resize(6 * quads, 0);
     metadata.links.resize(quads, 0);
 }
@@ -150,7 +160,7 @@ pub fn mesh_grid(
     meshing_algorithm: MeshingAlgorithm,
 ) -> Result<(Mesh, MeshMD), Refusal> {
     let cells = grid.len().min(MOST_CELLS);
-    let mut mesh = Mesh { vertices: vec![], triangles: vec![], quads: 0, coloured: reg.coloured };
+    let mut mesh = Mesh::without_room(reg.coloured);
     let mut metadata = MeshMD { dims, links: vec![], slots: vec![0; 6 * cells], log: Log::new() };
     let mut quads = 16 + cells / 4;
     loop {
@@ -166,10 +176,9 @@ pub fn mesh_grid(
     }
 }
 
-/// Refuses a registry with colour for a mesh without, and the reverse: a vertex of the one has more floats than one of the other, so
-/// the registry's lists have the wrong lengths for the mesh.
-fn same_floats(mesh: &Mesh, reg: &VoxelRegistry) -> Result<(), Refusal> {
-    let fits = mesh.coloured == reg.coloured;
+/// Refuses a registry with colour for a mesh without, and the reverse: the registry's cubes have the wrong length for the mesh.
+fn same_attributes(mesh: &Mesh, reg: &VoxelRegistry) -> Result<(), Refusal> {
+    let fits = mesh.is_coloured() == reg.coloured;
     fits.then_some(()).ok_or(Refusal { reason: Reason::BadTypes, place: 255 })
 }
 
@@ -252,7 +261,7 @@ pub fn mend_mesh(mesh: &mut Mesh, metadata: &mut MeshMD, reg: &VoxelRegistry) ->
 }
 
 fn update_testing(mesh: &mut Mesh, metadata: &mut MeshMD, tested: Tested, reg: &VoxelRegistry) -> Result<Updated, Refusal> {
-    same_floats(mesh, reg)?;
+    same_attributes(mesh, reg)?;
     let log = std::mem::take(&mut metadata.log);
     let (mut done, mut moved) = (0, 0);
     loop {
@@ -282,7 +291,15 @@ fn update_testing(mesh: &mut Mesh, metadata: &mut MeshMD, tested: Tested, reg: &
 ///
 /// BAD_TYPES, place 255, for a registry with colour and a mesh without, or the reverse, tried first; then what is wrong, and where.
 pub fn check_mesh(mesh: &Mesh, metadata: &MeshMD, outer_layer: &[Face], grid: &[u8], reg: &VoxelRegistry) -> Result<(), Refusal> {
-    same_floats(mesh, reg)?;
-    let lists = Lists { vertices: &mesh.vertices, triangles: &mesh.triangles, links: &metadata.links, slots: &metadata.slots };
+    same_attributes(mesh, reg)?;
+    let lists = Lists {
+        positions: &mesh.positions,
+        normals: &mesh.normals,
+        uvs: &mesh.uvs,
+        colours: mesh.colours.as_deref().unwrap_or_default(),
+        triangles: &mesh.triangles,
+        links: &metadata.links,
+        slots: &metadata.slots,
+    };
     lent::check_mesh(metadata.dims, outer_layer, grid, reg, lists, mesh.quads)
 }

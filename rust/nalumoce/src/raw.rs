@@ -36,13 +36,17 @@ extern "C" {
         coloured: u32,
         dx: u32, dy: u32, dz: u32, cx: u32, cy: u32, cz: u32,
         algorithm: u32,
-        vertices: *mut u32, vertices_len: usize, triangles: *mut u32, triangles_len: usize,
+        positions: *mut u32, positions_len: usize, normals: *mut u32, normals_len: usize,
+        uvs: *mut u32, uvs_len: usize, colours: *mut u32, colours_len: usize,
+        triangles: *mut u32, triangles_len: usize,
         links: *mut u32, links_len: usize, slots: *mut u32, slots_len: usize,
         place: *mut u64, quads: *mut u64,
     ) -> u32;
 
     fn meshem_update_mesh(
-        vertices: *mut u32, vertices_len: usize, triangles: *mut u32, triangles_len: usize,
+        positions: *mut u32, positions_len: usize, normals: *mut u32, normals_len: usize,
+        uvs: *mut u32, uvs_len: usize, colours: *mut u32, colours_len: usize,
+        triangles: *mut u32, triangles_len: usize,
         links: *mut u32, links_len: usize, slots: *mut u32, slots_len: usize,
         count: u64,
         width: u32, height: u32, length: u32,
@@ -60,7 +64,9 @@ extern "C" {
         kinds: *const u8, kinds_len: usize, covers: *const u8, covers_len: usize,
         cubes: *const u32, cubes_len: usize, coloured: u32,
         dx: u32, dy: u32, dz: u32, cx: u32, cy: u32, cz: u32,
-        vertices: *const u32, vertices_len: usize, triangles: *const u32, triangles_len: usize,
+        positions: *const u32, positions_len: usize, normals: *const u32, normals_len: usize,
+        uvs: *const u32, uvs_len: usize, colours: *const u32, colours_len: usize,
+        triangles: *const u32, triangles_len: usize,
         links: *const u32, links_len: usize, slots: *const u32, slots_len: usize,
         count: u64,
         place: *mut u64,
@@ -130,6 +136,15 @@ fn words_mut(floats: &mut [f32]) -> &mut [u32] {
     unsafe { std::slice::from_raw_parts_mut(floats.as_mut_ptr().cast(), floats.len()) }
 }
 
+/// The words of an attribute, vertex by vertex: an array has no gaps.
+fn rows<const N: usize>(rows: &[[f32; N]]) -> &[u32] {
+    words(rows.as_flattened())
+}
+
+fn rows_mut<const N: usize>(rows: &mut [[f32; N]]) -> &mut [u32] {
+    words_mut(rows.as_flattened_mut())
+}
+
 /// The faces' numbers: `Face` is `repr(u8)`.
 fn numbers(faces: &[Face]) -> &[u8] {
     unsafe { std::slice::from_raw_parts(faces.as_ptr().cast(), faces.len()) }
@@ -171,7 +186,8 @@ pub(crate) fn mesh_grid(
     let outer = numbers(outer);
     let cubes = words(&reg.cubes);
     let [d, c] = [reg.voxel_dims, reg.center].map(|floats| floats.map(f32::to_bits));
-    let vertices = words_mut(room.vertices);
+    let (positions, normals) = (rows_mut(room.positions), rows_mut(room.normals));
+    let (uvs, colours) = (rows_mut(room.uvs), rows_mut(room.colours));
     told.number = unsafe {
         meshem_mesh_grid(
             width, height, length,
@@ -183,7 +199,9 @@ pub(crate) fn mesh_grid(
             reg.coloured as u32,
             d[0], d[1], d[2], c[0], c[1], c[2],
             algorithm as u32,
-            vertices.as_mut_ptr(), vertices.len(), room.triangles.as_mut_ptr(), room.triangles.len(),
+            positions.as_mut_ptr(), positions.len(), normals.as_mut_ptr(), normals.len(),
+            uvs.as_mut_ptr(), uvs.len(), colours.as_mut_ptr(), colours.len(),
+            room.triangles.as_mut_ptr(), room.triangles.len(),
             room.links.as_mut_ptr(), room.links.len(), room.slots.as_mut_ptr(), room.slots.len(),
             &mut told.place, &mut told.quads,
         )
@@ -199,10 +217,13 @@ pub(crate) fn update_mesh(
     let [width, height, length] = sizes(dims);
     let cubes = words(&reg.cubes);
     let [d, c] = [reg.voxel_dims, reg.center].map(|floats| floats.map(f32::to_bits));
-    let vertices = words_mut(room.vertices);
+    let (positions, normals) = (rows_mut(room.positions), rows_mut(room.normals));
+    let (uvs, colours) = (rows_mut(room.uvs), rows_mut(room.colours));
     told.number = unsafe {
         meshem_update_mesh(
-            vertices.as_mut_ptr(), vertices.len(), room.triangles.as_mut_ptr(), room.triangles.len(),
+            positions.as_mut_ptr(), positions.len(), normals.as_mut_ptr(), normals.len(),
+            uvs.as_mut_ptr(), uvs.len(), colours.as_mut_ptr(), colours.len(),
+            room.triangles.as_mut_ptr(), room.triangles.len(),
             room.links.as_mut_ptr(), room.links.len(), room.slots.as_mut_ptr(), room.slots.len(),
             quads as u64,
             width, height, length,
@@ -226,7 +247,8 @@ pub(crate) fn check_mesh(
     let outer = numbers(outer);
     let cubes = words(&reg.cubes);
     let [d, c] = [reg.voxel_dims, reg.center].map(|floats| floats.map(f32::to_bits));
-    let vertices = words(lists.vertices);
+    let (positions, normals) = (rows(lists.positions), rows(lists.normals));
+    let (uvs, colours) = (rows(lists.uvs), rows(lists.colours));
     told.number = unsafe {
         meshem_check_mesh(
             width, height, length,
@@ -234,7 +256,9 @@ pub(crate) fn check_mesh(
             reg.kinds.as_ptr(), reg.kinds.len(), reg.covers.as_ptr(), reg.covers.len(),
             cubes.as_ptr(), cubes.len(), reg.coloured as u32,
             d[0], d[1], d[2], c[0], c[1], c[2],
-            vertices.as_ptr(), vertices.len(), lists.triangles.as_ptr(), lists.triangles.len(),
+            positions.as_ptr(), positions.len(), normals.as_ptr(), normals.len(),
+            uvs.as_ptr(), uvs.len(), colours.as_ptr(), colours.len(),
+            lists.triangles.as_ptr(), lists.triangles.len(),
             lists.links.as_ptr(), lists.links.len(), lists.slots.as_ptr(), lists.slots.len(),
             quads as u64,
             &mut told.place,

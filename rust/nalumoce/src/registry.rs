@@ -37,7 +37,7 @@ const fn indices() -> [u32; 36] {
 }
 
 /// The floats of a vertex.
-pub(crate) const fn floats(coloured: bool) -> usize {
+const fn floats(coloured: bool) -> usize {
     if coloured {
         12
     } else {

@@ -28,6 +28,13 @@ fn meshed(dims: Dimensions, grid: &[u8]) -> (Mesh, MeshMD) {
     mesh_grid(dims, &[], grid, &registry(), MeshingAlgorithm::Culling).unwrap()
 }
 
+/// Every float of a mesh, attribute by attribute.
+fn attributes(mesh: &Mesh) -> [Vec<f32>; 4] {
+    let colours = mesh.colours().unwrap_or_default();
+    [mesh.positions().as_flattened(), mesh.normals().as_flattened(), mesh.uvs().as_flattened(), colours.as_flattened()]
+        .map(<[f32]>::to_vec)
+}
+
 fn refused<T: std::fmt::Debug>(answer: Result<T, Refusal>) -> (Reason, u64) {
     let refusal = answer.unwrap_err();
     (refusal.reason, refusal.place)
@@ -49,7 +56,7 @@ fn meshes_worked_by_hand() {
 #[test]
 fn a_cube_faces_outward() {
     let (mesh, metadata) = meshed((1, 1, 1), &[ROCK]);
-    let (positions, normals): (Vec<_>, Vec<_>) = (mesh.positions().collect(), mesh.normals().collect());
+    let (positions, normals) = (mesh.positions(), mesh.normals());
     for triangle in mesh.indices().chunks_exact(3) {
         let [a, b, c] = [0, 1, 2].map(|i| positions[triangle[i] as usize]);
         let [p, q] = [b, c].map(|end| [0, 1, 2].map(|axis| end[axis] - a[axis]));
@@ -61,7 +68,7 @@ fn a_cube_faces_outward() {
     assert_eq!(metadata.get_quad_index(Face::Forward, 0), Some(20));
     assert_eq!(metadata.get_quad_index(Face::Top, usize::MAX), None);
     assert_eq!(mesh.uvs().len(), 24);
-    assert!(mesh.colors().is_none());
+    assert!(mesh.colours().is_none());
 }
 
 #[test]
@@ -118,7 +125,7 @@ fn a_mesh_grows_as_it_needs() {
     }
     assert_eq!(update_mesh(&mut mesh, &mut metadata, &registry), Ok(Updated { quads: 6 * 2048, moved: 0 }));
     assert_eq!(check_mesh(&mesh, &metadata, &[], &grid, &registry), Ok(()));
-    assert_eq!(mesh.vertices(), meshed(dims, &grid).0.vertices());
+    assert_eq!(attributes(&mesh), attributes(&meshed(dims, &grid).0));
 }
 
 #[test]
@@ -158,7 +165,7 @@ fn refusals_of_cubes_and_types() {
 fn a_refused_log_is_kept_and_nothing_is_done() {
     let (registry, grid) = (registry(), [ROCK; 2]);
     let (mut mesh, mut metadata) = meshed((2, 1, 1), &grid);
-    let before = mesh.vertices().to_vec();
+    let before = attributes(&mesh);
     let bad: [(usize, u8, [Option<u8>; 6]); 4] = [
         (2, ROCK, [None; 6]),
         (usize::MAX, ROCK, [None; 6]),
@@ -169,7 +176,7 @@ fn a_refused_log_is_kept_and_nothing_is_done() {
         metadata.log(VoxelChange::Broken, 0, ROCK, neighboring_voxels(&grid, 0, (2, 1, 1)));
         metadata.log(VoxelChange::Broken, cell, voxel, around);
         assert_eq!(refused(update_mesh(&mut mesh, &mut metadata, &registry)), (Reason::BadEntry, 1));
-        assert_eq!((mesh.vertices(), metadata.logged().len()), (&before[..], 2));
+        assert_eq!((attributes(&mesh), metadata.logged().len()), (before.clone(), 2));
         metadata.clear_log();
     }
 }
@@ -209,12 +216,12 @@ fn a_registry_with_colour_does_not_fit_a_mesh_without_nor_the_reverse() {
     for (of_the_mesh, other) in [(None, Some(0.5)), (Some(0.5), None)] {
         let (own, other) = (registry_in(of_the_mesh), registry_in(other));
         let (mut mesh, mut metadata) = mesh_grid(dims, &[], &grid, &own, MeshingAlgorithm::Culling).unwrap();
-        let (vertices, indices) = (mesh.vertices().to_vec(), mesh.indices().to_vec());
+        let (vertices, indices) = (attributes(&mesh), mesh.indices().to_vec());
         assert_eq!(refused(check_mesh(&mesh, &metadata, &[], &grid, &other)), (Reason::BadTypes, 255));
 
         metadata.log(VoxelChange::Broken, 0, ROCK, neighboring_voxels(&grid, 0, dims));
         assert_eq!(refused(update_mesh(&mut mesh, &mut metadata, &other)), (Reason::BadTypes, 255));
-        assert_eq!((mesh.quads(), mesh.vertices(), mesh.indices()), (10, &vertices[..], &indices[..]));
+        assert_eq!((mesh.quads(), attributes(&mesh), mesh.indices()), (10, vertices, &indices[..]));
         assert_eq!(metadata.logged().len(), 1);
         assert_eq!(check_mesh(&mesh, &metadata, &[], &grid, &own), Ok(()));
 
@@ -230,7 +237,40 @@ fn a_mesh_without_a_quad_has_its_colour_all_the_same() {
         let (mut mesh, mut metadata) = mesh_grid((1, 1, 1), &[], &[AIR], &own, MeshingAlgorithm::Culling).unwrap();
         assert_eq!(refused(check_mesh(&mesh, &metadata, &[], &[AIR], &other)), (Reason::BadTypes, 255));
         assert_eq!(refused(update_mesh(&mut mesh, &mut metadata, &other)), (Reason::BadTypes, 255));
-        assert_eq!(mesh.colors().is_some(), of_the_mesh.is_some());
+        assert_eq!(mesh.colours().is_some(), of_the_mesh.is_some());
+    }
+}
+
+/// Each list alone a vertex short, or a word, of ten quads: there is no room. The others have another number each.
+#[test]
+fn the_room_is_what_the_shortest_list_holds() {
+    for color in [None, Some(0.5)] {
+        let registry = registry_in(color);
+        let shorten: [fn(&mut Kept); 6] = [
+            |kept| kept.positions.truncate(39),
+            |kept| kept.normals.truncate(39),
+            |kept| kept.uvs.truncate(39),
+            |kept| kept.triangles.truncate(59),
+            |kept| kept.links.truncate(9),
+            |kept| kept.colours.truncate(39),
+        ];
+        let mesh =
+            |kept: &mut Kept| lent::mesh_grid((2, 1, 1), &[], &[ROCK; 2], &registry, MeshingAlgorithm::Culling, &mut kept.room());
+        let check = |kept: &Kept| lent::check_mesh((2, 1, 1), &[], &[ROCK; 2], &registry, kept.lists(), 10);
+        let update = |kept: &mut Kept| lent::mend_mesh(&mut kept.room(), 10, (2, 1, 1), &Log::new(), &registry);
+        for (number, shorten) in shorten.into_iter().enumerate() {
+            let mut kept = Kept::with_colour(10 + number, 2);
+            assert_eq!(mesh(&mut kept), Ok(10));
+            assert_eq!(check(&kept), Ok(()));
+            shorten(&mut kept);
+            let before = kept.clone();
+            let counts = number < 5 || color.is_some();
+            let due = |reason| if counts { Err(Refusal { reason, place: 0 }) } else { Ok(()) };
+            assert_eq!(check(&kept), due(Reason::BadCount));
+            assert_eq!(update(&mut kept).map(|_| ()), due(Reason::BadCount).map_err(UpdateError::Refused));
+            assert_eq!(mesh(&mut kept).map(|_| ()), due(Reason::NoRoom));
+            assert_eq!(kept, before);
+        }
     }
 }
 
@@ -247,7 +287,11 @@ fn lent_room_is_refused_whole_and_left_alone() {
     assert_eq!(refused(mesh(&mut kept)), (Reason::ShortRoom, 0));
     let mut kept = Kept::new(11, 2);
     assert_eq!(mesh(&mut kept), Ok(10));
-    assert_eq!(kept.vertices[320..], [7.0; 32]);
+    assert_eq!(
+        (&kept.positions[40..], &kept.normals[40..], &kept.uvs[40..]),
+        (&[[7.0; 3]; 4][..], &[[7.0; 3]; 4][..], &[[7.0; 2]; 4][..])
+    );
+    assert_eq!(kept.colours, [[7.0; 4]; 3]);
     let lists = kept.room();
     assert_eq!(lent::check_mesh((2, 1, 1), &[], &[ROCK; 2], &registry, lists.lists(), 10), Ok(()));
     assert_eq!(refused(lent::check_mesh((2, 1, 1), &[], &[ROCK; 2], &registry, lists.lists(), 12)), (Reason::BadCount, 0));
@@ -289,15 +333,30 @@ fn damaged_lists_are_refused_where_they_are_damaged() {
     // no update reads a vertex
     let unread = Ok(Updated { quads: 10, moved: 0 });
     let wrong = Refusal { reason: Reason::WrongVertex, place: 5 };
-    assert_eq!(told(|kept| kept.vertices[32 * 5 + 7] += 1.0), (Err(wrong), unread));
+    assert_eq!(told(|kept| kept.positions[4 * 5 + 3][2] += 1.0), (Err(wrong), unread));
+    assert_eq!(told(|kept| kept.normals[4 * 5][0] += 1.0), (Err(wrong), unread));
+    assert_eq!(told(|kept| kept.uvs[4 * 5 + 2][1] += 1.0), (Err(wrong), unread));
+    assert_eq!(told(|kept| kept.colours[2][3] += 1.0), (Ok(()), unread));
     assert_eq!(told(|_| ()), (Ok(()), unread));
+}
+
+fn no_room<'a>() -> Room<'a> {
+    Room {
+        positions: &mut [],
+        normals: &mut [],
+        uvs: &mut [],
+        colours: &mut [],
+        triangles: &mut [],
+        links: &mut [],
+        slots: &mut [],
+    }
 }
 
 #[test]
 fn empty_lists_are_lists_too() {
     let (registry, dims) = (registry(), (1, 1, 1));
     let mut slots = [7; 6];
-    let mut room = Room { vertices: &mut [], triangles: &mut [], links: &mut [], slots: &mut slots };
+    let mut room = Room { slots: &mut slots, ..no_room() };
     let mesh =
         |grid: &[u8], registry, room: &mut Room| lent::mesh_grid(dims, &[], grid, registry, MeshingAlgorithm::Culling, room);
     assert_eq!(refused(mesh(&[ROCK], &registry, &mut room)), (Reason::NoRoom, 0));
@@ -307,7 +366,7 @@ fn empty_lists_are_lists_too() {
     assert_eq!(lent::check_mesh(dims, &[], &[AIR], &registry, room.lists(), 0), Ok(()));
     assert_eq!(slots, [NO_QUAD; 6]);
 
-    let mut none = Room { vertices: &mut [], triangles: &mut [], links: &mut [], slots: &mut [] };
+    let mut none = no_room();
     let empty = VoxelRegistry::new([1.0; 3], [0.0; 3], false);
     assert_eq!(refused(mesh(&[], &empty, &mut none)), (Reason::BadSize, 0));
     assert_eq!(refused(mesh(&[AIR], &empty, &mut none)), (Reason::BadTypes, 255));
@@ -324,7 +383,7 @@ fn lists_that_are_only_read_may_be_one_list() {
     assert_eq!(lent::mesh_grid((1, 1, 1), &[], &[ROCK], &registry, MeshingAlgorithm::Culling, &mut kept.room()), Ok(6));
     let words: Vec<u32> = [&kept.links[..], &kept.slots, &kept.triangles].concat();
     let check = |lists| lent::check_mesh((1, 1, 1), &[], &[ROCK], &registry, lists, 6);
-    let parts = Lists { vertices: &kept.vertices, triangles: &words[12..], links: &words, slots: &words[6..] };
+    let parts = Lists { triangles: &words[12..], links: &words, slots: &words[6..], ..kept.lists() };
     assert_eq!(check(parts), Ok(()));
     assert_eq!(refused(check(Lists { slots: &words, ..parts })), (Reason::BadLinks, 0));
     let one = Lists { triangles: &kept.triangles, links: &kept.triangles, slots: &kept.triangles, ..parts };
@@ -337,9 +396,8 @@ fn colours_keep_every_bit() {
     let mut registry = VoxelRegistry::new([1.0; 3], [0.0; 3], true);
     let rock = registry.add(VoxelMesh::NormalCube(&cube(Some(nan))), Sides::ALL).unwrap();
     let (mesh, metadata) = mesh_grid((1, 1, 1), &[], &[rock], &registry, MeshingAlgorithm::Culling).unwrap();
-    let colors: Vec<_> = mesh.colors().unwrap().map(|color| color.map(f32::to_bits)).collect();
+    let colours: Vec<_> = mesh.colours().unwrap().iter().map(|colour| colour.map(f32::to_bits)).collect();
     let [n, one] = [nan, 1.0].map(f32::to_bits);
-    assert_eq!(colors, [[n, n, n, one]; 24]);
-    assert_eq!(mesh.vertices().len(), 6 * 4 * 12);
+    assert_eq!(colours, [[n, n, n, one]; 24]);
     assert_eq!(check_mesh(&mesh, &metadata, &[], &[rock], &registry), Ok(()));
 }

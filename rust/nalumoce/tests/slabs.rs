@@ -63,7 +63,7 @@ fn boxes_that_are_taken_for_cubes() {
         let mut registry = VoxelRegistry::new([1.0; 3], [0.0, center, 0.0], false);
         let voxel = registry.add(VoxelMesh::NormalCube(&cube_between(low, high, None)), Sides::NONE).unwrap();
         let mesh = mesh_grid((1, 1, 1), &[], &[voxel], &registry, MeshingAlgorithm::Culling);
-        mesh.map(|(mesh, _)| mesh.vertices().to_vec()).map_err(|refusal| refusal.reason)
+        mesh.map(|(mesh, _)| mesh.positions().to_vec()).map_err(|refusal| refusal.reason)
     };
     for (center, low, high, taken, what) in [
         (0.0, -0.5, 0.0, true, "a lower half: its top is at the centre"),

@@ -35,18 +35,6 @@ impl Shape {
     fn cube(&self) -> Cube {
         generate_voxel_mesh(self.d, self.atlas, self.texture, self.centre, self.padding, self.color, self.alpha).unwrap()
     }
-
-    fn floats(&self) -> usize {
-        floats(self.color.is_some())
-    }
-}
-
-fn floats(coloured: bool) -> usize {
-    if coloured {
-        12
-    } else {
-        8
-    }
 }
 
 /// A cube that fills its cell, or the lower half of one. The slab names Top twice, so that the last tile wins, and Forward never.
@@ -124,47 +112,78 @@ fn uv_due(shape: &Shape, face: Face, axis: usize, which: char) -> f32 {
     }
 }
 
-fn vertex_due(shape: &Shape, face: Face, corner: usize) -> Vec<f32> {
-    let signs = CORNERS[face as usize][corner].chars().enumerate();
-    let position = signs.map(|(axis, sign)| {
+struct Vertex {
+    position: [f32; 3],
+    normal: [f32; 3],
+    uv: [f32; 2],
+    colour: Option<[f32; 4]>,
+}
+
+impl Vertex {
+    /// Of a cube, the attributes together.
+    fn floats(&self) -> Vec<f32> {
+        let colour = self.colour.iter().flatten();
+        self.position.iter().chain(&self.normal).chain(&self.uv).chain(colour).copied().collect()
+    }
+}
+
+fn vertex_due(shape: &Shape, face: Face, corner: usize) -> Vertex {
+    let signs: Vec<char> = CORNERS[face as usize][corner].chars().collect();
+    let ends: Vec<char> = TILES[face as usize % 2][corner].chars().collect();
+    let position = [0, 1, 2].map(|axis| {
         let high = shape.d[axis] / 2.0 + shape.centre[axis];
-        if sign == '+' {
+        if signs[axis] == '+' {
             high
         } else {
             high - shape.d[axis]
         }
     });
-    let ends = TILES[face as usize % 2][corner].chars().enumerate();
-    let uv = ends.map(|(axis, which)| uv_due(shape, face, axis, which));
-    let color = shape.color.map(|color| [color, color, color, shape.alpha]);
-    position.chain(NORMALS[face as usize]).chain(uv).chain(color.into_iter().flatten()).collect()
+    let uv = [0, 1].map(|axis| uv_due(shape, face, axis, ends[axis]));
+    let colour = shape.color.map(|color| [color, color, color, shape.alpha]);
+    Vertex { position, normal: NORMALS[face as usize], uv, colour }
 }
 
-fn quad_due((cell, face): (usize, Face), grid: &[u8], coloured: bool) -> Vec<f32> {
+fn quad_due((cell, face): (usize, Face), grid: &[u8], coloured: bool) -> [Vertex; 4] {
     let shape = shape(grid[cell], coloured);
     let (width, _, length) = DIMS;
     let at = [cell % width, cell / (width * length), cell / width % length];
-    let vertices = [0, 1, 3, 2].map(|corner| {
-        let mut vertex = vertex_due(&shape, face, corner);
-        for axis in 0..3 {
-            vertex[axis] += at[axis] as f32 * D[axis];
-        }
-        vertex
-    });
-    vertices.concat()
+    [0, 1, 3, 2].map(|corner| {
+        let vertex = vertex_due(&shape, face, corner);
+        let position = [0, 1, 2].map(|axis| vertex.position[axis] + at[axis] as f32 * D[axis]);
+        Vertex { position, ..vertex }
+    })
+}
+
+fn kept(coloured: bool) -> Kept {
+    if coloured {
+        Kept::with_colour(QUADS, CELLS)
+    } else {
+        Kept::new(QUADS, CELLS)
+    }
 }
 
 /// The lists of a mesh: its quads, zeros from there to the highest count that there was, then what was there before.
 fn lists_due(sides: &[(usize, Face)], highest: usize, grid: &[u8], coloured: bool) -> Kept {
-    let mut due = Kept::with_floats(floats(coloured), QUADS, CELLS);
-    let size = 4 * floats(coloured);
-    due.vertices[..size * highest].fill(0.0);
+    let mut due = kept(coloured);
+    due.positions[..4 * highest].fill([0.0; 3]);
+    due.normals[..4 * highest].fill([0.0; 3]);
+    due.uvs[..4 * highest].fill([0.0; 2]);
+    if coloured {
+        due.colours[..4 * highest].fill([0.0; 4]);
+    }
     due.triangles[..6 * highest].fill(0);
     due.links[..highest].fill(0);
     due.slots.fill(NO_QUAD);
     for (q, &(cell, face)) in sides.iter().enumerate() {
         let word = |n: usize| u32::try_from(n).unwrap();
-        due.vertices[size * q..size * (q + 1)].copy_from_slice(&quad_due((cell, face), grid, coloured));
+        for (vertex, at) in quad_due((cell, face), grid, coloured).iter().zip(4 * q..) {
+            due.positions[at] = vertex.position;
+            due.normals[at] = vertex.normal;
+            due.uvs[at] = vertex.uv;
+            if let Some(colour) = vertex.colour {
+                due.colours[at] = colour;
+            }
+        }
         due.triangles[6 * q..6 * (q + 1)].copy_from_slice(&[0, 1, 2, 3, 2, 1].map(|n| word(4 * q + n)));
         due.links[q] = word(cell) | (5 - face as u32) << 29;
         due.slots[6 * cell + face as usize] = word(4 * q);
@@ -178,7 +197,10 @@ fn words(floats: &[f32]) -> Vec<u32> {
 }
 
 fn hold(kept: &Kept, due: &Kept) {
-    assert_eq!(words(&kept.vertices), words(&due.vertices));
+    assert_eq!(words(kept.positions.as_flattened()), words(due.positions.as_flattened()));
+    assert_eq!(words(kept.normals.as_flattened()), words(due.normals.as_flattened()));
+    assert_eq!(words(kept.uvs.as_flattened()), words(due.uvs.as_flattened()));
+    assert_eq!(words(kept.colours.as_flattened()), words(due.colours.as_flattened()));
     assert_eq!((&kept.triangles, &kept.links, &kept.slots), (&due.triangles, &due.links, &due.slots));
 }
 
@@ -193,7 +215,7 @@ const FRESH: [(usize, Face); 15] = [
 ];
 
 fn meshed(algorithm: MeshingAlgorithm, registry: &VoxelRegistry) -> (Kept, Result<usize, Refusal>) {
-    let mut kept = Kept::with_floats(floats(registry.is_coloured()), QUADS, CELLS);
+    let mut kept = kept(registry.is_coloured());
     let answer = lent::mesh_grid(DIMS, &[Right], &ground(), registry, algorithm, &mut kept.room());
     (kept, answer)
 }
@@ -202,8 +224,8 @@ fn meshed(algorithm: MeshingAlgorithm, registry: &VoxelRegistry) -> (Kept, Resul
 fn a_cubes_words() {
     for (voxel, coloured) in [(ROCK, false), (ROCK, true), (SLAB, false), (SLAB, true)] {
         let shape = shape(voxel, coloured);
-        let due = Face::ALL.map(|face| [0, 1, 2, 3].map(|corner| vertex_due(&shape, face, corner)).concat());
-        assert_eq!(due.concat().len(), 24 * shape.floats());
+        let due = Face::ALL.map(|face| [0, 1, 2, 3].map(|corner| vertex_due(&shape, face, corner).floats()).concat());
+        assert_eq!(due.concat().len(), 24 * if coloured { 12 } else { 8 });
         assert_eq!(words(shape.cube().vertices()), words(&due.concat()));
     }
 }
@@ -222,15 +244,16 @@ fn a_fresh_meshs_words() {
 }
 
 #[test]
-fn a_mesh_tells_its_vertices_apart() {
+fn a_mesh_hands_out_its_lists() {
     let registry = registry_of(D, CENTRE, true);
     let (mesh, metadata) = mesh_grid(DIMS, &[Right], &ground(), &registry, MeshingAlgorithm::Culling).unwrap();
     let due = lists_due(&FRESH, FRESH.len(), &ground(), true);
-    assert_eq!((mesh.quads(), mesh.floats()), (FRESH.len(), 12));
-    let attributes = mesh.positions().zip(mesh.normals()).zip(mesh.uvs()).zip(mesh.colors().unwrap());
-    for ((((position, normal), uv), color), vertex) in attributes.zip(due.vertices.chunks_exact(12)) {
-        assert_eq!((&position[..], &normal[..], &uv[..], &color[..]), (&vertex[..3], &vertex[3..6], &vertex[6..8], &vertex[8..]));
-    }
+    let vertices = 4 * FRESH.len();
+    assert_eq!(mesh.quads(), FRESH.len());
+    assert_eq!(mesh.positions(), &due.positions[..vertices]);
+    assert_eq!(mesh.normals(), &due.normals[..vertices]);
+    assert_eq!(mesh.uvs(), &due.uvs[..vertices]);
+    assert_eq!(mesh.colours(), Some(&due.colours[..vertices]));
     assert_eq!(mesh.indices(), &due.triangles[..6 * FRESH.len()]);
     for (quad, &(cell, face)) in FRESH.iter().enumerate() {
         assert_eq!(metadata.cell_and_face(&mesh, quad), Some((cell, face)));

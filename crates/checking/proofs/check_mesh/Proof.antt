@@ -3,10 +3,10 @@ use mathlib.Core.Path.{_≡_, refl, sym, _∙_}
 use mathlib.Core.Bool.{false}
 use denote.Ref.{now}
 use Rattle.rules.specs.Cells.{cells}
-use Rattle.rules.specs.Mesh.{Lists, decode, listsOf}
+use Rattle.rules.specs.Mesh.{verticesOf, Lists, decode, listsOf}
 use Rattle.rules.specs.Answers.{Verdict, fine, _then_, BAD-LINKS, BAD-TRIANGLES, WRONG-SET}
 use Rattle.rules.specs.Calls as rules
-use Rattle.rules.specs.Calls.{world, span, openVerdict, bookVerdict}
+use Rattle.rules.specs.Calls.{world, openVerdict, bookVerdict}
 use Rattle.rules.specs.Lists.{member}
 use Rattle.rules.proofs.Sets.{setOf-lt}
 use Rattle.answers.specs.Verdicts.{verdictOf, refuses}
@@ -23,7 +23,7 @@ abbrev scene : tie.Start → rules.Scene
 scene c = let args = c .args in sceneOf (args .scene) (now (args .kinds)) (now (args .covers)) (now (args .cubes))
 
 abbrev lists : tie.Start → Lists
-lists c = let args = c .args in listsOf (now (args .vertices)) (now (args .triangles)) (now (args .links)) (now (args .slots))
+lists c = let args = c .args in listsOf (verticesOf (now (args .positions)) (now (args .normals)) (now (args .uvs)) (now (args .colours))) (now (args .triangles)) (now (args .links)) (now (args .slots))
 
 -- each test in the rules
 abbrev opens : tie.Start → Verdict
@@ -39,15 +39,15 @@ abbrev books : tie.Start → Verdict
 books c = bookVerdict (scene c) (lists c) (c .args .count)
 
 abbrev faces : tie.Start → Verdict
-faces c = WRONG-SET (world (scene c)) (now (c .args .outer)) (now (c .args .grid)) (decode (span (scene c)) (c .args .count) (lists c))
+faces c = WRONG-SET (world (scene c)) (now (c .args .outer)) (now (c .args .grid)) (decode (scene c .types .coloured) (c .args .count) (lists c))
 
 -- ---- 2, 3, 4, 6 to 10 have passed
 
 abbrev lent-to : tie.After-open-verdict → tie.Start
-lent-to c = c .before .before .before .before .before .before .before .before .before .before
+lent-to c = c .before .before .before .before .before .before .before .before .before .before .before .before .before
 
 opened-is : (c : tie.After-open-verdict) → verdictOf (c .open-verdict .result) ≡ opens (lent-to c)
-opened-is c = c .open-verdict .ensures (lists (lent-to c)) (record { vertices = refl; triangles = refl; links = refl; slots = refl })
+opened-is c = c .open-verdict .ensures (lists (lent-to c)) (record { positions = refl; normals = refl; uvs = refl; colours = refl; triangles = refl; links = refl; slots = refl })
 
 abbrev start : tie.Else1 → tie.Start
 start c = lent-to (c .before .before)
@@ -71,8 +71,8 @@ opened-at c = c .before .before .before .before .before
 
 links-are : (c : tie.After-links-verdict) → verdictOf (c .links-verdict .result) ≡ links (start (c .before .before .before))
 links-are c =
-    let args = start (c .before .before .before) .args in
-    rw (c .before .cell-count .ensures) at (c .links-verdict .ensures (now (args .vertices)) (now (args .triangles)))
+    let s = start (c .before .before .before) in
+    rw (c .before .cell-count .ensures) at (c .links-verdict .ensures (lists s .vertices) (now (s .args .triangles)))
 
 linked-so : (c : tie.Else2) → refuses (verdictOf (c .before .before .links-verdict .result)) ≡ false
 linked-so c = sym (c .before .is-refusal2 .ensures) ∙ c .if2 .left
@@ -90,8 +90,8 @@ base c = start (opened-at (linked-at c))
 
 triangles-are : (c : tie.After-triangles-verdict) → verdictOf (c .triangles-verdict .result) ≡ triangles (start (opened-at (c .before)))
 triangles-are c =
-    let args = start (opened-at (c .before)) .args in
-    c .triangles-verdict .ensures (now (args .vertices)) (now (args .links)) (now (args .slots))
+    let s = start (opened-at (c .before)) in
+    c .triangles-verdict .ensures (lists s .vertices) (now (s .args .links)) (now (s .args .slots))
 
 patterned-so : (c : tie.Else3) → refuses (verdictOf (c .before .before .triangles-verdict .result)) ≡ false
 patterned-so c = sym (c .before .is-refusal3 .ensures) ∙ c .if3 .left

@@ -6,7 +6,7 @@ use native.Mathlib.Omega.{arith}
 use denote.Ref.{now}
 use lib.ListN.{length, take, drop}
 use lib.Seq.{take-at}
-use Rattle.rules.specs.Mesh.{Lists, listsOf}
+use Rattle.rules.specs.Mesh.{Lists, verticesOf, listsOf}
 use Rattle.rules.specs.Calls.{Scene}
 use Rattle.rules.specs.Program.{roomIn}
 use Rattle.lines.proofs.Writing.{wrote-as}
@@ -20,38 +20,36 @@ use Rattle.chunk.proofs.answer_typed.Statement.{statement}
 use Rattle.chunk.proofs.answer_typed.Tie as tie
 
 abbrev counted : tie.After-work-lists → tie.After-slot-count
-counted c = c .before .before .before .before .before
+counted c = c .before .before .before .before .before .before .before .before
 
 abbrev worked : tie.After-slots2 → tie.After-work-lists
-worked c = c .before .before .before .before
+worked c = c .before .before .before .before .before .before .before
 
 abbrev start : tie.After-slot-count → tie.Start
-start c = c .before .before .before .before .before .before .before .before .before .before .before .before
+start c = c .before .before .before .before .before .before .before .before .before .before .before .before .before .before
 
 abbrev scene : tie.Start → Scene
 scene t = let a = t .args in sceneWith (now (a .file)) (now (a .kinds)) (now (a .covers)) (now (a .cubes))
 
 abbrev exit : tie.After-work-lists → Lists
-exit c = let l = c .work-lists .last .1 .1 .1 .1 .1 in listsOf (l .0) (l .1 .0) (l .1 .1 .0) (l .1 .1 .1 .0)
+exit c = let l = c .work-lists .last .1 .1 .1 .1 .1 in listsOf (verticesOf (l .0) (l .1 .0) (l .1 .1 .0) (l .1 .1 .1 .0)) (l .1 .1 .1 .1 .0) (l .1 .1 .1 .1 .1 .0) (l .1 .1 .1 .1 .1 .1 .0)
 
 -- what the work told and left
 worked-so : (c : tie.After-work-lists) → let t = start (counted c) in
     outcome (toldOf (c .work-lists .result)) (exit c) ≡ workedOn (now (t .args .file)) (scene t) (now (t .args .outer)) (roomIn (now (t .args .file)))
 worked-so c =
     let six = counted c in
-    let words = six .before in
-    let fourth = words .before in
-    let third = fourth .before in
-    let second = third .before in
     let t = start six in
-    let v = words .vertex-words .ensures in
     let s = six .slot-count .ensures in
-    let vertices = room-first (second .before .empty-room .ensures) (v .0) (v .1) in
-    let triangles = room-first (second .empty-room2 .ensures) {k = 128 * 6} refl (omega arith) in
-    let links = room-first (third .empty-room3 .ensures) {k = 128} refl (omega arith) in
-    let slots = room-first (fourth .empty-room4 .ensures) (s .0) (omega (arith, s .1)) in
+    let positions = room-first (six .before .before .before .before .before .before .before .empty-room .ensures) {k = 128 * 12} refl (omega arith) in
+    let normals = room-first (six .before .before .before .before .before .before .empty-room2 .ensures) {k = 128 * 12} refl (omega arith) in
+    let uvs = room-first (six .before .before .before .before .before .empty-room3 .ensures) {k = 128 * 8} refl (omega arith) in
+    let colours = room-first (six .before .before .before .before .empty-room4 .ensures) {k = 128 * 16} refl (omega arith) in
+    let triangles = room-first (six .before .before .before .empty-room5 .ensures) {k = 128 * 6} refl (omega arith) in
+    let links = room-first (six .before .before .empty-room6 .ensures) {k = 128} refl (omega arith) in
+    let slots = room-first (six .before .empty-room7 .ensures) (s .0) (s .1) in
     c .work-lists .ensures
-    ∙ (λ i. workedOn (now (t .args .file)) (scene t) (now (t .args .outer)) (listsOf (vertices i) (triangles i) (links i) (slots i)))
+    ∙ (λ i. workedOn (now (t .args .file)) (scene t) (now (t .args .outer)) (listsOf (verticesOf (positions i) (normals i) (uvs i) (colours i)) (triangles i) (links i) (slots i)))
 
 shown-in : (c : tie.After-work-lists) (out : List ℕ) → 1317 ≤ length out → c .work-lists .result .number ≡ 0
     → let r = c .work-lists .result in Shown (r .quads) (r .moved) ((exit c) .links) out
@@ -63,37 +61,20 @@ shown-in c out long e =
 
 -- as many links come back as were lent
 back : (c : tie.After-work-lists) → length ((exit c) .links) ≡ 128
-back c = c .work-lists .kept .1 .1 .1 .1 .1 .1 .1 .0 ∙ sym (room-lent ((counted c) .before .before .before .empty-room3 .ensures) _ (omega arith))
+back c = c .work-lists .kept .1 .1 .1 .1 .1 .1 .1 .1 .1 .1 .0 ∙ sym (room-lent ((counted c) .before .before .empty-room6 .ensures) _ (omega arith))
 
 back-first : (c : tie.After-work-lists)
-    → take 128 ((exit c) .links ++ drop 128 ((counted c) .before .before .before .empty-room3 .result)) ≡ (exit c) .links
+    → take 128 ((exit c) .links ++ drop 128 ((counted c) .before .before .empty-room6 .result)) ≡ (exit c) .links
 back-first c = take-at _ _ _ (back c)
 
-vertex-words-requires : tie.Need-vertex-words-requires
-vertex-words-requires c κs = c .before .before .before .before .before .before .before .before .before .before .pre .0
-
 slot-count-requires : tie.Need-slot-count-requires
-slot-count-requires c κs = c .before .before .before .before .before .before .before .before .before .before .before .pre .0
-
-slice-aggregate-work-lists : tie.Need-slice-aggregate-work-lists
-slice-aggregate-work-lists c =
-    let words = c .before .before in room-lent (words .before .before .before .before .empty-room .ensures) _ (words .vertex-words .ensures .1)
-
-slice-aggregate-work-lists-2 : tie.Need-slice-aggregate-work-lists-2
-slice-aggregate-work-lists-2 c = room-lent (c .before .before .before .before .before .before .empty-room2 .ensures) _ (omega arith)
-
-slice-aggregate-work-lists-3 : tie.Need-slice-aggregate-work-lists-3
-slice-aggregate-work-lists-3 c = room-lent (c .before .before .before .before .before .before .empty-room3 .ensures) _ (omega arith)
+slot-count-requires c κs = c .before .before .before .before .before .before .before .before .before .before .before .before .before .pre .0
 
 array-borrow-prefix-slots : tie.Need-array-borrow-prefix-slots
-array-borrow-prefix-slots c = omega (arith, c .before .before .before .slot-count .ensures .1)
-
-slice-aggregate-work-lists-4 : tie.Need-slice-aggregate-work-lists-4
-slice-aggregate-work-lists-4 c =
-    let six = c .before .before .before .before in room-lent (six .before .before .empty-room4 .ensures) _ (omega (arith, six .slot-count .ensures .1))
+array-borrow-prefix-slots c = omega (arith, c .before .before .before .before .before .before .slot-count .ensures .1)
 
 work-lists-requires : tie.Need-work-lists-requires
-work-lists-requires c κs = c .before .before .before .before .before .before .before .before .before .before .before .before .before .before .before .before .pre .0
+work-lists-requires c κs = c .before .before .before .before .before .before .before .before .before .before .before .before .before .before .before .before .before .before .before .before .before .pre .0
 
 array-share-prefix-links : tie.Need-array-share-prefix-links
 array-share-prefix-links c = part-inside ((exit (worked c)) .links) _ (back (worked c))
@@ -121,7 +102,9 @@ returns c =
 pub answer-typed-spec : {M : Type 1} → statement M
 answer-typed-spec =
     tie.close
-    (tie.spec (λ c κs. search needs) (λ c κs. search needs) (λ c κs. search needs) (λ c κs. search needs) vertex-words-requires slot-count-requires
-    (λ c. search needs) slice-aggregate-work-lists (λ c. search needs) slice-aggregate-work-lists-2 (λ c. search needs) slice-aggregate-work-lists-3
-    array-borrow-prefix-slots slice-aggregate-work-lists-4 work-lists-requires array-share-prefix-links slice-aggregate-write-answer
-    write-answer-requires (λ c. search needs) returns)
+    (tie.spec (λ c κs. search needs) (λ c κs. search needs) (λ c κs. search needs) (λ c κs. search needs) (λ c κs. search needs) (λ c κs. search needs) (λ c κs. search needs)
+    slot-count-requires (λ c. search needs) (λ c. room-lent (c .before .before .before .before .before .before .before .before .empty-room .ensures) _ (omega arith)) (λ c. search needs) (λ c. room-lent (c .before .before .before .before .before .before .before .before .empty-room2 .ensures) _ (omega arith))
+    (λ c. search needs) (λ c. room-lent (c .before .before .before .before .before .before .before .before .empty-room3 .ensures) _ (omega arith)) (λ c. search needs) (λ c. room-lent (c .before .before .before .before .before .before .before .before .empty-room4 .ensures) _ (omega arith))
+    (λ c. search needs) (λ c. room-lent (c .before .before .before .before .before .before .before .before .empty-room5 .ensures) _ (omega arith)) (λ c. search needs) (λ c. room-lent (c .before .before .before .before .before .before .before .before .empty-room6 .ensures) _ (omega arith))
+    array-borrow-prefix-slots (λ c. room-lent (c .before .before .before .before .before .before .before .before .empty-room7 .ensures) _ (c .before .before .before .before .before .before .before .slot-count .ensures .1)) work-lists-requires array-share-prefix-links
+    slice-aggregate-write-answer write-answer-requires (λ c. search needs) returns)

@@ -1,74 +1,60 @@
 -- `drawing::write_place` meets its contract: the quad's stretch that was lent is back in its place. Assumes nothing.
-use mathlib.Core.Path.{sym, ap, _∙_, subst}
-use Prim.Native.Nat.{ℕ, _+_, _*_, _≤_}
+use mathlib.Core.Path.{_≡_, sym, ap, _∙_, subst}
+use Prim.Native.Nat.{ℕ, _+_, _-_, _*_, _≤_}
 use native.Mathlib.Omega.{arith}
-use lib.ListN.{length}
+use lib.ListN.{length, take, drop}
 use borrow.Author.Needs.{needs}
+use Rattle.rules.specs.Mesh.{attributeIn}
 use Rattle.rules.specs.Types.{quadWords}
 use Rattle.rules.proofs.Rows.{length-lent}
 use Rattle.face.specs.Face.{number}
 use Rattle.util.specs.Grid as grid
 use Rattle.floats.specs.Triples.{tripleOf}
+use Rattle.vav.specs.Attributes.{attributeOf}
 use Rattle.vav.specs.Rows.{put}
 use Rattle.vav.proofs.Laws.{lent}
-use Rattle.quads.specs.Quads.{Drawable}
-use Rattle.quads.proofs.Writing.{length-quad}
+use Rattle.quads.proofs.Writing.{length-row-of}
 use Rattle.drawing.proofs.write_place.Statement.{statement}
 use Rattle.drawing.proofs.write_place.Tie as tie
 
-abbrev begun : tie.Then1 → tie.Start
+abbrev begun : tie.After-width → tie.Start
 begun c = c .before .before .before
 
--- the room of a quad of eight words a vertex
-plain : (c : tie.Then1) → 32 * (begun c .args .q + 1) ≤ length (begun c .args .vertices .now)
-plain c =
-    let t = begun c in
-    subst (λ (n : ℕ). 4 * n * (t .args .q + 1) ≤ length (t .args .vertices .now)) (c .if1 .taken) (t .pre .1)
+-- the words of a quad, and its room
+abbrev words : tie.After-width → ℕ
+words c = 4 * c .width .result
 
-mul-start : tie.Need-mul-start
-mul-start c = omega (arith, plain c)
+within : (c : tie.After-width) → words c * (begun c .args .q + 1) ≤ length (begun c .args .list .now)
+within c = subst (λ (w : ℕ). 4 * w * (begun c .args .q + 1) ≤ length (begun c .args .list .now)) (sym (c .width .ensures)) (begun c .pre .2)
 
-add-end : tie.Need-add-end
-add-end c = omega (arith, plain c)
+fits : (c : tie.After-width) → words c * begun c .args .q + words c ≤ length (begun c .args .list .now)
+fits c = omega (arith, within c)
 
-mul-write-quad : tie.Need-mul-write-quad
-mul-write-quad c = omega (arith, plain c)
+-- the stretch that is lent
+long : (c : tie.After-width) →
+    let a = begun c .args in
+    length (take (words c * a .q + words c - words c * a .q) (drop (words c * a .q) (a .list .now))) ≡ 4 * (attributeOf (a .attribute)) .width
+long c = length-lent (words c * begun c .args .q) (words c) (begun c .args .list .now) (fits c) ∙ ap (λ (w : ℕ). 4 * w) (c .width .ensures)
 
-part-write-quad-end : tie.Need-part-write-quad-end
-part-write-quad-end c = omega (arith, plain c)
-
-write-quad-requires : tie.Need-write-quad-requires
-write-quad-requires c κs =
-    let t = begun (c .before) in
-    let a = t .args in (
-      subst (λ (n : ℕ). Drawable (a .cube .now) n (grid.tripleOf (a .at)) (tripleOf (a .d))) (c .before .if1 .taken) (t .pre .0),
-      length-lent (32 * a .q) 32 (a .vertices .now) (omega (arith, plain (c .before))),
-    )
+write-attribute-requires : tie.Need-write-attribute-requires
+write-attribute-requires c κs = let w = c .before in let t = begun w in (t .pre .0, t .pre .1, long w)
 
 returns : tie.Need-returns
 returns c =
     let wrote = c .before .before in
-    let then1 = wrote .before .before in
-    let a = begun then1 .args in
-    let d = tripleOf (a .d) in
-    let at = grid.tripleOf (a .at) in
-    lent (32 * a .q) 32 (a .vertices .now) (wrote .write-quad .last .0) (quadWords (a .cube .now) 8 d (number (a .face)) at)
-    (wrote .write-quad .ensures) (length-quad (a .cube .now) 8 d (number (a .face)) at)
-    ∙ ap (λ (n : ℕ). put (4 * n * a .q) (quadWords (a .cube .now) n d (number (a .face)) at) (a .vertices .now)) (sym (then1 .if1 .taken))
-
-returns-2 : tie.Need-returns-2
-returns-2 c =
-    let wrote = c .before .before in
-    let a = wrote .before .before .before .before .before .args in
+    let w = wrote .before .before in
+    let t = begun w in
+    let a = t .args in
     let n = a .floats in
+    let b = attributeOf (a .attribute) in
     let d = tripleOf (a .d) in
     let at = grid.tripleOf (a .at) in
-    lent (4 * n * a .q) (4 * n) (a .vertices .now) (wrote .write-quad2 .last .0) (quadWords (a .cube .now) n d (number (a .face)) at)
-    (wrote .write-quad2 .ensures) (length-quad (a .cube .now) n d (number (a .face)) at)
+    lent (words w * a .q) (words w) (a .list .now) (wrote .write-attribute .last .0) (attributeIn n b 4 (quadWords (a .cube .now) n d (number (a .face)) at))
+    (wrote .write-attribute .ensures) (length-row-of (a .cube .now) n d (number (a .face)) at b (t .pre .1) ∙ ap (λ (k : ℕ). 4 * k) (sym (w .width .ensures)))
+    ∙ ap (λ (k : ℕ). put (4 * k * a .q) (attributeIn n b 4 (quadWords (a .cube .now) n d (number (a .face)) at)) (a .list .now)) (w .width .ensures)
 
 pub write-place-spec : {M : Type 1} → statement M
 write-place-spec =
     tie.close
-    (tie.spec mul-start add-end mul-write-quad (λ c. search needs) (λ c. search needs) part-write-quad-end write-quad-requires (λ c. search needs)
-    returns (λ c. search needs) (λ c. search needs) (λ c. search needs) (λ c. search needs) (λ c. search needs) (λ c. search needs)
-    (λ c. search needs) (λ c κs. search needs) (λ c. search needs) returns-2)
+    (tie.spec (λ c κs. search needs) (λ c. search needs) (λ c. omega (arith, fits c)) (λ c. omega (arith, fits c)) (λ c. omega (arith, fits c))
+    (λ c. search needs) (λ c. search needs) (λ c. fits c) write-attribute-requires (λ c. search needs) returns)

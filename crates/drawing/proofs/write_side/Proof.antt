@@ -20,7 +20,7 @@ use Rattle.drawing.proofs.write_side.Statement.{statement}
 use Rattle.drawing.proofs.write_side.Tie as tie
 
 abbrev start : tie.After-shared-slice-known → tie.Start
-start c = c .before .before
+start c = c .before .before .before .before .before
 
 abbrev scene : tie.Start → Scene
 scene s = sceneOf (s .args .scene) [] [] (now (s .args .cubes))
@@ -56,23 +56,23 @@ cords : (s : tie.Start) →
     let r = s .args .row in cordsOf (s .args .side % 1024) (r .y) (r .z) ≡ coordinates (scene s .size) (r .first + s .args .side % 1024)
 cords s = row-cords (scene s .size) (s .pre .0) (s .pre .1) (s .args .side % 1024) (s .pre .2 .along)
 
-write-place-requires : tie.Need-write-place-requires
-write-place-requires c κs =
-    let f = c .before .before .before in
+write-places-requires : tie.Need-write-places-requires
+write-places-requires c κs =
+    let f = c .before .before .before .before .before .before in
     let s = start (f .before) in
-    (rw (cube-is f, f .floats-of .ensures, cords s) (s .pre .2 .drawable), rw (f .floats-of .ensures) (s .pre .3))
+    (rw (cube-is f, cords s) (s .pre .2 .drawable), s .pre .3)
 
 returns : tie.Need-returns
 returns c =
-    let d = c .before .before in
+    let d = c .before .before .before .before .before .before .before .before in
     let n = d .before in
-    let f = n .before .before .before in
+    let f = n .before .before .before .before .before .before in
     let s = start (f .before) in
-    d .write-place .ensures ∙ rw (cube-is f, f .floats-of .ensures, cords s, n .face-at .ensures) refl
+    d .write-places .ensures ∙ rw (cube-is f, cords s, n .face-at .ensures) refl
 
 pub write-side-spec : {M : Type 1} → statement M
 write-side-spec =
     tie.close
     (tie.spec (λ c κs. search needs) (λ c. search needs) (λ c. search needs) (λ c. omega (arith, short c)) (λ c. omega (arith, short c, narrow c))
-    (λ c. omega (arith, short (c .before))) (λ c. search needs) (λ c. search needs) (λ c. ends (c .before)) (λ c κs. start (c .before .before .before) .pre .2 .face)
-    write-place-requires (λ c. search needs) returns)
+    (λ c. omega (arith, short (c .before .before .before .before))) (λ c. search needs) (λ c. search needs) (λ c. ends (c .before .before .before .before)) (λ c κs. start (c .before .before .before .before .before .before) .pre .2 .face)
+    write-places-requires (λ c. search needs) (λ c. search needs) (λ c. search needs) (λ c. search needs) returns)

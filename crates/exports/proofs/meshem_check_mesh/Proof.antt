@@ -3,7 +3,7 @@ use mathlib.Core.Path.{ap, _∙_}
 use denote.Ref.{now}
 use Rattle.rules.specs.Calls.{Scene, checkBy, checkMesh}
 use Rattle.answers.specs.Verdicts.{verdictOf}
-use Rattle.rules.specs.Mesh.{listsOf}
+use Rattle.rules.specs.Mesh.{verticesOf, listsOf}
 use Rattle.telling.proofs.Telling.{bare}
 use borrow.Author.Needs.{needs}
 use Rattle.exports.proofs.meshem_check_mesh.Statement.{statement}
@@ -13,11 +13,11 @@ returns : tie.Need-returns
 returns c =
     let k = c .before in
     let s = k .before in
-    let a = s .before .before .before .before .before .before .before .before .before .before .args in
+    let a = s .before .before .before .before .before .before .before .before .before .before .before .before .before .args in
     bare (c .told-by-verdict .result) (verdictOf (k .check-mesh .result)) (c .told-by-verdict .ensures)
     ∙ ap checkBy (k .check-mesh .ensures)
     ∙ ap (λ (S : Scene). checkMesh S (now (a .outer)) (now (a .grid))
-    (listsOf (now (a .vertices)) (now (a .triangles)) (now (a .links)) (now (a .slots))) (a .count))
+    (listsOf (verticesOf (now (a .positions)) (now (a .normals)) (now (a .uvs)) (now (a .colours))) (now (a .triangles)) (now (a .links)) (now (a .slots))) (a .count))
     (s .scene-of .ensures (now (a .kinds)) (now (a .covers)) (now (a .cubes)))
 
 pub meshem-check-mesh-spec : {M : Type 1} → statement M

@@ -10,9 +10,9 @@ use lib.ListN.{length, take, drop, replicate, length-append, length-drop, length
 use lib.Seq.{getD-take, length-take-le}
 use Rattle.rules.specs.Lists.{member}
 use Rattle.rules.specs.Cells.{cells, coordinates}
-use Rattle.rules.specs.Mesh.{Quad, Lists, NONE, listsOf}
+use Rattle.rules.specs.Mesh.{Quad, Vertices, verticesOf, Lists, NONE, listsOf}
 use Rattle.rules.specs.Answers.{fine}
-use Rattle.rules.specs.Calls.{Scene, answered, span, faces, room, freshMesh, inputVerdict}
+use Rattle.rules.specs.Calls.{Scene, answered, faces, room, freshMesh, inputVerdict}
 use Rattle.rules.proofs.ListLaws.{All, all-at}
 use Rattle.rules.proofs.Sets.{setOf-lt}
 use Rattle.rules.proofs.Demands.{room-for}
@@ -22,8 +22,9 @@ use Rattle.util.proofs.Rows.{first, row-end}
 use Rattle.terms.specs.Scenes.{sceneOf}
 use Rattle.terms.specs.Modes.{isCulling}
 use Rattle.culling.specs.Culling.{worldOf, outerSet}
-use Rattle.drawing.specs.Written.{sideOf, Side}
+use Rattle.drawing.specs.Written.{sideOf, Long, Side}
 use Rattle.drawing.proofs.Sides.{InRow}
+use Rattle.drawing.proofs.Lengths.{Alike, alike-long}
 use Rattle.lent.specs.Scenes.{Admitted}
 use Rattle.lent.proofs.Admitted.{admitted}
 use Rattle.row_sets.specs.Rows.{Seen}
@@ -38,24 +39,25 @@ use Rattle.meshem.proofs.mesh_grid.Statement.{statement}
 use Rattle.meshem.proofs.mesh_grid.Tie as tie
 
 abbrev Inv-loop : tie.InvT-loop
-Inv-loop scene outer grid kinds covers cubes vertices₀ triangles links₀ slots₀ dims culling look along sets₀ quads room width end six ranks sides₀ base₀ row₀ vertices links slots sets sides base row =
+Inv-loop scene outer grid kinds covers cubes positions₀ normals₀ uvs₀ colours₀ triangles links₀ slots₀ dims culling look along sets₀ quads room width end six ranks sides₀ base₀ row₀ positions normals uvs colours links slots sets sides base row =
     let S = sceneOf scene kinds covers cubes in
     (row .first ≤ cells (S .size)) × (cordsOf 0 (row .y) (row .z) ≡ coordinates (S .size) (row .first))
-    × Drawn S grid (setAt culling (worldOf (S .size) kinds covers) (facesOf (look .outer)) grid) vertices₀ links₀ slots₀ (row .first) base vertices links slots
+    × Drawn S grid (setAt culling (worldOf (S .size) kinds covers) (facesOf (look .outer)) grid)
+    (verticesOf positions₀ normals₀ uvs₀ colours₀) links₀ slots₀ (row .first) base (verticesOf positions normals uvs colours) links slots
     × (length sets ≡ 1024) × (length sides ≡ 6144)
 
 abbrev μ-loop : tie.MeasureT-loop
-μ-loop scene outer grid kinds covers cubes vertices₀ triangles links₀ slots₀ dims culling look along sets₀ quads room width end six ranks sides₀ base₀ row₀ vertices links slots sets sides base row =
+μ-loop scene outer grid kinds covers cubes positions₀ normals₀ uvs₀ colours₀ triangles links₀ slots₀ dims culling look along sets₀ quads room width end six ranks sides₀ base₀ row₀ positions normals uvs colours links slots sets sides base row =
     cells (sizeOf (scene .dims)) - row .first
 
 abbrev start : tie.After-input-verdict Inv-loop μ-loop → tie.Start Inv-loop μ-loop
-start c = c .before .before .before .before .before .before .before .before .before .before
+start c = c .before .before .before .before .before .before .before .before .before .before .before .before .before
 
 abbrev scene : tie.Start Inv-loop μ-loop → Scene
 scene s = let a = s .args in sceneOf (a .scene) (now (a .kinds)) (now (a .covers)) (now (a .cubes))
 
 abbrev lists : tie.Start Inv-loop μ-loop → Lists
-lists s = let a = s .args in listsOf (now (a .vertices)) (now (a .triangles)) (now (a .links)) (now (a .slots))
+lists s = let a = s .args in listsOf (verticesOf (now (a .positions)) (now (a .normals)) (now (a .uvs)) (now (a .colours))) (now (a .triangles)) (now (a .links)) (now (a .slots))
 
 -- nothing but the room is left to refuse
 passed : (c : tie.After-enum-told Inv-loop μ-loop) →
@@ -116,7 +118,7 @@ quads-are c =
     ∙ found-asked (scene s) (now (s .args .outer)) (now (s .args .grid)) (isCulling (s .args .algorithm)) _ _ (by c .before .is-culling .ensures) (outer-is c)
 
 room-is : (c : tie.After-room-of Inv-loop μ-loop) → let s = begin (c .before .before) in c .room-of .result ≡ room (scene s) (lists s)
-room-is c = let s = begin (c .before .before) in c .room-of .ensures (lists s) (record { vertices = refl; triangles = refl; links = refl; slots = refl })
+room-is c = let s = begin (c .before .before) in c .room-of .ensures (lists s) (record { positions = refl; normals = refl; uvs = refl; colours = refl; triangles = refl; links = refl; slots = refl })
 
 -- ---- from there on: there is room
 
@@ -138,7 +140,7 @@ module _ (l : tie.Else1 Inv-loop μ-loop) (c : ℕ) (h : c ≤ cells (scene (beg
       let q = counted l in
       omega (arith, q .count-quads .ensures, asked-le (sets q) c (cells (scene (begin q) .size)) 0 h)
 
-  vertices-room : let s = begin (counted l) in span (scene s) * asked (sets (counted l)) 0 c ≤ length (now (s .args .vertices))
+  vertices-room : let s = begin (counted l) in Long (s .args .scene .coloured) (asked (sets (counted l)) 0 c) (lists s .vertices)
   vertices-room = let s = begin (counted l) in room-for (scene s) (lists s) (asked (sets (counted l)) 0 c) (omega (arith, below, fits l)) .vertices
 
   links-room : let s = begin (counted l) in asked (sets (counted l)) 0 c ≤ length (now (s .args .links))
@@ -358,7 +360,7 @@ length-listed k = length-take-le (k .index-row .result) (k .index-row .last .1 .
 
 vertex-row-requires : tie.Need-vertex-row-requires Inv-loop μ-loop
 vertex-row-requires c κs =
-    let k = c .before .before .before .before .before .before .before in
+    let k = c .before .before .before .before .before .before .before .before .before .before in
     let r = told k in
     let i = turn r in
     let q = done-with i in
@@ -370,22 +372,23 @@ vertex-row-requires c κs =
     let all = subst (All (Side (sceneOf (a .scene) [] [] (now (a .cubes))) (from r))) (sym (k .index-row .ensures .1 .sides))
     (all-sides (a .scene) (now (a .kinds)) (now (a .covers)) (now (a .cubes)) g (from r) (row-faces r) (sides-are r)) in
     let kept = kept-vertices _ _ _ _ _ _ (l .inv .2) (vertices-room (roomy i) (from r) (omega (arith, e))) in
+    let now-in : Vertices = verticesOf (l .positions) (l .normals) (l .uvs) (l .colours) in
     let n : l .base + length (listed k) ≡ asked (sets q) 0 (from r + width r) = omega (arith, length-listed k, result-is k, after-is r) in (
       known (typed (counting q)) .within,
       row i,
       λ j h. all-at (Side (sceneOf (a .scene) [] [] (now (a .cubes))) (from r)) (listed k) j 0 all h,
-      subst (λ (m : ℕ). span (scene s) * m ≤ length (l .vertices)) (sym n) (omega (arith, vertices-room (roomy i) (from r + width r) e, kept)),
+      subst (λ (m : ℕ). Long (a .scene .coloured) m now-in) (sym n) (alike-long (a .scene .coloured) (lists s .vertices) now-in _ kept (vertices-room (roomy i) (from r + width r) e)),
       omega (arith, length-listed k, result-is k, few-after r),
     )
 
 loop-less : tie.Need-loop-less Inv-loop μ-loop
 loop-less c =
-    let i = turn (told (c .before .before .before .before .before .before .before .before .before .before .before)) in
+    let i = turn (told (c .before .before .before .before .before .before .before .before .before .before .before .before .before .before .before .before .before .before .before .before)) in
     omega (arith, c .next .ensures .0, row i .inside, known (typed (counting (done-with i))) .within .sides .wide)
 
 loop-again : tie.Need-loop-again Inv-loop μ-loop
 loop-again c =
-    let k = c .before .before .before .before .before .before .before .before .before .before .before in
+    let k = c .before .before .before .before .before .before .before .before .before .before .before .before .before .before .before .before .before .before .before .before in
     let r = told k in
     let i = turn r in
     let s = begin (done-with i) in
@@ -393,23 +396,22 @@ loop-again c =
     let e = c .next .ensures .0 in (
       omega (arith, e, ends i),
       c .next .ensures .1,
-      rw e (row-more _ _ _ _ _ _ (width r) (l .inv .2) (result-is k) (keys-are r) (all-in-row (scene s) (now (s .args .grid)) (from r) (row-faces r) (sides-are r)) (k .index-row .ensures .1) (c .before .before .before .vertex-row .ensures)),
+      rw e (row-more _ _ _ _ _ _ (width r) (l .inv .2) (result-is k) (keys-are r) (all-in-row (scene s) (now (s .args .grid)) (from r) (row-faces r) (sides-are r)) (k .index-row .ensures .1) (c .before .before .before .before .before .before .before .before .before .vertex-row .ensures)),
       r .side-row .kept .0 ∙ l .inv .3,
       kept-list k,
     )
 
-same-length : tie.Need-same-length Inv-loop μ-loop
-same-length c =
-    let l = c .before .loop in
-    kept-vertices _ _ _ _ _ _ (l .inv .2) (vertices-room (c .before .before .before .before .before .before .before .before .before .before .before .before .before) (l .row .first) (l .inv .0))
+-- the attributes' lists are as long as they were
+lengths : (c : tie.After-loop Inv-loop μ-loop) → let l = c .before .loop in Alike (verticesOf (l .positions) (l .normals) (l .uvs) (l .colours)) (lists (begin (counted (c .before .before .before .before .before .before .before .before .before .before .before .before .before))) .vertices)
+lengths c = let l = c .before .loop in kept-vertices _ _ _ _ _ _ (l .inv .2) (vertices-room (c .before .before .before .before .before .before .before .before .before .before .before .before .before) (l .row .first) (l .inv .0))
 
-same-length-3 : tie.Need-same-length-3 Inv-loop μ-loop
-same-length-3 c =
+same-length-6 : tie.Need-same-length-6 Inv-loop μ-loop
+same-length-6 c =
     let l = c .before .loop in
     kept-links _ _ _ _ _ _ (l .inv .2) (links-room (c .before .before .before .before .before .before .before .before .before .before .before .before .before) (l .row .first) (l .inv .0))
 
-same-length-4 : tie.Need-same-length-4 Inv-loop μ-loop
-same-length-4 c = let l = c .before .loop in kept-slots _ _ _ _ _ _ (l .inv .2) ∙ slots-kept (c .before .before .before .before .before .before .before .before .before)
+same-length-7 : tie.Need-same-length-7 Inv-loop μ-loop
+same-length-7 c = let l = c .before .loop in kept-slots _ _ _ _ _ _ (l .inv .2) ∙ slots-kept (c .before .before .before .before .before .before .before .before .before)
 
 returns-3 : tie.Need-returns-3 Inv-loop μ-loop
 returns-3 c =
@@ -437,8 +439,9 @@ mesh-grid-spec =
     (λ c. sym (c .before .before .before .before .before .before .before .before .loop .inv .4))
     (λ c. long-enough (c .before .before .before .before .before))
     (λ c. let r = c .before .before .before .before .before .before in sym (length-take-le _ (r .side-row .last .0) (long-enough r)))
-    index-row-requires (λ c. within-list (c .before .before .before .before .before .before))
-    (λ c. sym (length-listed (c .before .before .before .before .before .before .before))) vertex-row-requires
-    (λ c. let k = c .before .before .before .before .before .before .before .before .before .before in omega (arith, result-is k, few-after (told k)))
-    (λ c κs. let i = turn (told (c .before .before .before .before .before .before .before .before .before .before)) in (known (typed (counting (done-with i))) .within, row i))
-    loop-less loop-again same-length (λ c. search needs) same-length-3 same-length-4 returns-3)
+    index-row-requires (λ c. within-list (c .before .before .before .before .before .before .before .before .before))
+    (λ c. sym (length-listed (c .before .before .before .before .before .before .before .before .before .before))) vertex-row-requires
+    (λ c. let k = c .before .before .before .before .before .before .before .before .before .before .before .before .before .before .before .before .before .before .before in omega (arith, result-is k, few-after (told k)))
+    (λ c κs. let i = turn (told (c .before .before .before .before .before .before .before .before .before .before .before .before .before .before .before .before .before .before .before)) in (known (typed (counting (done-with i))) .within, row i))
+    loop-less loop-again (λ c. lengths c .positions) (λ c. lengths c .normals) (λ c. lengths c .uvs) (λ c. lengths c .colours) (λ c. search needs) same-length-6
+    same-length-7 returns-3)

@@ -1,8 +1,13 @@
--- `quads::quad_word` meets its contract. Assumes nothing.
+-- `quads::quad_word` meets its contract: a position is moved, any other attribute is copied. Assumes nothing.
+use mathlib.Core.Path.{_≡_, sym, ap, _∙_}
+use Prim.Native.Nat.{ℕ, _+_, _≤_, _<_}
+use native.Mathlib.Omega.{arith}
 use borrow.Author.Needs.{needs}
 use borrow.Author.Tests.{lt-ltb, le-ltb}
-use Prim.Native.Nat.{_<_}
 use Rattle.rules.specs.Types.{quadWord}
+use Rattle.rules.specs.Mesh as rules
+use Rattle.vav.specs.Attributes.{attributeOf}
+use Rattle.vav.proofs.Attributes.{is-first, is-past, few-floats}
 use Rattle.quads.proofs.Writing.{corner-below, low-along, finite-along}
 use Rattle.quads.proofs.quad_word.Statement.{statement}
 use Rattle.quads.proofs.quad_word.Tie as tie
@@ -10,17 +15,24 @@ use Rattle.quads.proofs.quad_word.Tie as tie
 within : (c : tie.After-vertex-of) → c .vertex-of .result < 24
 within c =
     let t = c .before .before in
-    rw (c .vertex-of .ensures) (corner-below (t .args .face) (t .args .i) (t .pre .1))
+    rw (c .vertex-of .ensures) (corner-below (t .args .face) (t .args .i) (t .pre .2))
 
-word-of-requires : tie.Need-word-of-requires
-word-of-requires c κs = let t = c .before .before in (t .pre .0 .words, within c, t .pre .2)
+-- ---- a position
+module _ (c : tie.Then1) where
+  abbrev placing : tie.Start
+  placing = c .before .before .before .before
+
+  first : (attributeOf (placing .args .attribute)) .start ≡ 0
+  first = sym (c .before .start .ensures) ∙ c .if1 .taken
+
+  below : placing .args .k < 3
+  below = let w = ap (λ (a : rules.Attribute). a .width) (is-first (placing .args .attribute) first) in omega (arith, placing .pre .3)
 
 moved-word-requires : tie.Need-moved-word-requires
 moved-word-requires c κs =
-    let arm = c .before .before in
-    let found = arm .before .before in
-    let t = found .before .before in (
-      rw (arm .before .word-of .ensures) (t .pre .0 .placed _ _ (within found) (arm .if1 .taken)),
+    let arm = c .before .before .before in
+    let t = placing arm in (
+      rw (c .before .before .word-of .ensures) (t .pre .0 .placed _ _ (within (arm .before .before)) (below arm)),
       rw (c .before .coordinate .ensures) (low-along (t .pre .0) (t .args .k)),
       rw (c .along .ensures) (finite-along (t .pre .0) (t .args .k)),
     )
@@ -28,21 +40,33 @@ moved-word-requires c κs =
 returns : tie.Need-returns
 unfolding quadWord
 returns c =
-    let arm = c .before .before .before in
-    simp (
+    let arm = c .before .before .before .before in
+    let t = placing arm in
+    let k : (attributeOf (t .args .attribute)) .start + t .args .k ≡ t .args .k = omega (arith, first arm) in
+    rw k
+    (simp (
       c .moved-word .ensures,
       c .before .along .ensures,
       c .before .before .coordinate .ensures,
-      arm .before .word-of .ensures,
+      c .before .before .before .word-of .ensures,
       arm .before .before .vertex-of .ensures,
-      lt-ltb _ _ (arm .if1 .taken),
-    )
+      lt-ltb _ _ (below arm),
+    ))
 
+-- ---- any other attribute
 returns-2 : tie.Need-returns-2
 unfolding quadWord
-returns-2 c = simp (c .before .word-of .ensures, c .before .before .vertex-of .ensures, le-ltb _ _ (c .if1 .left))
+returns-2 c =
+    let arm = c .before .before in
+    let t = arm .before .before .before .before in
+    let past = is-past (t .args .attribute) (λ e. arm .if1 .left (arm .before .start .ensures ∙ e)) in
+    let far : 3 ≤ (attributeOf (t .args .attribute)) .start + t .args .k = omega arith in
+    simp (c .word-of2 .ensures, c .before .start2 .ensures, arm .before .before .vertex-of .ensures, le-ltb _ _ far)
 
 pub quad-word-spec : {M : Type 1} → statement M
 quad-word-spec =
     tie.close
-    (tie.spec (λ c κs. search needs) word-of-requires (λ c κs. search needs) (λ c κs. search needs) moved-word-requires returns returns-2)
+    (tie.spec (λ c κs. search needs) (λ c κs. search needs) (λ c κs. let t = placing c in (t .pre .0 .words, within (c .before .before), omega (arith, t .pre .1, t .pre .3)))
+    (λ c κs. search needs) (λ c κs. search needs) moved-word-requires returns (λ c κs. search needs)
+    (λ c. let t = c .before .before .before .before .before in omega (arith, c .start2 .ensures, few-floats (t .args .attribute), t .pre .3))
+    (λ c κs. let t = c .before .before .before .before .before in (t .pre .0 .words, within (c .before .before .before), omega (arith, c .start2 .ensures, t .pre .1, t .pre .3))) returns-2)

@@ -1,5 +1,5 @@
 -- `release::check_made` meets its contract: by its answer. Assumes nothing.
-use Rattle.rules.specs.Mesh.{Lists, listsOf}
+use Rattle.rules.specs.Mesh.{Lists, verticesOf, listsOf}
 use Rattle.rules.specs.Calls.{Scene}
 use Rattle.terms.specs.Scenes.{sceneOf}
 use Rattle.release.proofs.Composed.{by-check, by-refusal}
@@ -11,10 +11,10 @@ abbrev scene : tie.Start → Scene
 scene t = let a = t .args in sceneOf (a .scene) (a .kinds .now) (a .covers .now) (a .cubes .now)
 
 abbrev lists : tie.Start → Lists
-lists t = let a = t .args in listsOf (a .vertices .now) (a .triangles .now) (a .links .now) (a .slots .now)
+lists t = let a = t .args in listsOf (verticesOf (a .positions .now) (a .normals .now) (a .uvs .now) (a .colours .now)) (a .triangles .now) (a .links .now) (a .slots .now)
 
 abbrev start : tie.After-made → tie.Start
-start m = m .before .before .before .before .before .before .before .before .before .before .before
+start m = m .before .before .before .before .before .before .before .before .before .before .before .before .before .before
 
 returns : tie.Need-returns
 returns c =
@@ -24,7 +24,7 @@ returns c =
 
 returns-2 : tie.Need-returns-2
 returns-2 c =
-    let t = c .before .before .before .before .before .before .before .before .before .before .before .before in
+    let t = c .before .before .before .before .before .before .before .before .before .before .before .before .before .before .before in
     by-refusal (t .args .made) (c .before .made2 .given .0 .0) (c .before .made2 .given .0 .1 .0) (scene t) (t .args .outer .now) (t .args .grid .now) (lists t)
     (c .before .made2 .given .1)
 

@@ -5,10 +5,10 @@ use Rattle.trials_run.proofs.is_lent_whole.Statement.{statement}
 use Rattle.trials_run.proofs.is_lent_whole.Tie as tie
 
 abbrev Inv-loop : tie.InvT-loop
-Inv-loop trial base list₀ list = list ≤ 8
+Inv-loop trial base list₀ list = list ≤ 11
 
 abbrev μ-loop : tie.MeasureT-loop
-μ-loop trial base list₀ list = 8 - list
+μ-loop trial base list₀ list = 11 - list
 
 pub is-lent-whole-spec : {M : Type 1} → statement M
 is-lent-whole-spec =

@@ -5,7 +5,7 @@ use Rattle.trials_run.proofs.start_of.Statement.{statement}
 use Rattle.trials_run.proofs.start_of.Tie as tie
 
 abbrev Inv-loop : tie.InvT-loop
-Inv-loop base list start₀ k₀ start k = (k ≤ list) × (list ≤ 8) × (start ≤ 19 + 4294967296 * k)
+Inv-loop base list start₀ k₀ start k = (k ≤ list) × (list ≤ 11) × (start ≤ 22 + 4294967296 * k)
 
 abbrev μ-loop : tie.MeasureT-loop
 μ-loop base list start₀ k₀ start k = list - k

@@ -1,34 +1,38 @@
 -- `update::run_log` meets its contract: entry by entry, the lists are the layout of the rule's mesh. Assumes nothing.
 use mathlib.Core.Path.{_≡_, refl, sym, ap, _∙_, subst}
-use mathlib.Core.List.{List}
-use Prim.Native.Nat.{ℕ, _-_, _/_, _≤_, _<_}
+use mathlib.Core.List.{List, [], _∷_}
+use Prim.Native.Nat.{ℕ, _+_, _-_, _*_, _/_, _≤_, _<_}
 use native.Mathlib.Omega.{arith}
 use lib.Dec.{leb}
-use lib.ListN.{length}
+use lib.ListN.{length, take}
+use lib.Seq.{getD-take, length-take-le}
 use borrow.Author.Tests.{leb-true, leb-false}
+use Rattle.rules.specs.Mesh.{verticesOf}
 use Rattle.rules.specs.Update.{Tested, Work, entryAt, work, needed}
-use Rattle.rules.specs.Calls.{Scene, world, span}
-use Rattle.rules.proofs.ListLaws.{length-table, not-true, not-false}
+use Rattle.rules.specs.Calls.{Scene, world}
+use Rattle.rules.proofs.ListLaws.{length-table, each-same, not-true, not-false}
 use Rattle.terms.specs.Modes.{testedBy}
 use Rattle.terms.specs.Scenes.{sceneOf}
-use Rattle.steps.specs.Steps.{Step, Deed, shelf, stepAt, replayed}
-use Rattle.steps.specs.Rows.{wordsBy, Replaying}
+use Rattle.steps.specs.Steps.{Step, Deed, stepIn, stepAt, stepsIn}
+use Rattle.steps.specs.Rows.{runAll, ReplayingAll}
+use Rattle.drawing.proofs.Lengths.{Alike}
 use Rattle.entries.specs.Log.{entryIn}
 use Rattle.works.specs.Sets.{setIn, packed, deeds}
 use Rattle.indexing.specs.Index.{Index, indexOf, indexRun, Ready}
 use Rattle.update.proofs.Drawing.{bare}
-use Rattle.update.proofs.Running.{indexAt, Running, Found, run-start, run-inside, run-gridded, run-dues, run-small, run-room, run-ready, run-few, run-replaying, run-on, run-full, run-through, run-ended}
+use Rattle.update.proofs.Running.{indexAt, Running, Found, run-start, run-lengths, run-inside, run-gridded, run-dues, run-small, run-room, run-ready, run-few, run-replaying, run-on, run-full, run-through, run-ended}
 use borrow.Author.Needs.{needs}
 use Rattle.update.proofs.run_log.Statement.{statement}
 use Rattle.update.proofs.run_log.Tie as tie
 
 abbrev Inv-loop : tie.InvT-loop
-Inv-loop vertices₀ links₀ slots₀ kinds covers cubes log task scene tested inverse entries steps₀ quads₀ moved₀ highest₀ k₀ vertices links slots steps quads moved highest k =
-    Running (testedBy (task .tested)) (sceneOf (task .scene) kinds covers cubes) (task .room) log vertices₀ links₀ (task .quads) k highest vertices links slots quads moved
-    × (length vertices ≡ length vertices₀) × (length links ≡ length links₀) × (length slots ≡ length slots₀) × (length steps ≡ 48)
+Inv-loop positions₀ normals₀ uvs₀ colours₀ links₀ slots₀ kinds covers cubes log task scene tested inverse entries steps₀ quads₀ moved₀ highest₀ k₀ positions normals uvs colours links slots steps quads moved highest k =
+    Running (testedBy (task .tested)) (sceneOf (task .scene) kinds covers cubes) (task .room) log (verticesOf positions₀ normals₀ uvs₀ colours₀) links₀ (task .quads) k highest
+    (verticesOf positions normals uvs colours) links slots quads moved
+    × (length links ≡ length links₀) × (length slots ≡ length slots₀) × (length steps ≡ 48)
 
 abbrev μ-loop : tie.MeasureT-loop
-μ-loop vertices₀ links₀ slots₀ kinds covers cubes log task scene tested inverse entries steps₀ quads₀ moved₀ highest₀ k₀ vertices links slots steps quads moved highest k =
+μ-loop positions₀ normals₀ uvs₀ colours₀ links₀ slots₀ kinds covers cubes log task scene tested inverse entries steps₀ quads₀ moved₀ highest₀ k₀ positions normals uvs colours links slots steps quads moved highest k =
     length log / 12 - k
 
 abbrev scene-of : tie.Start Inv-loop μ-loop → Scene
@@ -38,7 +42,7 @@ abbrev side : tie.Start Inv-loop μ-loop → Tested
 side t = testedBy (t .args .task .tested)
 
 abbrev begun : tie.In-loop Inv-loop μ-loop → tie.Start Inv-loop μ-loop
-begun i = i .before .before .before .before .before .before .before .before .before .before .before
+begun i = i .before .before .before .before .before .before .before .before .before .before .before .before .before .before
 
 -- ---- the entry at hand
 abbrev looped : tie.After-keys-around Inv-loop μ-loop → tie.In-loop Inv-loop μ-loop
@@ -74,10 +78,10 @@ asked c =
     c .has-room .ensures ∙ run-room (side t) (t .pre) (i .before .loop .inv .0) (found (c .before))
 
 inverted-requires : tie.Need-inverted-requires Inv-loop μ-loop
-inverted-requires c κs = c .before .before .before .before .before .before .before .before .pre .within .sides
+inverted-requires c κs = c .before .before .before .before .before .before .before .before .before .before .before .pre .within .sides
 
 loop-holds : tie.Need-loop-holds Inv-loop μ-loop
-loop-holds c = let t = c .before .before .before .before .before .before .before .before .before in (run-start (side t) (t .pre), refl, refl, refl, refl)
+loop-holds c = let t = c .before .before .before .before .before .before .before .before .before .before .before .before in (run-start (side t) (t .pre), refl, refl, refl)
 
 read-entry-requires : tie.Need-read-entry-requires Inv-loop μ-loop
 read-entry-requires c κs = let h = c .loop-test .taken in omega arith
@@ -113,7 +117,7 @@ fits : (c : tie.Else1 Inv-loop μ-loop) → needs-now (c .before .before) ≤ ro
 fits c = leb-true _ _ (sym (asked (c .before)) ∙ not-true _ (c .if1 .left))
 
 slice-aggregate-index-work : tie.Need-slice-aggregate-index-work Inv-loop μ-loop
-slice-aggregate-index-work c = sym (looped (keyed (c .before .before .before .before .before)) .before .loop .inv .4)
+slice-aggregate-index-work c = sym (looped (keyed (c .before .before .before .before .before)) .before .loop .inv .3)
 
 -- the test that it passed
 abbrev passed : tie.After-word Inv-loop μ-loop → tie.Else1 Inv-loop μ-loop
@@ -137,7 +141,7 @@ index-work-requires c κs =
     let l = i .before .loop in
     let few = dues w in (
       omega (arith, c .word .ensures, few 0, few 1, few 2, few 3),
-      subst (λ (n : ℕ). Ready (length (l .steps)) (doing w n) (index w)) (sym (c .word .ensures)) (run-ready (side t) (t .pre) (l .inv .0) (found w) (fits (passed c)) (l .steps) (l .inv .4)),
+      subst (λ (n : ℕ). Ready (length (l .steps)) (doing w n) (index w)) (sym (c .word .ensures)) (run-ready (side t) (t .pre) (l .inv .0) (found w) (fits (passed c)) (l .steps) (l .inv .3)),
     )
 
 -- what the index is then
@@ -146,33 +150,59 @@ worked : (c : tie.After-index-work Inv-loop μ-loop) →
     indexOf (c .index-work .last .0) (c .index-work .last .1 .0) (c .index-work .last .1 .1 .0) (c .index-work .result) ≡ indexRun (doing w (packed (w .due-work .result))) (index w)
 worked c = let w = due (c .before) in c .index-work .ensures ∙ ap (λ (n : ℕ). indexRun (doing w n) (index w)) (c .before .word .ensures)
 
-slice-aggregate-replay : tie.Need-slice-aggregate-replay Inv-loop μ-loop
-slice-aggregate-replay c =
-    let went = c .before .before .before .before .before .before .before in
-    sym (went .index-work .kept .1 .1 .0 ∙ looped (keyed (due (went .before))) .before .loop .inv .4)
+-- the steps that the entry took
+module _ (went : tie.After-index-work Inv-loop μ-loop) where
+  abbrev start : tie.Start Inv-loop μ-loop
+  start = begun (looped (keyed (due (went .before))))
 
-replay-requires : tie.Need-replay-requires Inv-loop μ-loop
-replay-requires c κs =
-    let went = c .before .before .before .before .before .before .before in
-    let test = passed (went .before) in
+  -- as many as the index says, and all of the list
+  abbrev taken : ℕ
+  taken = went .index-work .result .steps
+
+  abbrev list : List ℕ
+  list = went .index-work .last .1 .1 .0
+
+  all-long : length list ≡ 48
+  all-long = went .index-work .kept .1 .1 .0 ∙ looped (keyed (due (went .before))) .before .loop .inv .3
+
+  few : 2 * taken ≤ 48
+  few =
+      let w = due (went .before) in
+      let l = looped (keyed w) .before .loop in
+      let is = ap (λ (I : Index). I .steps) (worked went) in
+      let f = run-few (side start) (start .pre) (l .inv .0) (found w) (fits (passed (went .before))) (l .steps) (l .inv .3) in
+      let n = length-table (stepAt list) taken in
+      omega (arith, ap length is, n, f, l .inv .3)
+
+  lent : length (take (2 * taken) list) ≡ 2 * taken
+  lent = length-take-le (2 * taken) list (omega (arith, few, all-long))
+
+  -- the part that is lent has them
+  steps-lent : stepsIn (length (take (2 * taken) list) / 2) (take (2 * taken) list) ≡ stepsIn taken list
+  steps-lent =
+      let n : length (take (2 * taken) list) / 2 ≡ taken = ap (λ (k : ℕ). k / 2) lent ∙ omega arith in
+      rw n (each-same taken 0 (λ i. stepAt (take (2 * taken) list) i ∷ []) (λ i. stepAt list i ∷ [])
+      (λ i _ h. let a = getD-take (2 * taken) list (2 * i) 0 (omega arith) in let b = getD-take (2 * taken) list (2 * i + 1) 0 (omega arith) in λ j. stepIn (a j) (b j) ∷ []))
+
+  steps-are : stepsIn (length (take (2 * taken) list) / 2) (take (2 * taken) list) ≡ (indexRun (doing (due (went .before)) (packed (due (went .before) .due-work .result))) (index (due (went .before)))) .steps
+  steps-are = steps-lent ∙ ap (λ (I : Index). I .steps) (worked went)
+
+replay-steps-requires : tie.Need-replay-steps-requires Inv-loop μ-loop
+replay-steps-requires c κs =
+    let went = c .before .before .before .before .before .before .before .before .before .before .before in
     let w = due (went .before) in
     let i = looped (keyed w) in
     let t = begun i in
-    let l = i .before .loop in
-    let is = ap (λ (I : Index). I .steps) (worked went) in
-    let few = run-few (side t) (t .pre) (l .inv .0) (found w) (fits test) (l .steps) (l .inv .4) in
-    let n = length-table (stepAt (went .index-work .last .1 .1 .0)) (went .index-work .result .steps) in
-    let long = went .index-work .kept .1 .1 .0 in (
-      omega (arith, ap length is, n, few, long),
-      subst (λ (xs : List Step). Replaying (bare (scene-of t)) xs (shelf (l .vertices) (l .quads))) (sym is)
-          (run-replaying (side t) (t .pre) (l .inv .0) (found w) (fits test) (l .steps) (l .inv .4) (l .inv .1)),
+    let l = i .before .loop in (
+      subst (λ (xs : List Step). ReplayingAll (bare (scene-of t)) xs (verticesOf (l .positions) (l .normals) (l .uvs) (l .colours)) (l .quads)) (sym (steps-are went))
+          (run-replaying (side t) (t .pre) (l .inv .0) (found w) (fits (passed (went .before))) (l .steps) (l .inv .3)),
       i .before .before .inverted .ensures,
     )
 
-abbrev drawn : tie.After-slice-known6 Inv-loop μ-loop → tie.After-index-work Inv-loop μ-loop
-drawn c = c .before .before .before .before .before .before .before .before .before .before
+abbrev drawn : tie.After-slice-known12 Inv-loop μ-loop → tie.After-index-work Inv-loop μ-loop
+drawn c = c .before .before .before .before .before .before .before .before .before .before .before .before .before .before .before .before .before .before .before .before
 
-abbrev turned : tie.After-slice-known6 Inv-loop μ-loop → tie.In-loop Inv-loop μ-loop
+abbrev turned : tie.After-slice-known12 Inv-loop μ-loop → tie.In-loop Inv-loop μ-loop
 turned c = looped (keyed (due (drawn c .before)))
 
 add-k : tie.Need-add-k Inv-loop μ-loop
@@ -183,25 +213,35 @@ loop-less c = let h = turned c .loop-test .taken in omega arith
 
 loop-again : tie.Need-loop-again Inv-loop μ-loop
 loop-again c =
-    let drew = c .before .before in
     let went = drawn c in
     let w = due (went .before) in
     let i = turned c in
     let t = begun i in
-    let l = i .before .loop in
-    let S = bare (scene-of t) in
-    let is = ap (λ (I : Index). I .steps) (worked went) in (
-      run-on (side t) (t .pre) (l .inv .0) (found w) (fits (passed (went .before))) (l .steps) (l .inv .4) (worked went)
-          (drew .replay .ensures ∙ ap (λ (xs : List Step). replayed (span S) (wordsBy S) xs (shelf (l .vertices) (l .quads))) is),
-      drew .replay .kept .0 ∙ l .inv .1,
-      went .index-work .kept .0 ∙ l .inv .2,
-      went .index-work .kept .1 .0 ∙ l .inv .3,
-      went .index-work .kept .1 .1 .0 ∙ l .inv .4,
+    let l = i .before .loop in (
+      run-on (side t) (t .pre) (l .inv .0) (found w) (fits (passed (went .before))) (l .steps) (l .inv .3) (worked went)
+          (c .before .before .before .before .before .before .before .before .replay-steps .ensures ∙ ap (λ (xs : List Step). runAll (bare (scene-of t)) xs (l .quads) (verticesOf (l .positions) (l .normals) (l .uvs) (l .colours))) (steps-are went)),
+      went .index-work .kept .0 ∙ l .inv .1,
+      went .index-work .kept .1 .0 ∙ l .inv .2,
+      went .index-work .kept .1 .1 .0 ∙ l .inv .3,
     )
+
+-- the attributes' lists are as long as they were
+full : (c : tie.Then1 Inv-loop μ-loop) →
+    let i = looped (keyed (c .before .before)) in
+    let a = begun i .args in
+    let l = i .before .loop in
+    Alike (verticesOf (l .positions) (l .normals) (l .uvs) (l .colours)) (verticesOf (a .positions .now) (a .normals .now) (a .uvs .now) (a .colours .now))
+full c = let i = looped (keyed (c .before .before)) in let t = begun i in run-lengths (side t) (t .pre) (i .before .loop .inv .0)
+
+through : (c : tie.After-loop Inv-loop μ-loop) →
+    let a = c .before .before .before .before .before .before .before .before .before .before .before .before .before .before .args in
+    let l = c .before .loop in
+    Alike (verticesOf (l .positions) (l .normals) (l .uvs) (l .colours)) (verticesOf (a .positions .now) (a .normals .now) (a .uvs .now) (a .colours .now))
+through c = let t = c .before .before .before .before .before .before .before .before .before .before .before .before .before .before in run-lengths (side t) (t .pre) (c .before .loop .inv .0)
 
 returns-2 : tie.Need-returns-2 Inv-loop μ-loop
 returns-2 c =
-    let t = c .before .before .before .before .before .before .before .before .before .before .before in
+    let t = c .before .before .before .before .before .before .before .before .before .before .before .before .before .before in
     let r = c .before .loop .inv .0 in
     run-ended (side t) (t .pre) r (run-through (side t) (t .pre) r (let h = c .loop-test .left in omega arith))
 
@@ -209,6 +249,9 @@ pub run-log-spec : {M : Type 1} → statement M
 run-log-spec =
     tie.close
     (tie.spec Inv-loop μ-loop inverted-requires loop-holds read-entry-requires (λ c κs. search needs) keys-around-requires due-work-requires has-room-requires
+    (λ c. full c .positions) (λ c. full c .normals) (λ c. full c .uvs) (λ c. full c .colours)
     (λ c. looped (keyed (c .before .before)) .before .loop .inv .1) (λ c. looped (keyed (c .before .before)) .before .loop .inv .2)
-    (λ c. looped (keyed (c .before .before)) .before .loop .inv .3) returns slice-aggregate-index-work (λ c κs. dues (c .before .before .before .before .before .before)) index-work-requires slice-aggregate-replay replay-requires
-    add-k loop-less loop-again (λ c. c .before .loop .inv .1) (λ c. c .before .loop .inv .2) (λ c. c .before .loop .inv .3) returns-2)
+    returns slice-aggregate-index-work (λ c κs. dues (c .before .before .before .before .before .before)) index-work-requires
+    (λ c. omega (arith, few (c .before .before .before .before .before .before))) (λ c. omega (arith, few (c .before .before .before .before .before .before .before .before .before .before))) (λ c. sym (lent (c .before .before .before .before .before .before .before .before .before .before .before))) replay-steps-requires
+    add-k loop-less loop-again (λ c. through c .positions) (λ c. through c .normals) (λ c. through c .uvs) (λ c. through c .colours)
+    (λ c. c .before .loop .inv .1) (λ c. c .before .loop .inv .2) returns-2)

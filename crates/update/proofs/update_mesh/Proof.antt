@@ -5,7 +5,7 @@ use native.Mathlib.Omega.{arith}
 use lib.ListN.{length}
 use lib.Seq.{length-take-le}
 use Rattle.rules.specs.Cells.{cells}
-use Rattle.rules.specs.Mesh.{Lists, listsOf}
+use Rattle.rules.specs.Mesh.{verticesOf, Lists, listsOf}
 use Rattle.rules.specs.Answers.{Verdict, fine, refuse, _then_, BAD-LINKS, BAD-TRIANGLES, BAD-ENTRY}
 use Rattle.rules.specs.Calls.{Scene, answered, bookVerdict, updateVerdict}
 use Rattle.rules.proofs.Checking.{then-fine}
@@ -29,7 +29,7 @@ abbrev scene : tie.Start → Scene
 scene t = let a = t .args in sceneOf (a .scene) (a .kinds .now) (a .covers .now) (a .cubes .now)
 
 abbrev lists : tie.Start → Lists
-lists t = let a = t .args in listsOf (a .vertices .now) (a .triangles .now) (a .links .now) (a .slots .now)
+lists t = let a = t .args in listsOf (verticesOf (a .positions .now) (a .normals .now) (a .uvs .now) (a .colours .now)) (a .triangles .now) (a .links .now) (a .slots .now)
 
 abbrev size : tie.Start → ℕ
 size t = cells ((scene t) .size)
@@ -51,10 +51,10 @@ halt b e f = e ∙ rw f
 
 -- ---- the verdict from each test on, and what a test that was passed says: 2, 3, 4, 6, 9 and 10
 abbrev asked : tie.After-told-verdict → tie.Start
-asked c = c .before .before .before .before .before .before .before .before .before
+asked c = c .before .before .before .before .before .before .before .before .before .before .before .before
 
 told-is : (c : tie.After-told-verdict) → let t = asked c in verdictOf (c .told-verdict .result) ≡ toldVerdict (scene t) (lists t) (t .args .quads)
-told-is c = c .told-verdict .ensures (lists (asked c)) (record { vertices = refl; triangles = refl; links = refl; slots = refl })
+told-is c = c .told-verdict .ensures (lists (asked c)) (record { positions = refl; normals = refl; uvs = refl; colours = refl; triangles = refl; links = refl; slots = refl })
 
 from-told : (c : tie.After-told-verdict) → let t = asked c in whole t ≡ (verdictOf (c .told-verdict .result) then bookVerdict (scene t) (lists t) (t .args .quads) then entries t)
 from-told c = rw (told-is c) (simp then-assoc)
@@ -81,7 +81,7 @@ linked c = c .before .before .before .before
 links-are : (c : tie.After-links-verdict) → let t = opened (linked c) in verdictOf (c .links-verdict .result) ≡ BAD-LINKS (size t) (lists t) (t .args .quads)
 links-are c =
     let t = opened (linked c) in
-    c .links-verdict .ensures (t .args .vertices .now) (t .args .triangles .now) ∙ ap (λ (n : ℕ). BAD-LINKS n (lists t) (t .args .quads)) (c .before .before .before .cell-count .ensures)
+    c .links-verdict .ensures (lists t .vertices) (t .args .triangles .now) ∙ ap (λ (n : ℕ). BAD-LINKS n (lists t) (t .args .quads)) (c .before .before .before .cell-count .ensures)
 
 from-links : (c : tie.After-links-verdict) → let t = opened (linked c) in whole t ≡ (verdictOf (c .links-verdict .result) then BAD-TRIANGLES (lists t) (t .args .quads) then entries t)
 from-links c = rw (links-are c) (past (from-told (linked c .before .before)) (ap verdictOf (linked c .enum-told .given .1)) ∙ then-assoc _ _ _)
@@ -92,8 +92,9 @@ patterned c = c .before .before .before .before
 
 from-triangles : (c : tie.After-triangles-verdict) → let t = opened (linked (patterned c)) in whole t ≡ (verdictOf (c .triangles-verdict .result) then entries t)
 from-triangles c =
-    let a = opened (linked (patterned c)) .args in
-    rw (c .triangles-verdict .ensures (a .vertices .now) (a .links .now) (a .slots .now)) (past (from-links (patterned c)) (ap verdictOf (c .before .before .enum-told2 .given .1)))
+    let t = opened (linked (patterned c)) in
+    let a = t .args in
+    rw (c .triangles-verdict .ensures (lists t .vertices) (a .links .now) (a .slots .now)) (past (from-links (patterned c)) (ap verdictOf (c .before .before .enum-told2 .given .1)))
 
 -- 13
 abbrev entered : tie.After-entry-verdict → tie.After-triangles-verdict
@@ -118,7 +119,7 @@ begun c =
     record {
       accepted = from-entries e ∙ ap verdictOf (c .before .enum-told4 .given .1);
       lent = ap (λ (n : ℕ). 6 * n) ((patterned (entered e)) .before .before .before .cell-count .ensures);
-      found = c .room-of .ensures (lists (read e)) (record { vertices = refl; triangles = refl; links = refl; slots = refl });
+      found = c .room-of .ensures (lists (read e)) (record { positions = refl; normals = refl; uvs = refl; colours = refl; triangles = refl; links = refl; slots = refl });
     }
 
 links-verdict-requires : tie.Need-links-verdict-requires
@@ -139,20 +140,20 @@ cast-entry-verdict c =
 
 mend-patterns-requires : tie.Need-mend-patterns-requires
 mend-patterns-requires c κs =
-    let went = c .before .before .before .before .before .before .before .before in
-    mend-ready (begun (went .before .before .before .before)) (went .run-log .ensures)
+    let went = c .before .before .before .before .before .before .before .before .before .before .before .before .before .before in
+    mend-ready (begun (went .before .before .before .before .before .before .before)) (went .run-log .ensures)
 
 returns-5 : tie.Need-returns-5
 returns-5 c =
     let mended = c .before .before .before .before in
-    let went = mended .before .before .before .before .before .before .before .before .before in
-    ended-so (begun (went .before .before .before .before)) (went .run-log .ensures) answered refl (ap fullAt (c .enum-told5 .given .1)) (mended .mend-patterns .ensures)
+    let went = mended .before .before .before .before .before .before .before .before .before .before .before .before .before .before .before in
+    ended-so (begun (went .before .before .before .before .before .before .before)) (went .run-log .ensures) answered refl (ap fullAt (c .enum-told5 .given .1)) (mended .mend-patterns .ensures)
 
 returns-6 : tie.Need-returns-6
 returns-6 c =
     let mended = c .before .before .before .before .before in
-    let went = mended .before .before .before .before .before .before .before .before .before in
-    ended-so (begun (went .before .before .before .before)) (went .run-log .ensures) (λ q v. record { number = 14; place = c .before .end .given .0 .0; quads = q; moved = v }) refl
+    let went = mended .before .before .before .before .before .before .before .before .before .before .before .before .before .before .before in
+    ended-so (begun (went .before .before .before .before .before .before .before)) (went .run-log .ensures) (λ q v. record { number = 14; place = c .before .end .given .0 .0; quads = q; moved = v }) refl
     (ap fullAt (c .before .end .given .1)) (mended .mend-patterns .ensures)
 
 pub update-mesh-spec : {M : Type 1} → statement M
@@ -166,6 +167,6 @@ update-mesh-spec =
     cast-entry-verdict (λ c κs. search needs) (λ c. search needs) (λ c. search needs) (λ c. search needs) (λ c. search needs)
     (λ c. rw (from-entries (c .before .before .before) ∙ ap verdictOf (c .before .entered .given .1))) (λ c. search needs)
     (λ c κs. search needs) (λ c. search needs) (λ c. search needs) (λ c. lent-ends (begun c)) (λ c. sym (length-take-le _ _ (lent-ends (begun (c .before)))))
-    (λ c κs. logging (begun (c .before .before .before))) mend-patterns-requires (λ c. search needs) (λ c. search needs)
-    (λ c. search needs) (λ c. search needs) (λ c. search needs) (λ c. search needs) returns-5
-    (λ c. search needs) (λ c. search needs) (λ c. search needs) (λ c. search needs) returns-6)
+    (λ c κs. logging (begun (c .before .before .before .before .before .before))) mend-patterns-requires (λ c. search needs) (λ c. search needs)
+    (λ c. search needs) (λ c. search needs) (λ c. search needs) (λ c. search needs) (λ c. search needs) (λ c. search needs) (λ c. search needs) returns-5
+    (λ c. search needs) (λ c. search needs) (λ c. search needs) (λ c. search needs) (λ c. search needs) (λ c. search needs) (λ c. search needs) returns-6)

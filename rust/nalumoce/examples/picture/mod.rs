@@ -10,9 +10,9 @@ pub fn obj(mesh: &Mesh) -> String {
     };
     let corner = |index: &u32| format!(" {0}/{0}/{0}", index + 1);
     let mut text = String::from("o chunk\n");
-    text.extend(mesh.positions().map(|position| vector("v", &position)));
-    text.extend(mesh.uvs().map(|uv| vector("vt", &uv)));
-    text.extend(mesh.normals().map(|normal| vector("vn", &normal)));
+    text.extend(mesh.positions().iter().map(|position| vector("v", position)));
+    text.extend(mesh.uvs().iter().map(|uv| vector("vt", uv)));
+    text.extend(mesh.normals().iter().map(|normal| vector("vn", normal)));
     text.extend(mesh.indices().chunks_exact(3).map(|triangle| format!("f{}\n", triangle.iter().map(corner).collect::<String>())));
     text
 }
@@ -26,13 +26,14 @@ const MARGIN: f32 = 12.0;
 /// A PNG with `scale` pixels to a unit of length; `colour` is asked for each quad. What looks away from the eye is not drawn, so that a
 /// missing face is a hole. The quads `marked` shine through what is before them.
 pub fn png(mesh: &Mesh, scale: f32, colour: impl Fn(usize) -> Colour, marked: &[usize]) -> Vec<u8> {
-    let seen: Vec<[f32; 3]> = mesh.positions().map(|position| project(position, scale)).collect();
+    let seen: Vec<[f32; 3]> = mesh.positions().iter().map(|&position| project(position, scale)).collect();
     let bound = |axis: usize, pick: fn(f32, f32) -> f32| seen.iter().map(|point| point[axis]).reduce(pick).unwrap_or(0.0);
     let (left, top) = (bound(0, f32::min) - MARGIN, bound(1, f32::min) - MARGIN);
     let (width, height) = (bound(0, f32::max) - left + MARGIN, bound(1, f32::max) - top + MARGIN);
     let mut image = Image::new(width.ceil() as usize, height.ceil() as usize);
     let corners = |quad: usize| [0, 1, 2].map(|i| 4 * quad + i).map(|i| [seen[i][0] - left, seen[i][1] - top, seen[i][2]]);
-    for (quad, normal) in mesh.normals().step_by(4).enumerate().filter(|(_, normal)| faces_the_eye(*normal)) {
+    let normals = mesh.normals().iter().copied().step_by(4);
+    for (quad, normal) in normals.enumerate().filter(|(_, normal)| faces_the_eye(*normal)) {
         image.draw(corners(quad), shaded(colour(quad), normal));
     }
     for &quad in marked {
