@@ -1,54 +1,33 @@
 -- WRONG_VERTEX, word by word. Assumes nothing.
 use mathlib.Core.Path.{_≡_, refl, sym, ap, subst, _∙_}
-use mathlib.Core.Bool.{Bool, true, false, cond, not, _&&_, _||_, true≢false}
+use mathlib.Core.Bool.{Bool, true, false, cond, not, _||_, true≢false}
 use mathlib.Core.List.{List}
 use Prim.Native.Nat.{ℕ, zero, suc, _+_, _-_, _*_, _≤_, _<_}
 use native.Mathlib.Nat.{mul-suc}
 use native.Mathlib.Numerals.{add-one}
 use native.Mathlib.Decide.{ℕ-discrete}
 use native.Mathlib.Omega.{arith}
-use lib.Dec.{T, eqb}
+use lib.Dec.{T}
 use lib.ListN.{length, getD, take, drop}
 use lib.Seq.{ext-getD}
-use Rattle.rules.specs.Lists.{part, row, every, lowest, same}
+use Rattle.rules.specs.Lists.{part, row, lowest, same}
 use Rattle.rules.specs.Cells.{Triple, coordinates, code, codeIn, cellIn}
 use Rattle.rules.specs.Floats.{finite3}
 use Rattle.rules.specs.Cube.{floatsOf}
 use Rattle.rules.specs.Types.{quadWord, quadWords}
 use Rattle.rules.specs.Mesh.{Attribute, position, normal, uv, colour, attributeIn, typeAt, Vertices, HasList, of-positions, of-normals, of-uvs, of-colours}
-use Rattle.rules.proofs.ListLaws.{split, both-ways, or-false, lowest-bad, every-true, every-all, same-true, same-refl, within}
+use Rattle.rules.proofs.ListLaws.{split, both-ways, or-false, lowest-bad, same-true, same-refl, within}
 use Rattle.rules.proofs.Searches.{Searched, searched, passed}
-use borrow.Author.Tests.{le-ltb, eqb-true, eq-eqb}
-use Rattle.face.specs.declared.Face.{Face}
-use Rattle.face.specs.declared.FoundFace.the-variants as Found
-use Rattle.face.specs.Face.{number, faceOfCode}
-use Rattle.face.proofs.Laws.{faceAt-below}
 use Rattle.util.specs.Grid.{sizeOf}
 use Rattle.rules.proofs.Neighbours.{inside-of}
 use Rattle.floats.specs.Triples.{tripleOf}
 use Rattle.voxel_mesh.proofs.Shapes.{row-within}
+use Rattle.rules.proofs.Attributes.{length-part}
 use Rattle.rules.proofs.Rows.{length-lent}
 use Rattle.terms.specs.declared.Scene.{Scene}
-use Rattle.quads.specs.Quads.{Has, Drawable}
-use Rattle.quads.proofs.Writing.{word-at, length-row-of}
+use Rattle.quads.specs.Quads.{cornersOf, Has, Corners}
+use Rattle.quads.proofs.Writing.{word-at, length-row-of, quad-of-corners, corners-end, corners-lent, drawable-corners}
 use Rattle.comparing.specs.Quads.{Linking, cubeAt, quadWordsAt, otherRow, otherQuad, IsQuad}
-
--- ---- the face of a code
-
-pub code-face : (k : ℕ) → k ≤ 5 → (f : Face) → faceOfCode k ≡ Found.Face f → number f ≡ code k
-code-face k h f e =
-    let below = faceAt-below (code k) (omega arith) in
-    let g = below .0 in
-    let is : Found.Face g ≡ Found.Face f = sym (below .1) ∙ (rw (le-ltb 5 k h) at e) in
-    let same : g ≡ f = cc in
-    ap number (sym same) ∙ below .2
-
-pub code-none : (k : ℕ) → k ≤ 5 → faceOfCode k ≡ Found.Nothing → ⊥
-code-none k h e =
-    let below = faceAt-below (code k) (omega arith) in
-    let is : Found.Face (below .0) ≡ Found.Nothing = sym (below .1) ∙ (rw (le-ltb 5 k h) at e) in
-    let z : _≡_ {A = ℕ} 0 1 = cc in
-    omega arith
 
 -- ---- two lists that agree up to a place
 
@@ -60,25 +39,6 @@ agreed-same xs ys s a b e = rw (ext-getD 0 xs ys (a ∙ sym b) (λ k h. e k (ome
 
 pub agreed-not : (xs ys : List ℕ) (k : ℕ) → (getD xs k 0 ≡ getD ys k 0 → ⊥) → same xs ys ≡ false
 agreed-not xs ys k d = both-ways (same xs ys) (λ e. d (ap (λ (l : List ℕ). getD l k 0) (same-true xs ys e)))
-
--- word by word
-abbrev pub agrees : List ℕ → List ℕ → ℕ → Bool
-agrees xs ys k = eqb (getD xs k 0) (getD ys k 0)
-
-pub every-same : (xs ys : List ℕ) (s : ℕ) → length xs ≡ s → length ys ≡ s → every s (agrees xs ys) ≡ same xs ys
-every-same xs ys s a b = sym (split (λ t. same xs ys ≡ t) (every s (agrees xs ys))
-    (λ e. agreed-same xs ys s a b (λ k h. eqb-true (getD xs k 0) (getD ys k 0) (every-true s (agrees xs ys) e k h)))
-    (λ e. both-ways (same xs ys)
-    (λ t. let p = same-true xs ys t in
-    true≢false (sym (every-all s (agrees xs ys) (λ k _. eq-eqb (getD xs k 0) (getD ys k 0) (ap (λ (l : List ℕ). getD l k 0) p))) ∙ e))))
-
-pub every-next : (m : ℕ) (p : ℕ → Bool) (o : Bool) → o ≡ not (p m) → (every m p && not o) ≡ every (m + 1) p
-unfolding every
-every-next m p o e = rw (e, not-not (p m), add-one)
-  where
-    not-not : (b : Bool) → not (not b) ≡ b
-    not-not true = refl
-    not-not false = refl
 
 -- ---- a search past those that are known not to differ
 module _ (n : ℕ) (bad : ℕ → Bool) where
@@ -104,51 +64,65 @@ row-next n v = rw add-one (mul-suc n v)
 -- ---- the quad that a link names
 
 module _ (scene : Scene) (n : ℕ) (g cubes : List ℕ) (link : ℕ) where
-  -- what was read of it: the type, the face and the coordinates
-  pub record Named (t f : ℕ) (a : Triple) : Type 0 where
-    pub type : t ≡ typeAt g (cellIn link)
-    pub face : f ≡ code (codeIn link)
+  -- what was read of it: the number of its face, and the coordinates
+  pub record Named (m : ℕ) (a : Triple) : Type 0 where
+    pub face : m ≡ 6 * typeAt g (cellIn link) + code (codeIn link)
     pub at : a ≡ coordinates (sizeOf (scene .dims)) (cellIn link)
 
-  pub named-words : (t f : ℕ) (a : Triple) → Named t f a
-      → quadWords (take (24 * n * t + 24 * n - 24 * n * t) (drop (24 * n * t) cubes)) n (tripleOf (scene .d)) f a ≡ quadWordsAt scene n g cubes link
-  named-words t f a r = rw (lent-is (24 * n * t) (24 * n) cubes, r .type, r .face, r .at)
+  -- the part of the registry that is lent for a face
+  abbrev pub cornersAt : ℕ → List ℕ
+  cornersAt m = take (4 * n * m + 4 * n - 4 * n * m) (drop (4 * n * m) cubes)
+
+  pub side-below : code (codeIn link) < 6
+  side-below = omega arith
+
+  pub named-corners : {m : ℕ} {a : Triple} → Named m a → cornersAt m ≡ cornersOf (cubeAt n g cubes (cellIn link)) n (code (codeIn link))
+  named-corners r = ap cornersAt (r .face) ∙ corners-lent cubes n (typeAt g (cellIn link)) (code (codeIn link)) side-below
+
+  pub named-words : {m : ℕ} {a : Triple} → Named m a → quadWords (cornersAt m) n (tripleOf (scene .d)) 0 a ≡ quadWordsAt scene n g cubes link
+  named-words r =
+      (λ i. quadWords (named-corners r i) n (tripleOf (scene .d)) 0 (r .at i))
+      ∙ quad-of-corners (cubeAt n g cubes (cellIn link)) n (tripleOf (scene .d)) (code (codeIn link)) (coordinates (sizeOf (scene .dims)) (cellIn link))
 
   module _ (b : Attribute) (has : Has n b) where
     -- the attribute's floats of the quad that the link names
     abbrev pub wordsOf : List ℕ
     wordsOf = attributeIn n b 4 (quadWordsAt scene n g cubes link)
 
-    pub named-word : (t f : ℕ) (a : Triple) → Named t f a → (i k : ℕ) → i < 4 → k < b .width
-        → quadWord (take (24 * n * t + 24 * n - 24 * n * t) (drop (24 * n * t) cubes)) n (tripleOf (scene .d)) f a i (b .start + k) ≡ getD wordsOf (b .width * i + k) 0
-    named-word t f a r i k I K =
-        rw (lent-is (24 * n * t) (24 * n) cubes, r .type, r .face, r .at)
-        (sym (word-at (cubeAt n g cubes (cellIn link)) n (tripleOf (scene .d)) (code (codeIn link)) (coordinates (sizeOf (scene .dims)) (cellIn link)) b has i k I K))
+    pub named-word : {m : ℕ} {a : Triple} → Named m a → (i k : ℕ) → i < 4 → k < b .width
+        → quadWord (cornersAt m) n (tripleOf (scene .d)) 0 a i (b .start + k) ≡ getD wordsOf (b .width * i + k) 0
+    named-word {m} {a} r i k I K =
+        sym (word-at (cornersAt m) n (tripleOf (scene .d)) 0 a b has i k I K) ∙ ap (λ (ws : List ℕ). getD (attributeIn n b 4 ws) (b .width * i + k) 0) (named-words r)
 
     pub length-words : length wordsOf ≡ 4 * b .width
     length-words =
         length-row-of (cubeAt n g cubes (cellIn link)) n (tripleOf (scene .d)) (code (codeIn link)) (coordinates (sizeOf (scene .dims)) (cellIn link)) b has
 
 module _ (scene : Scene) (n : ℕ) (few : (8 ≤ n) × (n ≤ 12)) (g cubes links : List ℕ) (count : ℕ) (ok : Linking (sizeOf (scene .dims)) n g cubes links count) (q : ℕ) (h : q < count) where
-  pub stretch-within : (t : ℕ) → t ≡ typeAt g (cellIn (getD links q 0)) → 24 * n * t + 24 * n ≤ length cubes
-  stretch-within t e =
-      let c : cellIn (getD links q 0) < length g = omega (arith, ok .inside q h, ok .whole) in
-      rw (e ∙ within g (cellIn (getD links q 0)) 255 0 c) (ok .stretch (cellIn (getD links q 0)) c)
+  abbrev link : ℕ
+  link = getD links q 0
 
-  pub drawable : T (finite3 (tripleOf (scene .d))) → (t f : ℕ) (a : Triple) → Named scene n g cubes (getD links q 0) t f a
-      → Drawable (take (24 * n * t + 24 * n - 24 * n * t) (drop (24 * n * t) cubes)) n a (tripleOf (scene .d))
-  drawable fin t f a r =
+  cube-within : 24 * n * typeAt g (cellIn link) + 24 * n ≤ length cubes
+  cube-within =
+      let c : cellIn link < length g = omega (arith, ok .inside q h, ok .whole) in
+      rw (within g (cellIn link) 255 0 c) (ok .stretch (cellIn link) c)
+
+  pub corners-within : {m : ℕ} {a : Triple} → Named scene n g cubes link m a → 4 * n * m + 4 * n ≤ length cubes
+  corners-within r = rw (r .face) (corners-end cubes n (typeAt g (cellIn link)) (code (codeIn link)) (side-below scene n g cubes link) cube-within)
+
+  pub drawable : T (finite3 (tripleOf (scene .d))) → {m : ℕ} {a : Triple} → Named scene n g cubes link m a → Corners (cornersAt scene n g cubes link m) n a (tripleOf (scene .d))
+  drawable fin r =
       let sides = ok .within .sides in
-      let i = inside-of (sizeOf (scene .dims)) (cellIn (getD links q 0)) (sides .wide) (sides .long) (ok .inside q h) in
-      let all = length-lent (24 * n * t) (24 * n) cubes (stretch-within t (r .type)) in
-      record {
+      let i = inside-of (sizeOf (scene .dims)) (cellIn link) (sides .wide) (sides .long) (ok .inside q h) in
+      let all = length-part (24 * n * typeAt g (cellIn link)) (24 * n) cubes cube-within in
+      rw (named-corners scene n g cubes link r, r .at) (drawable-corners (code (codeIn link)) (side-below scene n g cubes link) (record {
         words = record { least = few .0; most = few .1; whole = omega arith };
-        placed = rw (lent-is (24 * n * t) (24 * n) cubes, r .type) (ok .placed q h);
+        placed = ok .placed q h;
         finite = fin;
-        x = rw (r .at) (omega (arith, i .x, sides .widest));
-        y = rw (r .at) (omega (arith, i .y, sides .highest));
-        z = rw (r .at) (omega (arith, i .z, sides .longest));
-      }
+        x = omega (arith, i .x, sides .widest);
+        y = omega (arith, i .y, sides .highest);
+        z = omega (arith, i .z, sides .longest);
+      }))
 
 -- row q of a list of s words a quad
 pub row-inside : (s q count : ℕ) (list : List ℕ) → q < count → s * count ≤ length list → s * q + s ≤ length list

@@ -1,15 +1,12 @@
 // The words of the quads, compared as bits with those of the registry.
-use face::Face;
-use face::FoundFace;
 use face::cell_of;
-use face::face_of;
+use face::code_of;
 use floats::Triple;
 use quads::quad_word;
 use terms::Scene;
 use util::Coordinates;
 use util::cords_of;
 use util::inverted;
-use util::wide;
 use vav::Attribute;
 use voxel_mesh::floats_of;
 ghost use mathlib.Core.Path.{_≡_};
@@ -17,144 +14,149 @@ ghost use mathlib.Core.Bool.{true, false, not};
 ghost use Prim.Native.Nat.{ℕ, _+_, _*_, _≤_, _<_};
 ghost use lib.ListN.{length, getD};
 ghost use lib.Dec.{T, eqb};
-ghost use Rattle.rules.specs.Lists.{same, lowest};
-ghost use Rattle.rules.specs.Cells.{codeIn, code};
+ghost use Rattle.rules.specs.Lists.{lowest};
+ghost use Rattle.rules.specs.Cells.{codeIn, code, cellIn};
 ghost use Rattle.rules.specs.Floats.{finite3};
 ghost use Rattle.rules.specs.Cube.{floatsOf};
 ghost use Rattle.rules.specs.Types.{quadWord, quadWords};
-ghost use Rattle.rules.specs.Mesh.{attributeIn, verticesOf};
-ghost use Rattle.face.specs.Face.{number};
+ghost use Rattle.rules.specs.Mesh.{typeAt, attributeIn, verticesOf};
 ghost use Rattle.util.specs.Grid as grid;
 ghost use Rattle.util.specs.Grid.{sizeOf};
 ghost use Rattle.floats.specs.Triples.{tripleOf};
 ghost use Rattle.vav.specs.Attributes.{attributeOf};
-ghost use Rattle.quads.specs.Quads.{Has, Drawable};
+ghost use Rattle.quads.specs.Quads.{Has, Corners};
 ghost use Rattle.comparing.specs.Quads.{otherRow, otherQuad, HasRow, IsQuad, Comparable, ComparableAll};
+
+// The number of a type's face among the faces of all types.
+fn face_among(kind: u8, side: u32) -> usize
+    requires { ⌜ side < 6 ⌝ }
+    ensures { λ r. ⌜ r ≡ 6 * kind + side ⌝ }
+{
+    (6 * kind as u32 + side) as usize
+}
+
+// The number among the faces of all types of the face that a link names, of the type that stands in its cell.
+fn linked_face(grid: &[u8], link: u32) -> usize
+    requires { ⌜ (codeIn link ≤ 5) × (cellIn link < length (now grid)) ⌝ }
+    ensures { λ r. ⌜ r ≡ 6 * typeAt (now (grid .entry)) (cellIn link) + code (codeIn link) ⌝ }
+{
+    let place = cell_of(link).0 as usize;
+    face_among(grid[place], 5 - code_of(link))
+}
 
 // Whether float k of an attribute of the i-th vertex of a quad differs from the registry's.
 fn is_other_word(
     row: &[u32],
-    cube: &[u32],
+    corners: &[u32],
     floats: usize,
-    face: Face,
     attribute: Attribute,
     at: Coordinates,
     d: Triple,
     i: usize,
     k: usize,
 ) -> bool
-    requires { ⌜ Drawable (now cube) floats (grid.tripleOf at) (tripleOf d) × Has floats (attributeOf attribute) × (i < 4) × (k < (attributeOf attribute) .width)
+    requires { ⌜ Corners (now corners) floats (grid.tripleOf at) (tripleOf d) × Has floats (attributeOf attribute) × (i < 4) × (k < (attributeOf attribute) .width)
         × ((attributeOf attribute) .width * i + k < length (now row)) ⌝ }
     ensures { λ r. ⌜ r ≡ not (eqb (getD (now (row .entry)) ((attributeOf attribute) .width * i + k) 0)
-        (quadWord (now (cube .entry)) floats (tripleOf d) (number face) (grid.tripleOf at) i ((attributeOf attribute) .start + k))) ⌝ }
+        (quadWord (now (corners .entry)) floats (tripleOf d) 0 (grid.tripleOf at) i ((attributeOf attribute) .start + k))) ⌝ }
 {
     let word = attribute.width() * i + k;
-    row[word] != quad_word(cube, floats, face, attribute, at, d, i, k)
+    row[word] != quad_word(corners, floats, attribute, at, d, i, k)
 }
 
-// The face of a link whose code is a face's.
-fn linked_face(link: u32) -> Face
-    requires { ⌜ codeIn link ≤ 5 ⌝ }
-    ensures { λ r. ⌜ number r ≡ code (codeIn link) ⌝ }
-{
-    match face_of(link) {
-        FoundFace::Face(face) => face,
-        FoundFace::Nothing => Face::Forward,
-    }
-}
-
-// Whether an attribute of a quad is the registry's. Only all its words together are branched on, so that the compiler compares several at once; it knows
-// how many they are where the row and the attribute are known.
+// Whether an attribute of a quad is the registry's without a doubt. Only the words of a vertex together are branched on, so that the compiler compares several at
+// once; it knows how many they are where the row and the attribute are known.
 fn is_row(
     row: &[u32],
-    cube: &[u32],
+    corners: &[u32],
     floats: usize,
-    face: Face,
     attribute: Attribute,
     at: Coordinates,
     d: Triple,
 ) -> bool
-    requires { ⌜ Drawable (now cube) floats (grid.tripleOf at) (tripleOf d) × Has floats (attributeOf attribute)
+    requires { ⌜ Corners (now corners) floats (grid.tripleOf at) (tripleOf d) × Has floats (attributeOf attribute)
         × (length (now row) ≡ 4 * (attributeOf attribute) .width) ⌝ }
-    ensures { λ r. ⌜ r ≡ same (now (row .entry))
-        (attributeIn floats (attributeOf attribute) 4 (quadWords (now (cube .entry)) floats (tripleOf d) (number face) (grid.tripleOf at))) ⌝ }
+    ensures { λ r. ⌜ (r ≡ true → now (row .entry)
+        ≡ attributeIn floats (attributeOf attribute) 4 (quadWords (now (corners .entry)) floats (tripleOf d) 0 (grid.tripleOf at))) ⌝ }
 {
     let width = attribute.width();
-    let mut good = true;
     let mut i: usize = 0;
     while width * i < row.len() {
+        let mut good = true;
         let mut k: usize = 0;
         while k < width {
-            good = good & !is_other_word(row, cube, floats, face, attribute, at, d, i, k);
+            good = good & !is_other_word(row, corners, floats, attribute, at, d, i, k);
             k += 1;
+        }
+        if !good {
+            return false;
         }
         i += 1;
     }
-    good
+    true
 }
 
-// Whether each attribute of a quad is the registry's.
+// Whether each attribute of a quad is the registry's without a doubt.
 fn is_quad(
     scene: Scene,
-    cube: &[u32],
+    corners: &[u32],
     positions: &[u32],
     normals: &[u32],
     uvs: &[u32],
     colours: &[u32],
-    face: Face,
     at: Coordinates,
     quad: usize,
 ) -> bool
-    requires { ⌜ Drawable (now cube) (floatsOf (scene .coloured)) (grid.tripleOf at) (tripleOf (scene .d))
+    requires { ⌜ Corners (now corners) (floatsOf (scene .coloured)) (grid.tripleOf at) (tripleOf (scene .d))
         × HasRow (scene .coloured) (verticesOf (now positions) (now normals) (now uvs) (now colours)) quad ⌝ }
     ensures { λ r. ⌜ (r ≡ true → IsQuad (scene .coloured) (verticesOf (now (positions .entry)) (now (normals .entry)) (now (uvs .entry)) (now (colours .entry))) quad
-        (quadWords (now (cube .entry)) (floatsOf (scene .coloured)) (tripleOf (scene .d)) (number face) (grid.tripleOf at))) ⌝ }
+        (quadWords (now (corners .entry)) (floatsOf (scene .coloured)) (tripleOf (scene .d)) 0 (grid.tripleOf at))) ⌝ }
 {
     let floats = floats_of(scene.coloured);
     let start = 12 * quad;
     let uv_start = 8 * quad;
-    let position = is_row(
+    if !is_row(
         &positions[start..start + 12],
-        cube,
+        corners,
         floats,
-        face,
         Attribute::Position,
         at,
         scene.d,
-    );
-    let normal = is_row(
+    ) {
+        return false;
+    }
+    if !is_row(
         &normals[start..start + 12],
-        cube,
+        corners,
         floats,
-        face,
         Attribute::Normal,
         at,
         scene.d,
-    );
-    let uv = is_row(
+    ) {
+        return false;
+    }
+    if !is_row(
         &uvs[uv_start..uv_start + 8],
-        cube,
+        corners,
         floats,
-        face,
         Attribute::Uv,
         at,
         scene.d,
-    );
-    let plain = position & normal & uv;
+    ) {
+        return false;
+    }
     if scene.coloured {
         let colour_start = 16 * quad;
-        let colour = is_row(
+        return is_row(
             &colours[colour_start..colour_start + 16],
-            cube,
+            corners,
             floats,
-            face,
             Attribute::Colour,
             at,
             scene.d,
         );
-        return plain & colour;
     }
-    plain
+    true
 }
 
 // How many quads from the first on are right without a doubt: all attributes of a quad are compared at once.
@@ -176,15 +178,12 @@ fn sure_quads(
 {
     let dims = scene.dims;
     let inverse = inverted(dims);
-    let span = 24 * floats_of(scene.coloured);
+    let span = 4 * floats_of(scene.coloured);
     let mut quad: usize = 0;
     while quad < count {
         let link = links[quad];
-        let cell = cell_of(link);
-        let face = linked_face(link);
-        let at = cords_of(cell, dims, inverse);
-        let place = cell.0 as usize;
-        let start = span * wide(grid[place]);
+        let at = cords_of(cell_of(link), dims, inverse);
+        let start = span * linked_face(grid, link);
         let end = start + span;
         if !is_quad(
             scene,
@@ -193,7 +192,6 @@ fn sure_quads(
             normals,
             uvs,
             colours,
-            face,
             at,
             quad,
         ) {
@@ -225,15 +223,12 @@ fn first_wrong_row(
     let floats = floats_of(scene.coloured);
     let width = attribute.width();
     let words = 4 * width;
-    let span = 24 * floats;
+    let span = 4 * floats;
     let mut quad = from;
     'quads: while quad < count {
         let link = links[quad];
-        let cell = cell_of(link);
-        let face = linked_face(link);
-        let at = cords_of(cell, dims, inverse);
-        let place = cell.0 as usize;
-        let start = span * wide(grid[place]);
+        let at = cords_of(cell_of(link), dims, inverse);
+        let start = span * linked_face(grid, link);
         let end = start + span;
         let row_start = words * quad;
         let row_end = row_start + words;
@@ -245,7 +240,6 @@ fn first_wrong_row(
                     &list[row_start..row_end],
                     &cubes[start..end],
                     floats,
-                    face,
                     attribute,
                     at,
                     scene.d,

@@ -10,7 +10,7 @@ use Rattle.rules.proofs.ListLaws.{length-each}
 use Rattle.rules.proofs.Rows.{each-more}
 use Rattle.vav.specs.Rows.{put}
 use Rattle.vav.proofs.Laws.{length-put, put-none}
-use Rattle.quads.proofs.Writing.{put-next}
+use Rattle.vav.proofs.Laws.{put-next}
 
 -- the patterns of the places from `from` up to q are written
 pub record Patterned (from q : ℕ) (old xs : List ℕ) : Type 0 where

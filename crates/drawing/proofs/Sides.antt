@@ -19,14 +19,14 @@ pub record InRow (g : List ℕ) (c k : ℕ) : Type 0 where
   pub inside : k / 6 < length g
 
 module _ {g : List ℕ} {c k : ℕ} (r : InRow g c k) where
-  pub side-type : sideOf g c k / 8192 ≡ typeAt g (k / 6)
+  pub side-type : sideOf g c k / 6144 ≡ typeAt g (k / 6)
   side-type =
       let a = r .from in
       let b = r .to in
       let t = within g (k / 6) 255 0 (r .inside) in
       omega arith
 
-  pub side-face : sideOf g c k / 1024 % 8 ≡ k % 6
+  pub side-face : sideOf g c k / 1024 % 6 ≡ k % 6
   side-face = let a = r .from in let b = r .to in omega arith
 
   pub side-cell : c + sideOf g c k % 1024 ≡ k / 6

@@ -10,7 +10,7 @@ use lib.Seq.{length-take-le, take-length}
 use Rattle.rules.specs.Cells.{firstVertex}
 use Rattle.vav.specs.Rows.{put}
 use Rattle.vav.proofs.Laws.{length-put, put-none, take-more}
-use Rattle.quads.proofs.Writing.{put-next, stored}
+use Rattle.vav.proofs.Laws.{put-next, stored}
 use Rattle.drawing.specs.Written.{rowsOf, named}
 
 -- six words, one after the other

@@ -28,12 +28,12 @@ abbrev pub named : ℕ → List ℕ → List ℕ → List ℕ
 named q [] slots = slots
 named q (k ∷ keys) slots = named (suc q) keys (set slots k (firstVertex q))
 
--- a face of the row of cells that starts at c, as a word: its type, its face, and where along the row its cell is
+-- a face of the row of cells that starts at c, as a word: the face's number among those of all types, and where along the row its cell is
 abbrev pub sideOf : List ℕ → ℕ → ℕ → ℕ
-sideOf g c k = 8192 * getD g (k / 6) 0 + (k / 6 - c) + 1024 * (k % 6)
+sideOf g c k = 6144 * getD g (k / 6) 0 + (k / 6 - c) + 1024 * (k % 6)
 
 abbrev pub sideWords : Scene → ℕ → ℕ → List ℕ
-sideWords S c w = wordsIn S (w / 8192) (w / 1024 % 8) (c + w % 1024)
+sideWords S c w = wordsIn S (w / 6144) (w / 1024 % 6) (c + w % 1024)
 
 abbrev pub sideRow : Scene → Attribute → ℕ → ℕ → List ℕ
 sideRow S a c w = attributeIn (floats (S .types)) a 4 (sideWords S c w)
@@ -53,6 +53,5 @@ Long coloured n vs = (a : Attribute) (xs : List ℕ) → HasList coloured vs a x
 -- it is of the row, and its type has a cube in the registry
 pub record Side (S : Scene) (c w : ℕ) : Type 0 where
   pub along : w % 1024 < S .size .w
-  pub face : w / 1024 % 8 < 6
-  pub cube : 24 * floats (S .types) * (w / 8192) + 24 * floats (S .types) ≤ length (S .types .cubes)
-  pub drawable : Drawable (cubeOf (S .types) (w / 8192)) (floats (S .types)) (coordinates (S .size) (c + w % 1024)) (S .d)
+  pub cube : 24 * floats (S .types) * (w / 6144) + 24 * floats (S .types) ≤ length (S .types .cubes)
+  pub drawable : Drawable (cubeOf (S .types) (w / 6144)) (floats (S .types)) (coordinates (S .size) (c + w % 1024)) (S .d)

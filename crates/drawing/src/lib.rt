@@ -1,7 +1,5 @@
 // Quads written into each list by itself: an attribute of a quad at its place, the patterns of a stretch of places, the attributes of faces that are drawn
 // one after the other.
-use face::Face;
-use face::face_at;
 use floats::Triple;
 use quads::write_attribute;
 use terms::Scene;
@@ -17,36 +15,34 @@ ghost use Rattle.rules.specs.Lists.{each};
 ghost use Rattle.rules.specs.Types.{quadWords};
 ghost use Rattle.rules.specs.Cube.{floatsOf};
 ghost use Rattle.rules.specs.Mesh.{attributeIn, verticesOf, NONE, pattern};
-ghost use Rattle.face.specs.Face.{number};
 ghost use Rattle.util.specs.Grid.{sizeOf, Within, Starts};
 ghost use Rattle.util.specs.Grid as grid;
 ghost use Rattle.floats.specs.Triples.{tripleOf};
 ghost use Rattle.terms.specs.Scenes.{sceneOf};
 ghost use Rattle.vav.specs.Attributes.{attributeOf};
 ghost use Rattle.vav.specs.Rows.{put};
-ghost use Rattle.quads.specs.Quads.{Has, Drawable};
+ghost use Rattle.quads.specs.Quads.{Has, Corners};
 ghost use Rattle.drawing.specs.Written.{quadWritten, sideWords, rowsWritten, Long, Side};
 
 // Writes an attribute of a quad at place q.
 fn write_place(
     list: &mut [u32],
-    cube: &[u32],
+    corners: &[u32],
     floats: usize,
-    face: Face,
     attribute: Attribute,
     at: Coordinates,
     d: Triple,
     q: usize,
 )
-    requires { ⌜ Drawable (now cube) floats (grid.tripleOf at) (tripleOf d) × Has floats (attributeOf attribute)
+    requires { ⌜ Corners (now corners) floats (grid.tripleOf at) (tripleOf d) × Has floats (attributeOf attribute)
         × (4 * (attributeOf attribute) .width * (q + 1) ≤ length (now list)) ⌝ }
     ensures { λ _. ⌜ now (list .exit) ≡ put (4 * (attributeOf attribute) .width * q)
-        (attributeIn floats (attributeOf attribute) 4 (quadWords (now (cube .entry)) floats (tripleOf d) (number face) (grid.tripleOf at))) (now (list .entry)) ⌝ }
+        (attributeIn floats (attributeOf attribute) 4 (quadWords (now (corners .entry)) floats (tripleOf d) 0 (grid.tripleOf at))) (now (list .entry)) ⌝ }
 {
     let words = 4 * attribute.width();
     let start = words * q;
     let end = start + words;
-    write_attribute(&mut list[start..end], cube, floats, face, attribute, at, d);
+    write_attribute(&mut list[start..end], corners, floats, attribute, at, d);
 }
 
 // Writes each attribute that the vertices have of a quad, at place q of its own list. The compiler knows each number of floats.
@@ -55,25 +51,24 @@ pub fn write_places(
     normals: &mut [u32],
     uvs: &mut [u32],
     colours: &mut [u32],
-    scene: Scene,
-    cube: &[u32],
-    face: Face,
+    corners: &[u32],
+    coloured: bool,
     at: Coordinates,
+    d: Triple,
     q: usize,
 )
-    requires { ⌜ Drawable (now cube) (floatsOf (scene .coloured)) (grid.tripleOf at) (tripleOf (scene .d))
-        × Long (scene .coloured) (q + 1) (verticesOf (now positions) (now normals) (now uvs) (now colours)) ⌝ }
+    requires { ⌜ Corners (now corners) (floatsOf coloured) (grid.tripleOf at) (tripleOf d)
+        × Long coloured (q + 1) (verticesOf (now positions) (now normals) (now uvs) (now colours)) ⌝ }
     ensures { λ _. ⌜ verticesOf (now (positions .exit)) (now (normals .exit)) (now (uvs .exit)) (now (colours .exit))
-        ≡ quadWritten (scene .coloured) q (quadWords (now (cube .entry)) (floatsOf (scene .coloured)) (tripleOf (scene .d)) (number face) (grid.tripleOf at))
+        ≡ quadWritten coloured q (quadWords (now (corners .entry)) (floatsOf coloured) (tripleOf d) 0 (grid.tripleOf at))
         (verticesOf (now (positions .entry)) (now (normals .entry)) (now (uvs .entry)) (now (colours .entry))) ⌝ }
 {
-    let floats = floats_of(scene.coloured);
-    let d = scene.d;
-    write_place(positions, cube, floats, face, Attribute::Position, at, d, q);
-    write_place(normals, cube, floats, face, Attribute::Normal, at, d, q);
-    write_place(uvs, cube, floats, face, Attribute::Uv, at, d, q);
-    if scene.coloured {
-        write_place(colours, cube, floats, face, Attribute::Colour, at, d, q);
+    let floats = floats_of(coloured);
+    write_place(positions, corners, floats, Attribute::Position, at, d, q);
+    write_place(normals, corners, floats, Attribute::Normal, at, d, q);
+    write_place(uvs, corners, floats, Attribute::Uv, at, d, q);
+    if coloured {
+        write_place(colours, corners, floats, Attribute::Colour, at, d, q);
     }
 }
 
@@ -104,7 +99,8 @@ pub fn write_patterns(triangles: &mut [u32], from: usize, to: usize)
     }
 }
 
-// Writes the quad of a face of a row at place q of each list, from the cube of its type.
+// Writes the quad of a face of a row at place q of each list, from its corners in the registry. With the number of floats told apart here the compiler has every
+// length at hand.
 fn write_side(
     positions: &mut [u32],
     normals: &mut [u32],
@@ -123,23 +119,39 @@ fn write_side(
         ≡ quadWritten (scene .coloured) q (sideWords (sceneOf scene [] [] (now (cubes .entry))) (row .first) side)
         (verticesOf (now (positions .entry)) (now (normals .entry)) (now (uvs .entry)) (now (colours .entry))) ⌝ }
 {
-    let words = 24 * floats_of(scene.coloured);
-    let start = words * (side / 8192) as usize;
-    let end = start + words;
     let at = Coordinates {
         x: side % 1024,
         y: row.y,
         z: row.z,
     };
+    let face = (side / 1024) as usize;
+    if scene.coloured {
+        let start = 48 * face;
+        let end = start + 48;
+        write_places(
+            positions,
+            normals,
+            uvs,
+            colours,
+            &cubes[start..end],
+            true,
+            at,
+            scene.d,
+            q,
+        );
+        return;
+    }
+    let start = 32 * face;
+    let end = start + 32;
     write_places(
         positions,
         normals,
         uvs,
         colours,
-        scene,
         &cubes[start..end],
-        face_at(side / 1024 % 8),
+        false,
         at,
+        scene.d,
         q,
     );
 }

@@ -174,7 +174,7 @@ module _ (first base : ℕ) (sets g ls₀ ss₀ ts₀ : List ℕ) where
         (a, omega (arith, asked-few from (length sets) first))
 
     -- a cell more
-    pub row-next : {ls₁ ss₁ ts₁ : List ℕ} {m side : ℕ} → base ≤ length ls₀ → side ≡ 8192 * getD g (first + x) 0 + x → m ≡ n + quadsOf (getD sets x 0)
+    pub row-next : {ls₁ ss₁ ts₁ : List ℕ} {m side : ℕ} → base ≤ length ls₀ → side ≡ 6144 * getD g (first + x) 0 + x → m ≡ n + quadsOf (getD sets x 0)
         → Entered base (λ k. side + 1024 * (k % 6)) (cellKeys (getD sets x 0) (first + x)) ls ss ts ls₁ ss₁ ts₁ n m → RowEntered ls₁ ss₁ ts₁ m (x + 1)
     row-next {ls₁} {ss₁} {ts₁} {m} {side} room s p u =
         let set = getD sets x 0 in
@@ -183,7 +183,7 @@ module _ (first base : ℕ) (sets g ls₀ ss₀ ts₀ : List ℕ) where
         let words = map-cell (λ k. side + 1024 * (k % 6)) (sideOf g first) set cell
         (λ i l. let c : keyOf cell i / 6 ≡ first + x = omega arith in
         let y : keyOf cell i / 6 - first ≡ x = omega arith in
-        ap (λ (w : ℕ). w + 1024 * (keyOf cell i % 6)) (s ∙ (λ j. 8192 * getD g (sym c j) 0 + sym y j))) in
+        ap (λ (w : ℕ). w + 1024 * (keyOf cell i % 6)) (s ∙ (λ j. 6144 * getD g (sym c j) 0 + sym y j))) in
         record {
           count = p ∙ omega (arith, r .count, asked-step from x first, ap quadsOf here);
           are = subst (λ (ks : List ℕ). Entered base (sideOf g first) ks ls₀ ss₀ ts₀ ls₁ ss₁ ts₁ 0 m)

@@ -166,9 +166,9 @@ fn index_cell(
 // The word of a cell's first face in the list of its row's faces: its type, and where along the row it is.
 fn side_at(code: u8, x: usize) -> u32
     requires { ⌜ x < 1024 ⌝ }
-    ensures { λ r. ⌜ (r ≡ 8192 * code + x) × (r < 2097152) ⌝ }
+    ensures { λ r. ⌜ (r ≡ 6144 * code + x) × (r < 2097152) ⌝ }
 {
-    8192 * code as u32 + x as u32
+    6144 * code as u32 + x as u32
 }
 
 // The faces of a row's cells that are in their sets, into the index from place `base` on, and into the list of the row's faces. Answers how many there are.

@@ -104,7 +104,6 @@ module _ (S : Scene) (culling : Bool) (outer : ℕ) (g : List ℕ) where
         r,
         record {
           along = omega arith;
-          face = omega arith;
           cube = rw (side-type r, here) (cube-ends whole types k inside);
           drawable = rw (side-type r, y, here) (drawable whole types k inside (omega arith));
         },
@@ -129,4 +128,4 @@ pub all-sides : (scene : declared.Scene) (kinds covers cubes g : List ℕ) (c : 
 all-sides scene kinds covers cubes g c [] h = tt
 all-sides scene kinds covers cubes g c (k ∷ keys) h =
     let s = h .0 .1 in
-    (record { along = s .along; face = s .face; cube = s .cube; drawable = s .drawable }, all-sides scene kinds covers cubes g c keys (h .1))
+    (record { along = s .along; cube = s .cube; drawable = s .drawable }, all-sides scene kinds covers cubes g c keys (h .1))

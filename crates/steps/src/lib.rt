@@ -1,7 +1,6 @@
 // The steps of an update, replayed on the list of each attribute.
 use drawing::write_places;
 use face::Cell;
-use face::face_at;
 use terms::Scene;
 use util::Inverse;
 use util::cords_of;
@@ -76,18 +75,18 @@ fn replay_one(
         );
         return count - 1;
     }
-    let words = 24 * floats_of(scene.coloured);
-    let start = words * (b as usize);
+    let words = 4 * floats_of(scene.coloured);
+    let start = words * (6 * b + a % 6) as usize;
     let end = start + words;
     write_places(
         positions,
         normals,
         uvs,
         colours,
-        scene,
         &cubes[start..end],
-        face_at(a % 6),
+        scene.coloured,
         cords_of(Cell(a / 6), scene.dims, inverse),
+        scene.d,
         count,
     );
     count + 1

@@ -3,7 +3,7 @@ use mathlib.Core.Path.{_≡_, refl}
 use mathlib.Core.Logic.{_≢_}
 use Prim.Native.Nat.{ℕ, _+_, _≤_}
 use native.Mathlib.Omega.{arith}
-use Rattle.rules.specs.Mesh.{position}
+use Rattle.rules.specs.Mesh.{position, normal}
 use Rattle.vav.specs.declared.Attribute.{Attribute}
 use Rattle.vav.specs.declared.Attribute.the-variants.{Position, Normal, Uv, Colour}
 use Rattle.vav.specs.Attributes.{attributeOf}
@@ -13,6 +13,12 @@ is-first Position e = refl
 is-first Normal e = absurd (omega arith)
 is-first Uv e = absurd (omega arith)
 is-first Colour e = absurd (omega arith)
+
+pub is-normal : (a : Attribute) → (attributeOf a) .start ≡ 3 → attributeOf a ≡ normal
+is-normal Position e = absurd (omega arith)
+is-normal Normal e = refl
+is-normal Uv e = absurd (omega arith)
+is-normal Colour e = absurd (omega arith)
 
 pub is-past : (a : Attribute) → (attributeOf a) .start ≢ 0 → 3 ≤ (attributeOf a) .start
 is-past Position d = absurd (d refl)

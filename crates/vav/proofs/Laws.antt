@@ -1,20 +1,21 @@
 -- Laws of `put`, `part` and `freed`. Assumes nothing.
 use mathlib.Core.Path.{_≡_, refl, sym, ap, _∙_}
-use Prim.Native.Nat.{ℕ, suc, _+_, _-_, _*_, _≤_, _<_}
+use Prim.Native.Nat.{ℕ, zero, suc, _+_, _-_, _*_, _≤_, _<_}
 use mathlib.Core.Bool.{cond}
 use mathlib.Core.List.{List, [], _∷_, _++_, append-assoc, append-nil}
 use native.Mathlib.Numerals.{add-one}
 use native.Mathlib.Nat.{add-zero, mul-le-mul-left}
 use native.Mathlib.Omega.{arith}
+use native.Mathlib.Decide.{decLt}
 use lib.ListN.{length, take, drop, getD, set, replicate, length-append, length-take, length-drop, length-replicate, List·getD-append, take-append-drop, drop-of-length-le, replicate-append-replicate}
-use lib.Seq.{sets, sets-eq, take-at, drop-at, drop-append-add, take-suc, drop-cons, getD-drop, getD-take, set-at, set-split, length-take-le, getD-append-add, drop-drop}
+use lib.Seq.{ext-getD, sets, sets-eq, take-at, drop-at, drop-append-add, take-suc, drop-cons, getD-drop, getD-take, set-at, set-split, length-take-le, getD-append-add, drop-drop}
 use borrow.Author.Tests.{leb-false}
 use borrow.Rule.Slice.PartMut.{putMid}
 use Rattle.rules.specs.Lists.{part}
 use Rattle.rules.specs.Update.{shifts}
 use Rattle.rules.specs.Update as rule
 use Rattle.rules.proofs.ListLaws.{split}
-use Rattle.vav.specs.Rows.{put, zeros, sourceOf, freed}
+use Rattle.vav.specs.Rows.{put, four, zeros, sourceOf, freed}
 
 pub length-part : (at n : ℕ) (xs : List ℕ) → at + n ≤ length xs → length (part at n xs) ≡ n
 length-part at n xs h = length-take-le n (drop at xs) (simp length-drop (omega arith))
@@ -28,6 +29,14 @@ part-lent at n xs = let e : at + n - at ≡ n = omega arith in ap (λ (k : ℕ).
 
 pub take-more : (n : ℕ) (xs : List ℕ) → n < length xs → take (n + 1) xs ≡ take n xs ++ (getD xs n 0 ∷ [])
 take-more n xs h = rw (add-one, take-suc xs n 0 h)
+
+-- four words, one by one
+pub four-at : (xs : List ℕ) (j k : ℕ) → k < 4 → getD (four xs j) k 0 ≡ getD xs (j + k) 0
+four-at xs j zero h = ap (λ (i : ℕ). getD xs i 0) (sym (add-zero j))
+four-at xs j (suc zero) h = refl
+four-at xs j (suc (suc zero)) h = refl
+four-at xs j (suc (suc (suc zero))) h = refl
+four-at xs j (suc (suc (suc (suc k)))) h = absurd (omega arith)
 
 -- one word more
 pub part-more : (at n : ℕ) (xs : List ℕ) → at + n < length xs → part at (n + 1) xs ≡ part at n xs ++ (getD xs (at + n) 0 ∷ [])
@@ -199,3 +208,34 @@ length-freed n q Q xs h l =
     length-put (n * (Q - 1)) (zeros n) (put (n * q) ys xs) (omega arith) ∙ a
 
 -- ---- rows
+
+-- ---- a list that is right up to a place, whatever comes after
+pub record Begun (whole : List ℕ) (j : ℕ) (xs : List ℕ) : Type 0 where
+  pub is : (k : ℕ) → k < j → getD xs k 0 ≡ getD whole k 0
+  pub long : length xs ≡ length whole
+
+module _ (whole : List ℕ) where
+  pub none-begun : (xs : List ℕ) → length xs ≡ length whole → Begun whole 0 xs
+  none-begun xs e = record { is = λ k h. absurd (omega arith); long = e }
+
+  -- the next m words of a list
+  pub begun-on : {j m : ℕ} {xs : List ℕ} → Begun whole j xs → ((k : ℕ) → k < m → getD xs (j + k) 0 ≡ getD whole (j + k) 0) → Begun whole (j + m) xs
+  begun-on {j} {m} {xs} b next = record { is = λ k h. go k h (decLt k j); long = b .long }
+    where
+      go : (k : ℕ) → k < j + m → Dec (k < j) → getD xs k 0 ≡ getD whole k 0
+      go k h (yes l) = b .is k l
+      go k h (no l) =
+          let e : j + (k - j) ≡ k = omega arith in
+          rw e at (next (k - j) (omega arith))
+
+  -- m words and more are written, of which the first m are right
+  pub begun-more : {j m : ℕ} {xs zs : List ℕ} (ys : List ℕ) → Begun whole j xs → j + length ys ≤ length whole → m ≤ length ys
+      → ((k : ℕ) → k < m → getD ys k 0 ≡ getD whole (j + k) 0) → zs ≡ put j ys xs → Begun whole (j + m) zs
+  begun-more {j} {m} {xs} {zs} ys b fits enough right e =
+      let l : j ≤ length xs = omega (arith, b .long) in
+      let kept : length zs ≡ length whole = ap length e ∙ length-put j ys xs (omega (arith, b .long)) ∙ b .long in
+      begun-on (record { is = λ k h. ap (λ (r : List ℕ). getD r k 0) e ∙ put-before j ys xs k l h ∙ b .is k h; long = kept })
+      (λ k h. ap (λ (r : List ℕ). getD r (j + k) 0) e ∙ put-within j ys xs k l (omega arith) ∙ right k h)
+
+  pub begun-all : {j : ℕ} {xs : List ℕ} → length whole ≤ j → Begun whole j xs → xs ≡ whole
+  begun-all {j} {xs} h b = ext-getD 0 xs whole (b .long) (λ k l. b .is k (omega (arith, b .long)))

@@ -1,14 +1,18 @@
 -- Rows of a list of n words a row. Definitions only.
 use Prim.Native.Nat.{ℕ, suc, _+_, _-_, _*_}
 use mathlib.Core.Bool.{cond}
-use mathlib.Core.List.{List, _++_}
-use lib.ListN.{length, take, drop, replicate}
+use mathlib.Core.List.{List, [], _∷_, _++_}
+use lib.ListN.{length, getD, take, drop, replicate}
 use Rattle.rules.specs.Lists.{part}
 use Rattle.rules.specs.Update.{shifts}
 
 -- xs with ys written over it at `at`
 unfoldable pub put : ℕ → List ℕ → List ℕ → List ℕ
 put at ys xs = take at xs ++ (ys ++ drop (at + length ys) xs)
+
+-- four words of a list, from word j on
+abbrev pub four : List ℕ → ℕ → List ℕ
+four xs j = getD xs j 0 ∷ getD xs (j + 1) 0 ∷ getD xs (j + 2) 0 ∷ getD xs (j + 3) 0 ∷ []
 
 -- a row of zeros
 abbrev pub zeros : ℕ → List ℕ

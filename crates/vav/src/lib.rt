@@ -6,7 +6,7 @@ ghost use lib.ListN.{length};
 ghost use Rattle.rules.specs.Lists.{part};
 ghost use Rattle.rules.specs.Update.{movedBy};
 ghost use Rattle.vav.specs.Attributes.{attributeOf};
-ghost use Rattle.vav.specs.Rows.{put, zeros, sourceOf, freed};
+ghost use Rattle.vav.specs.Rows.{put, four, zeros, sourceOf, freed};
 
 // An attribute of a vertex, which has a list of its own.
 pub enum Attribute {
@@ -51,6 +51,18 @@ pub fn write_four(list: &mut [u32], at: usize, a: u32, b: u32, c: u32, d: u32)
     list[at + 1] = b;
     list[at + 2] = c;
     list[at + 3] = d;
+}
+
+// Copies four words of another list.
+pub fn copy_four(list: &mut [u32], at: usize, source: &[u32], from: usize)
+    requires { ⌜ (at + 4 ≤ length (now list)) × (from + 4 ≤ length (now source)) ⌝ }
+    ensures { λ _. ⌜ now (list .exit) ≡ put at (four (now (source .entry)) from) (now (list .entry)) ⌝ }
+{
+    let a = source[from];
+    let b = source[from + 1];
+    let c = source[from + 2];
+    let d = source[from + 3];
+    write_four(list, at, a, b, c, d);
 }
 
 // Writes a row at place `count`.

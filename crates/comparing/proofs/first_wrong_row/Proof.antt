@@ -9,40 +9,37 @@ use lib.ListN.{length, getD, take, drop}
 use borrow.Author.Count.{below-more}
 use borrow.Author.Tests.{eqb-true, eqb-false, not-true, not-false}
 use Rattle.rules.specs.Lists.{row, lowest}
-use Rattle.rules.specs.Cells.{cellIn, coordinates}
+use Rattle.rules.specs.Cells.{coordinates}
 use Rattle.rules.specs.Cube.{floatsOf}
 use Rattle.rules.specs.Mesh.{Attribute}
-use Rattle.face.specs.Face.{number}
 use Rattle.util.specs.Grid.{sizeOf, tripleOf}
 use Rattle.vav.specs.Attributes.{attributeOf}
 use Rattle.vav.proofs.Attributes.{few-floats}
 use Rattle.voxel_mesh.proofs.Shapes.{few, row-within}
-use Rattle.rules.proofs.Rows.{length-lent}
-use Rattle.rules.proofs.ListLaws.{within}
 use Rattle.rules.proofs.Searches.{Searched, found, passed, ended}
 use Rattle.quads.specs.Quads.{Has}
-use Rattle.comparing.specs.Quads.{quadWordsAt, otherRow, Comparable}
-use Rattle.comparing.proofs.Compared.{Agreed, agreed-same, agreed-not, searched-from, lent-is, row-next, Named, wordsOf, named-word, length-words, stretch-within, drawable, row-inside, length-row-in}
+use Rattle.comparing.specs.Quads.{otherRow, Comparable}
+use Rattle.comparing.proofs.Compared.{Agreed, agreed-same, agreed-not, searched-from, lent-is, row-next, Named, wordsOf, named-word, length-words, corners-within, drawable, row-inside, length-row-in}
 use borrow.Author.Needs.{needs}
 use native.Mathlib.Omega.{arith}
 use Rattle.comparing.proofs.first_wrong_row.Statement.{statement}
 use Rattle.comparing.proofs.first_wrong_row.Tie as tie
 
 abbrev Inv-loop2 : tie.InvT-loop2
-Inv-loop2 scene grid cubes attribute list links begin count dims inverse floats width words span quad link face at place start end row-start row-end vertex float₀ float =
+Inv-loop2 scene grid cubes attribute list links begin count dims inverse floats width words span quad link at start end row-start row-end vertex float₀ float =
     let a = attributeOf attribute in
     (float ≤ a .width) × ((has : Has floats a) → Agreed (row (4 * a .width) list quad) (wordsOf scene floats grid cubes (getD links quad 0) a has) (a .width * vertex + float))
 
 abbrev μ-loop2 : tie.MeasureT-loop2
-μ-loop2 scene grid cubes attribute list links begin count dims inverse floats width words span quad link face at place start end row-start row-end vertex float₀ float = width - float
+μ-loop2 scene grid cubes attribute list links begin count dims inverse floats width words span quad link at start end row-start row-end vertex float₀ float = width - float
 
 abbrev Inv-loop : tie.InvT-loop
-Inv-loop scene grid cubes attribute list links begin count dims inverse floats width words span quad link face at place start end row-start row-end vertex₀ vertex =
+Inv-loop scene grid cubes attribute list links begin count dims inverse floats width words span quad link at start end row-start row-end vertex₀ vertex =
     let a = attributeOf attribute in
     (vertex ≤ 4) × ((has : Has floats a) → Agreed (row (4 * a .width) list quad) (wordsOf scene floats grid cubes (getD links quad 0) a has) (a .width * vertex))
 
 abbrev μ-loop : tie.MeasureT-loop
-μ-loop scene grid cubes attribute list links begin count dims inverse floats width words span quad link face at place start end row-start row-end vertex₀ vertex = 4 - vertex
+μ-loop scene grid cubes attribute list links begin count dims inverse floats width words span quad link at start end row-start row-end vertex₀ vertex = 4 - vertex
 
 abbrev Inv-quads : tie.InvT-quads
 Inv-quads scene grid cubes attribute list links begin count dims inverse floats width words span quad₀ quad =
@@ -85,10 +82,10 @@ by-rule c = ap (first c) (c .before .floats-of .ensures)
 
 -- ---- the quad at hand
 abbrev Read : Type 0
-Read = tie.After-wide Inv-loop2 μ-loop2 Inv-loop μ-loop Inv-quads μ-quads
+Read = tie.After-linked-face Inv-loop2 μ-loop2 Inv-loop μ-loop Inv-quads μ-quads
 
 abbrev worded : Read → Begun
-worded c = c .before .before .before .before .before .before .before .before .before
+worded c = c .before .before .before .before .before .before
 
 abbrev start : Read → tie.Start Inv-loop2 μ-loop2 Inv-loop μ-loop Inv-quads μ-quads
 start c = from-start (worded c)
@@ -100,13 +97,13 @@ abbrev part : Read → Attribute
 part c = attributeOf (start c .args .attribute)
 
 abbrev turn : Read → tie.At-quads Inv-loop2 μ-loop2 Inv-loop μ-loop Inv-quads μ-quads
-turn c = c .before .before .before .before .before .before .before .before
+turn c = c .before .before .before .before .before
 
 abbrev quad : Read → ℕ
 quad c = turn c .quads .quad
 
 counted : (c : Read) → quad c < start c .args .count
-counted c = c .before .before .before .before .before .before .before .quads-test .taken
+counted c = c .before .before .before .before .quads-test .taken
 
 abbrev link : Read → ℕ
 link c = getD (now (start c .args .links)) (quad c) 0
@@ -119,21 +116,16 @@ abbrev wanted : Read → List ℕ
 wanted c = let args = start c .args in wordsOf (args .scene) (n c) (now (args .grid)) (now (args .cubes)) (link c) (part c) (ok (worded c) .has)
 
 named : (c : Read) → let args = start c .args in
-    Named (args .scene) (n c) (now (args .grid)) (now (args .cubes)) (link c) (c .wide .result) (number (c .before .before .before .before .linked-face .result)) (tripleOf (c .before .before .before .cords-of .result))
+    Named (args .scene) (n c) (now (args .grid)) (now (args .cubes)) (link c) (c .linked-face .result) (tripleOf (c .before .cords-of .result))
 named c =
     let args = start c .args in
-    let g = now (args .grid) in
-    let cell = c .before .before .before .before .before .cell-of .ensures in
-    let linking = start c .pre .0 .linking in
-    let inside = linking .inside (quad c) (counted c) in
     record {
-      type = c .wide .ensures ∙ ap (λ (k : ℕ). getD g k 0) cell ∙ within g (cellIn (link c)) 0 255 (omega (arith, linking .whole));
-      face = c .before .before .before .before .linked-face .ensures;
-      at = c .before .before .before .cords-of .ensures ∙ ap (coordinates (sizeOf (args .scene .dims))) cell;
+      face = c .linked-face .ensures;
+      at = c .before .cords-of .ensures ∙ ap (coordinates (sizeOf (args .scene .dims))) (c .before .before .cell-of .ensures);
     }
 
-stretch : (c : Read) → 24 * n c * c .wide .result + 24 * n c ≤ length (now (start c .args .cubes))
-stretch c = stretch-within (start c .args .scene) _ (few-words (worded c)) _ _ _ _ (ok (worded c) .linking) _ (counted c) _ (named c .type)
+stretch : (c : Read) → 4 * n c * c .linked-face .result + 4 * n c ≤ length (now (start c .args .cubes))
+stretch c = corners-within (start c .args .scene) _ (few-words (worded c)) _ _ _ _ (ok (worded c) .linking) _ (counted c) (named c)
 
 -- the words of a row, by the width that the code found
 abbrev wide-of : Read → ℕ
@@ -168,8 +160,7 @@ told c =
     let w = read c in
     let args = start w .args in
     let l = ap (λ (xs : List ℕ). getD xs (place c) 0) (row-lent w) in
-    let r = named-word (args .scene) (n w) (now (args .grid)) (now (args .cubes)) (link w) (part w) (ok (worded w) .has) (w .wide .result) (number (w .before .before .before .before .linked-face .result))
-    (tripleOf (w .before .before .before .cords-of .result)) (named w) (vertex c) (float c) (c .before .before .before .before .before .loop-test .taken) (omega (arith, c .before .before .before .loop2-test .taken, worded w .width .ensures)) in
+    let r = named-word (args .scene) (n w) (now (args .grid)) (now (args .cubes)) (link w) (part w) (ok (worded w) .has) (named w) (vertex c) (float c) (c .before .before .before .before .before .loop-test .taken) (omega (arith, c .before .before .before .loop2-test .taken, worded w .width .ensures)) in
     c .is-other-word .ensures ∙ (λ i. not (eqb (l i) (r i)))
 
 inverted-requires : tie.Need-inverted-requires Inv-loop2 μ-loop2 Inv-loop μ-loop Inv-quads μ-quads
@@ -183,18 +174,16 @@ quads-holds c =
 shared-slice-read-link : tie.Need-shared-slice-read-link Inv-loop2 μ-loop2 Inv-loop μ-loop Inv-quads μ-quads
 shared-slice-read-link c = let p = from-start (c .before .before .before) .pre .0 in omega (arith, p .linking .linked, c .before .quads-test .taken)
 
-linked-face-requires : tie.Need-linked-face-requires Inv-loop2 μ-loop2 Inv-loop μ-loop Inv-quads μ-quads
-linked-face-requires c κs = from-start (c .before .before .before .before) .pre .0 .linking .code _ (c .before .before .quads-test .taken)
-
 cords-of-requires : tie.Need-cords-of-requires Inv-loop2 μ-loop2 Inv-loop μ-loop Inv-quads μ-quads
 cords-of-requires c κs =
-    let linking = from-start (c .before .before .before .before .before) .pre .0 .linking in
-    (linking .within, rw (c .before .cell-of .ensures) (linking .inside (c .before .before .before .before .quads .quad) (c .before .before .before .quads-test .taken)), c .before .before .before .before .before .before .before .inverted .ensures)
+    let linking = from-start (c .before .before .before .before) .pre .0 .linking in
+    (linking .within, rw (c .cell-of .ensures) (linking .inside (c .before .before .before .quads .quad) (c .before .before .quads-test .taken)), c .before .before .before .before .before .before .inverted .ensures)
 
-shared-slice-read-wide : tie.Need-shared-slice-read-wide Inv-loop2 μ-loop2 Inv-loop μ-loop Inv-quads μ-quads
-shared-slice-read-wide c =
-    let linking = from-start (c .before .before .before .before .before .before .before .before) .pre .0 .linking in
-    omega (arith, c .before .before .before .before .cell-of .ensures, linking .whole, linking .inside (c .before .before .before .before .before .before .before .quads .quad) (c .before .before .before .before .before .before .quads-test .taken))
+linked-face-requires : tie.Need-linked-face-requires Inv-loop2 μ-loop2 Inv-loop μ-loop Inv-quads μ-quads
+linked-face-requires c κs =
+    let linking = from-start (c .before .before .before .before .before) .pre .0 .linking in
+    let below = c .before .before .before .quads-test .taken in
+    (linking .code _ below, rw (linking .whole) (linking .inside _ below))
 
 is-other-word-requires : tie.Need-is-other-word-requires Inv-loop2 μ-loop2 Inv-loop μ-loop Inv-quads μ-quads
 is-other-word-requires c κs =
@@ -205,7 +194,7 @@ is-other-word-requires c κs =
     let e = worded w .width .ensures in
     let all = ap length (row-lent w) ∙ length-row-in (4 * part w .width) (quad w) (args .count) (now (args .list)) (counted w) (ok (worded w) .room) in
     let row = row-within (part w .width) (c .before .before .before .before .before .loop .vertex) 4 i in (
-      drawable (args .scene) (n w) (few-words (worded w)) _ _ _ _ (ok (worded w) .linking) _ (counted w) (start w .pre .1) _ _ _ (named w),
+      drawable (args .scene) (n w) (few-words (worded w)) _ _ _ _ (ok (worded w) .linking) _ (counted w) (start w .pre .1) (named w),
       ok (worded w) .has,
       i,
       omega arith,
@@ -262,8 +251,8 @@ first-wrong-row-spec =
     tie.close
     (tie.spec Inv-loop2 μ-loop2 Inv-loop μ-loop Inv-quads μ-quads inverted-requires (λ c κs. search needs) (λ c κs. search needs)
     (λ c. omega (arith, c .width .ensures, few-floats (from-start c .args .attribute))) (λ c. omega (arith, few-words c)) quads-holds
-    (λ c. search needs) shared-slice-read-link (λ c κs. search needs) linked-face-requires cords-of-requires (λ c. search needs)
-    shared-slice-read-wide (λ c κs. search needs) (λ c. let s = start c in omega (arith, stretch c)) (λ c. let s = start c in omega (arith, stretch c)) (λ c. let s = start c in omega (arith, words c)) (λ c. let s = start c in omega (arith, words c))
+    (λ c. search needs) shared-slice-read-link (λ c κs. search needs) cords-of-requires linked-face-requires
+    (λ c. let s = start c in omega (arith, stretch c)) (λ c. let s = start c in omega (arith, stretch c)) (λ c. let s = start c in omega (arith, words c)) (λ c. let s = start c in omega (arith, words c))
     (λ c. (omega arith, λ has k h. absurd (omega arith))) (λ c. (omega arith, λ has k h. c .before .loop .inv .1 has k (omega arith)))
     (λ c. let w = c .before .before .before .before in let s = start w in omega (arith, words w)) (λ c. search needs) (λ c. search needs) (λ c. words (c .before .before .before .before)) (λ c. let w = c .before .before .before .before .before in let s = start w in omega (arith, stretch w))
     (λ c. search needs) (λ c. search needs) (λ c. stretch (c .before .before .before .before .before)) is-other-word-requires add-float loop2-less loop2-again

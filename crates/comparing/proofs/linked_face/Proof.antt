@@ -1,17 +1,23 @@
--- `comparing::linked_face` meets its contract. Assumes nothing.
-use mathlib.Core.Path.{sym, _∙_}
-use Rattle.comparing.proofs.Compared.{code-face, code-none}
+-- `comparing::linked_face` meets its contract: the cell's type and the link's code. Assumes nothing.
+use mathlib.Core.Path.{_≡_, ap, _∙_}
+use Prim.Native.Nat.{ℕ, _+_, _-_, _*_}
+use native.Mathlib.Omega.{arith}
+use denote.Ref.{now}
+use lib.ListN.{getD}
 use borrow.Author.Needs.{needs}
+use Rattle.rules.specs.Cells.{cellIn}
+use Rattle.rules.proofs.ListLaws.{within}
 use Rattle.comparing.proofs.linked_face.Statement.{statement}
 use Rattle.comparing.proofs.linked_face.Tie as tie
 
 returns : tie.Need-returns
-returns c = code-face _ (c .before .before .before .before .pre) _ (sym (c .before .before .before .face-of .ensures) ∙ c .before .face .given .1)
-
-returns-2 : tie.Need-returns-2
-returns-2 c = absurd (code-none _ (c .before .before .before .pre) (sym (c .before .before .face-of .ensures) ∙ c .enum-told .given .1))
+returns c =
+    let t = c .before .before .before .before .before .before in
+    let g = now (t .args .grid) in
+    let kind = ap (λ (k : ℕ). getD g k 0) (c .before .before .before .before .cell-of .ensures) ∙ within g (cellIn (t .args .link)) 0 255 (t .pre .1) in
+    c .face-among .ensures ∙ (λ i. 6 * kind i + (5 - c .before .code-of .ensures i))
 
 pub linked-face-spec : {M : Type 1} → statement M
 linked-face-spec =
     tie.close
-    (tie.spec (λ c κs. search needs) (λ c. search needs) (λ c. search needs) returns returns-2)
+    (tie.spec (λ c κs. search needs) (λ c. search needs) (λ c. search needs) (λ c κs. search needs) (λ c. search needs) (λ c κs. search needs) returns)

@@ -7,7 +7,6 @@ use borrow.Author.Needs.{needs}
 use Rattle.rules.specs.Mesh.{attributeIn}
 use Rattle.rules.specs.Types.{quadWords}
 use Rattle.rules.proofs.Rows.{length-lent}
-use Rattle.face.specs.Face.{number}
 use Rattle.util.specs.Grid as grid
 use Rattle.floats.specs.Triples.{tripleOf}
 use Rattle.vav.specs.Attributes.{attributeOf}
@@ -49,9 +48,9 @@ returns c =
     let b = attributeOf (a .attribute) in
     let d = tripleOf (a .d) in
     let at = grid.tripleOf (a .at) in
-    lent (words w * a .q) (words w) (a .list .now) (wrote .write-attribute .last .0) (attributeIn n b 4 (quadWords (a .cube .now) n d (number (a .face)) at))
-    (wrote .write-attribute .ensures) (length-row-of (a .cube .now) n d (number (a .face)) at b (t .pre .1) ∙ ap (λ (k : ℕ). 4 * k) (sym (w .width .ensures)))
-    ∙ ap (λ (k : ℕ). put (4 * k * a .q) (attributeIn n b 4 (quadWords (a .cube .now) n d (number (a .face)) at)) (a .list .now)) (w .width .ensures)
+    lent (words w * a .q) (words w) (a .list .now) (wrote .write-attribute .last .0) (attributeIn n b 4 (quadWords (a .corners .now) n d 0 at))
+    (wrote .write-attribute .ensures) (length-row-of (a .corners .now) n d 0 at b (t .pre .1) ∙ ap (λ (k : ℕ). 4 * k) (sym (w .width .ensures)))
+    ∙ ap (λ (k : ℕ). put (4 * k * a .q) (attributeIn n b 4 (quadWords (a .corners .now) n d 0 at)) (a .list .now)) (w .width .ensures)
 
 pub write-place-spec : {M : Type 1} → statement M
 write-place-spec =

@@ -1,21 +1,22 @@
 -- `quads::quad_word` meets its contract: a position is moved, any other attribute is copied. Assumes nothing.
 use mathlib.Core.Path.{_≡_, sym, ap, _∙_}
-use Prim.Native.Nat.{ℕ, _+_, _≤_, _<_}
+use Prim.Native.Nat.{ℕ, _+_, _*_, _≤_, _<_}
 use native.Mathlib.Omega.{arith}
+use lib.ListN.{getD}
 use borrow.Author.Needs.{needs}
 use borrow.Author.Tests.{lt-ltb, le-ltb}
-use Rattle.rules.specs.Types.{quadWord}
+use Rattle.rules.specs.Types.{order, quadWord}
 use Rattle.rules.specs.Mesh as rules
 use Rattle.vav.specs.Attributes.{attributeOf}
 use Rattle.vav.proofs.Attributes.{is-first, is-past, few-floats}
-use Rattle.quads.proofs.Writing.{corner-below, low-along, finite-along}
+use Rattle.quads.proofs.Writing.{order-below, low-along, finite-along}
 use Rattle.quads.proofs.quad_word.Statement.{statement}
 use Rattle.quads.proofs.quad_word.Tie as tie
 
-within : (c : tie.After-vertex-of) → c .vertex-of .result < 24
+within : (c : tie.After-corner-of) → c .corner-of .result < 4
 within c =
     let t = c .before .before in
-    rw (c .vertex-of .ensures) (corner-below (t .args .face) (t .args .i) (t .pre .2))
+    rw (c .corner-of .ensures) (order-below (t .args .i) (t .pre .2))
 
 -- ---- a position
 module _ (c : tie.Then1) where
@@ -43,13 +44,14 @@ returns c =
     let arm = c .before .before .before .before in
     let t = placing arm in
     let k : (attributeOf (t .args .attribute)) .start + t .args .k ≡ t .args .k = omega (arith, first arm) in
-    rw k
+    let z : 4 * 0 + getD order (t .args .i) 0 ≡ getD order (t .args .i) 0 = omega arith in
+    rw (k, z)
     (simp (
       c .moved-word .ensures,
       c .before .along .ensures,
       c .before .before .coordinate .ensures,
       c .before .before .before .word-of .ensures,
-      arm .before .before .vertex-of .ensures,
+      arm .before .before .corner-of .ensures,
       lt-ltb _ _ (below arm),
     ))
 
@@ -61,7 +63,8 @@ returns-2 c =
     let t = arm .before .before .before .before in
     let past = is-past (t .args .attribute) (λ e. arm .if1 .left (arm .before .start .ensures ∙ e)) in
     let far : 3 ≤ (attributeOf (t .args .attribute)) .start + t .args .k = omega arith in
-    simp (c .word-of2 .ensures, c .before .start2 .ensures, arm .before .before .vertex-of .ensures, le-ltb _ _ far)
+    let z : 4 * 0 + getD order (t .args .i) 0 ≡ getD order (t .args .i) 0 = omega arith in
+    rw z (simp (c .word-of2 .ensures, c .before .start2 .ensures, arm .before .before .corner-of .ensures, le-ltb _ _ far))
 
 pub quad-word-spec : {M : Type 1} → statement M
 quad-word-spec =
