@@ -1,9 +1,8 @@
 // Float words: each float is its 32 bits, and f32 is met only inside these leaves. Nothing is fused.
 ghost use mathlib.Core.Path.{_≡_};
-ghost use mathlib.Core.Bool.{true, cond, not};
+ghost use mathlib.Core.Bool.{cond};
 ghost use Prim.Native.Nat.{_<_, _≤_};
 ghost use lib.Dec.{T};
-ghost use lib.Ieee.{binary32, add, toBits, isNan};
 ghost use Rattle.rules.specs.Cells.{along};
 ghost use Rattle.rules.specs.Floats.{f32, finite, finite3};
 ghost use Rattle.rules.specs.Cube.{highOf, lowOf, cornerWord, startOf, endOf, uvWord};
@@ -97,29 +96,11 @@ pub fn uv_word(end: bool, named: bool, tile: u32, atlas: u32, padding: u32) -> u
     }
 }
 
-// A word that is moved, or stays. With the sum alone in its arm the compiler needs no branch.
-fn moved_by(moves: bool, word: u32, shift: f32) -> u32
-    requires { ⌜ (moves ≡ true → T (finite word) × T (not (isNan (add binary32 (f32 word) shift)))) ⌝ }
-    ensures { λ r. ⌜ r ≡ cond moves (toBits binary32 (add binary32 (f32 word) shift)) word ⌝ }
-{
-    if moves {
-        f32::to_bits(f32::from_bits(word) + shift)
-    } else {
-        word
-    }
-}
-
-// A position that is moved by coordinate · d, or a word that stays. What is moved may be infinite.
-pub fn moved_if(moves: bool, word: u32, coordinate: u32, d: u32) -> u32
-    requires { ⌜ (moves ≡ true → T (finite word)) × (coordinate ≤ 1024) × T (finite d) ⌝ }
-    ensures { λ r. ⌜ r ≡ cond moves (movedWord word coordinate d) word ⌝ }
-{
-    moved_by(moves, word, (coordinate as f32) * f32::from_bits(d))
-}
-
+// A position, moved by coordinate · d. What is moved may be infinite.
 pub fn moved_word(word: u32, coordinate: u32, d: u32) -> u32
     requires { ⌜ T (finite word) × (coordinate ≤ 1024) × T (finite d) ⌝ }
     ensures { λ r. ⌜ r ≡ movedWord word coordinate d ⌝ }
 {
-    moved_if(true, word, coordinate, d)
+    let shift = (coordinate as f32) * f32::from_bits(d);
+    f32::to_bits(f32::from_bits(word) + shift)
 }

@@ -15,10 +15,8 @@ use Rattle.rules.specs.Lists.{part}
 use Rattle.rules.specs.Update.{shifts}
 use Rattle.rules.specs.Update as rule
 use Rattle.rules.proofs.ListLaws.{split}
+pub use Rattle.rules.proofs.Attributes.{length-part}
 use Rattle.vav.specs.Rows.{put, four, zeros, sourceOf, freed}
-
-pub length-part : (at n : ℕ) (xs : List ℕ) → at + n ≤ length xs → length (part at n xs) ≡ n
-length-part at n xs h = length-take-le n (drop at xs) (simp length-drop (omega arith))
 
 pub part-at : (at n : ℕ) (xs : List ℕ) (k : ℕ) → k < n → getD (part at n xs) k 0 ≡ getD xs (at + k) 0
 part-at at n xs k h = rw (getD-take n (drop at xs) k 0 h, getD-drop)
