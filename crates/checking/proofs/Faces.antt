@@ -9,7 +9,7 @@ use native.Mathlib.Decide.{decLt}
 use lib.Dec.{eqb}
 use lib.ListN.{length, getD}
 use borrow.Author.Tests.{eqb-true, eqb-false}
-use Rattle.rules.specs.Lists.{lowestFrom, lowest}
+use Rattle.rules.specs.Lists.{lowest}
 use Rattle.rules.specs.Cells.{has, setOf}
 use Rattle.rules.specs.Mesh.{World, Lists, NONE, there, placeOf, decode}
 use Rattle.rules.specs.Answers.{slotAt, wrongFace, isFilled, unlike}

@@ -11,7 +11,6 @@ use lib.Seq.{getD-take, length-take-le}
 use lib.Dec.{eqb, ltb}
 use borrow.Author.Tests.{ltb-false}
 use Rattle.rules.specs.Cells.{cells, linkOf}
-use Rattle.rules.specs.Types.{floats}
 use Rattle.rules.specs.Mesh.{Quad, Lists, decode, layout}
 use Rattle.rules.specs.Update.{source, Course, entryAt, work, blank}
 use Rattle.rules.specs.Answers.{Verdict, fine, refuse, BAD-SIZE, SHORT-SLOTS, BAD-COUNT, BAD-ENTRY, NO-ROOM}

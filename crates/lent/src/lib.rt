@@ -14,7 +14,6 @@ ghost use Prim.Native.Nat.{ℕ, _*_, _≤_, _<_, min};
 ghost use lib.ListN.{length, getD};
 ghost use lib.Dec.{leb, ltb};
 ghost use Rattle.rules.specs.Lists.{lowest};
-ghost use Rattle.rules.specs.Cube.{floatsOf};
 ghost use Rattle.rules.specs.Types.{Types};
 ghost use Rattle.rules.specs.Mesh.{Lists};
 ghost use Rattle.rules.specs.Answers.{_then_, BAD-SIZE, BAD-GRID, BAD-OUTER, BAD-CELL, SHORT-SLOTS, roomOf, BAD-COUNT};

@@ -1,9 +1,9 @@
 -- Laws of a face's corners, of what moves a position, and of the words of an attribute of a quad. Assumes nothing.
-use mathlib.Core.Path.{_≡_, refl, sym, ap, subst, _∙_}
+use mathlib.Core.Path.{_≡_, sym, ap, subst, _∙_}
 use mathlib.Core.Bool.{Bool, true, false, cond, _&&_}
 use mathlib.Core.List.{List, [], _∷_, _++_}
 use Prim.Native.Nat.{ℕ, zero, suc, _+_, _-_, _*_, _/_, _%_, _≤_, _<_}
-use native.Mathlib.Nat.{mul-le-mul-left, add-zero, zero-add}
+use native.Mathlib.Nat.{mul-le-mul-left, zero-add}
 use native.Mathlib.Omega.{arith}
 use lib.Dec.{T, eqb, ltb}
 use lib.ListN.{length, getD, take, drop}
@@ -13,7 +13,7 @@ use borrow.Author.Tests.{le-ltb}
 use Rattle.rules.specs.Lists.{each, table, part}
 use Rattle.rules.specs.Cells.{Triple, along}
 use Rattle.rules.specs.Floats.{finite}
-use Rattle.rules.specs.Types.{movedWord, order, quadWord, quadWords, positionOf}
+use Rattle.rules.specs.Types.{movedWord, order, quadWord, quadWords}
 use Rattle.rules.specs.Mesh.{normal, attributeIn}
 use Rattle.rules.specs.Mesh as rules
 use Rattle.rules.proofs.ListLaws.{length-row, getD-row, length-table, length-each, each-same, each-split}
@@ -23,7 +23,7 @@ use Rattle.vav.specs.declared.Attribute.{Attribute}
 use Rattle.vav.specs.declared.Attribute.the-variants.{Position, Normal, Uv, Colour}
 use Rattle.vav.specs.Attributes.{attributeOf}
 use Rattle.vav.proofs.Laws.{part-at, part-lent}
-use Rattle.quads.specs.Quads.{cornersOf, Has, Vertices, Corners, Drawable}
+use Rattle.quads.specs.Quads.{cornersOf, Has, FourVertices, Corners, Drawable}
 
 -- ---- corners
 
@@ -162,7 +162,7 @@ split-word Uv j h = record { wide = omega arith; vertex = omega arith; float = o
 split-word Colour j h = record { wide = omega arith; vertex = omega arith; float = omega arith; whole = omega arith }
 
 -- ---- a normal is the corner's words
-pub normal-word : (corners : List ℕ) (n : ℕ) (d a : Triple) (i k : ℕ) → Vertices corners n → i < 4 → k < 3
+pub normal-word : (corners : List ℕ) (n : ℕ) (d a : Triple) (i k : ℕ) → FourVertices corners n → i < 4 → k < 3
     → getD (attributeIn n normal 4 (quadWords corners n d 0 a)) (3 * i + k) 0 ≡ getD corners (n * getD order i 0 + 3 + k) 0
 unfolding quadWord
 normal-word corners n d a i k v I K =

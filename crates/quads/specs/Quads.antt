@@ -19,14 +19,14 @@ abbrev pub Has : ℕ → Attribute → Type 0
 Has n a = a .start + a .width ≤ n
 
 -- four vertices of 8 to 12 words
-pub record Vertices (corners : List ℕ) (floats : ℕ) : Type 0 where
+pub record FourVertices (corners : List ℕ) (floats : ℕ) : Type 0 where
   pub least : 8 ≤ floats
   pub most : floats ≤ 12
   pub whole : 4 * floats ≤ length corners
 
 -- corners of finite positions, which d and the coordinates `a` move
 pub record Corners (corners : List ℕ) (floats : ℕ) (a d : Triple) : Type 0 where
-  pub words : Vertices corners floats
+  pub words : FourVertices corners floats
   pub placed : (i axis : ℕ) → i < 4 → axis < 3 → T (finite (positionOf corners floats i axis))
   pub finite : T (finite3 d)
   pub x : a .x ≤ 1024

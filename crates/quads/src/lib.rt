@@ -18,7 +18,7 @@ ghost use Rattle.util.specs.Grid as grid;
 ghost use Rattle.floats.specs.Triples.{tripleOf};
 ghost use Rattle.vav.specs.Attributes.{attributeOf};
 ghost use Rattle.vav.specs.Rows.{put, four};
-ghost use Rattle.quads.specs.Quads.{Has, Vertices, Corners};
+ghost use Rattle.quads.specs.Quads.{Has, FourVertices, Corners};
 
 // The order in which a quad takes the corners of its face.
 const ORDER: [usize; 4] = [0, 1, 3, 2];
@@ -43,7 +43,7 @@ fn coordinate(at: Coordinates, axis: usize) -> u32
 
 // Word k of a corner.
 fn word_of(corners: &[u32], floats: usize, corner: usize, k: usize) -> u32
-    requires { ⌜ Vertices (now corners) floats × (corner < 4) × (k < floats) ⌝ }
+    requires { ⌜ FourVertices (now corners) floats × (corner < 4) × (k < floats) ⌝ }
     ensures { λ r. ⌜ r ≡ getD (now (corners .entry)) (floats * corner + k) 0 ⌝ }
 {
     corners[floats * corner + k]
@@ -113,7 +113,7 @@ fn write_words(
 
 // Writes the normals of a quad. Those of a vertex go with the word after them at once, over which the next vertex's are written.
 fn write_normals(out: &mut [u32], corners: &[u32], floats: usize)
-    requires { ⌜ Vertices (now corners) floats × (length (now out) ≡ 12) ⌝ }
+    requires { ⌜ FourVertices (now corners) floats × (length (now out) ≡ 12) ⌝ }
     ensures { λ _. ⌜ ((d a : cells.Triple) → now (out .exit) ≡ attributeIn floats normal 4 (quadWords (now (corners .entry)) floats d 0 a)) ⌝ }
 {
     let mut i: usize = 0;

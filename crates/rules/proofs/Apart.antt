@@ -2,26 +2,26 @@
 -- attributes, over where an attribute starts, how many floats it has, and how many a vertex has. Assumes nothing.
 use mathlib.Core.Path.{_≡_, refl, sym, ap, subst, _∙_}
 use mathlib.Core.Bool.{Bool, true, false, cond}
-use mathlib.Core.List.{List, [], _∷_, _++_, append-nil, append-assoc}
+use mathlib.Core.List.{List, [], _∷_, _++_}
 use Prim.Native.Nat.{ℕ, zero, suc, _+_, _-_, _*_, _/_, _≤_, _<_, min}
-use native.Mathlib.Nat.{mul-le-mul-left, add-zero, zero-add, suc-add, add-suc}
+use native.Mathlib.Nat.{mul-le-mul-left}
 use native.Mathlib.Omega.{arith}
-use lib.ListN.{length, getD, take, drop, replicate, length-append, length-drop, length-replicate, take-append-drop, replicate-append-replicate}
+use lib.ListN.{length, getD, take, drop, replicate, length-drop, length-replicate, take-append-drop, replicate-append-replicate}
 use lib.Seq.{take-at, drop-at, take-append-le, drop-append-le, length-take-le}
 use lib.Dec.{ltb}
 use borrow.Author.Tests.{ltb-false}
-use Rattle.rules.specs.Lists.{each, part, row, table, lowest}
+use Rattle.rules.specs.Lists.{each, part, row, table}
 use Rattle.rules.specs.Cells.{cells, keyIn}
 use Rattle.rules.specs.Cube.{floatsOf}
 use Rattle.rules.specs.Types.{floats}
-use Rattle.rules.specs.Mesh.{Quad, Attribute, position, normal, uv, colour, attributeIn, Vertices, HasList, of-positions, of-normals, of-uvs, of-colours, eachList, quadIn, Lists, rows, laid, rowOf, attributeLaid, layout, decoded}
+use Rattle.rules.specs.Mesh.{Quad, Attribute, position, normal, uv, colour, attributeIn, HasList, of-positions, of-normals, of-uvs, of-colours, Lists, rows, laid, attributeLaid, layout, decoded}
 use Rattle.rules.specs.Update.{Tested, Course}
 use Rattle.rules.specs.Answers.{Verdict, fine, refuse, _then_, refuseIf, BAD-SIZE, SHORT-SLOTS, roomOf, BAD-COUNT, badLink, BAD-LINKS, BAD-ENTRY, WRONG-SET, wrongVertex, WRONG-VERTEX}
 use Rattle.rules.specs.Calls.{answered, Scene, world, span, faces, room, typesVerdict, freshMesh, inputVerdict, meshVerdictIn, meshVerdict, meshedBy, meshGrid, lentVerdict, updateVerdictIn, updateVerdict, courseIn, course, courseAnswer, updateBy, updateMesh, openVerdictIn, openVerdict, bookVerdict, faceVerdictOf, faceVerdict, checkBy, checkMesh}
 use Rattle.rules.specs.Together.{Together, others, roomTogether, quadTogether, layoutTogether, meshedTogetherBy, meshTogether, courseTogether, updatedTogetherBy, updateTogether, checkTogether, apart, outcomeApart}
 use Rattle.rules.proofs.ListLaws.{All, all-kept, each-same, each-split, each-on, lowest-cong}
-use Rattle.rules.proofs.Attributes.{length-part, part-past, part-part, each-rows, length-attribute, row-attribute, inside-of, each-list, quad-of-attributes}
-use Rattle.rules.proofs.Laying.{Fits, length-rows, length-laid, Sized}
+use Rattle.rules.proofs.Attributes.{length-part, part-past, part-part, each-rows, length-attribute, row-attribute, inside-of, quad-of-attributes}
+use Rattle.rules.proofs.Laying.{length-rows, length-laid, Sized}
 use Rattle.rules.proofs.Checking.{then-fine, if-fine}
 use Rattle.rules.proofs.Courses.{Sane}
 use Rattle.rules.proofs.Demands.{fresh-sane, ran-sane}

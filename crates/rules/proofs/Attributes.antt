@@ -6,7 +6,7 @@ use Prim.Native.Nat.{ℕ, zero, suc, _+_, _-_, _*_, _≤_, _<_}
 use native.Mathlib.Nat.{zero-add, suc-add, mul-le-mul-left}
 use native.Mathlib.Omega.{arith}
 use lib.ListN.{length, take, drop, length-append, length-drop}
-use lib.Seq.{take-add, take-at, take-nil, take-all, take-take, drop-drop, drop-nil, drop-append-add, length-take-le}
+use lib.Seq.{take-add, take-at, take-nil, take-all, take-take, drop-drop, drop-append-add, length-take-le}
 use Rattle.rules.specs.Lists.{each, part, row, same}
 use Rattle.rules.specs.Cube.{floatsOf}
 use Rattle.rules.proofs.ListLaws.{each-same, same-true, same-refl, not-true, or-false}

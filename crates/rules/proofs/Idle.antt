@@ -15,9 +15,8 @@ use Rattle.rules.specs.Cube.{floatsOf}
 use Rattle.rules.specs.Mesh.{Quad, Attribute, attributeIn, HasList, eachList, rowOf, attributeLaid, Lists, NONE, there, placeOf, rows, laid, slotOf, slotted, layout, pattern, decode}
 use Rattle.rules.specs.Update.{Tested, source, Work, nothing, ops, needed, work, entryAt, blank, courseFrom}
 use Rattle.rules.specs.Answers.{fine, slotAt, SHORT-SLOTS, BAD-COUNT, BAD-SIZE, _then_, BAD-ENTRY}
-use Rattle.rules.specs.Types.{floats}
 use Rattle.rules.specs.Check.{linked}
-use Rattle.rules.specs.Calls.{answered, Scene, world, span, faces, room, bookVerdict, lentVerdict, typesVerdict, updateVerdict, updateMesh}
+use Rattle.rules.specs.Calls.{answered, Scene, world, faces, room, bookVerdict, lentVerdict, typesVerdict, updateVerdict, updateMesh}
 use Rattle.rules.proofs.Cases.{scene, quadsIn, above, below, withAbove, null-unrefused, null-idle}
 use Rattle.rules.proofs.ListLaws.{table-is, length-table}
 use Rattle.rules.proofs.Attributes.{lies, each-list, each-stays, attribute-quad}

@@ -9,7 +9,7 @@ use Rattle.rules.specs.Cells.{Size, Triple, cells, has}
 use Rattle.rules.specs.Cube.{Shape, floatsOf}
 use Rattle.rules.specs.Mesh.{Lists, Quad, decode}
 use Rattle.rules.specs.Update.{u32At, source}
-use Rattle.rules.specs.Calls.{Answer, refused, CubeOutcome, generateVoxelMesh, Scene, Outcome, meshGrid, updateMesh, span}
+use Rattle.rules.specs.Calls.{Answer, refused, CubeOutcome, generateVoxelMesh, Scene, Outcome, meshGrid, updateMesh}
 
 -- ---- the file: types, grid, log, then a 92-byte trailer of 23 u32 pointing back
 

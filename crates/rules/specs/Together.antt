@@ -1,11 +1,10 @@
 -- The layout before 02, Q-8: the vertices of all quads in one list, 8 or 12 floats a vertex; and the calls on it. Definitions only.
-use Prim.Native.Nat.{ℕ, _*_, _/_, min}
+use Prim.Native.Nat.{ℕ, _/_, min}
 use mathlib.Core.Bool.{Bool, cond}
 use mathlib.Core.List.{List}
 use lib.ListN.{length, getD}
 use Rattle.rules.specs.Lists.{row, table}
 use Rattle.rules.specs.Cells.{keyIn}
-use Rattle.rules.specs.Cube.{floatsOf}
 use Rattle.rules.specs.Types.{floats}
 use Rattle.rules.specs.Mesh.{Quad, position, normal, uv, colour, attributeIn, noVertices, Lists, listsOf, laid, layout}
 use Rattle.rules.specs.Update.{Tested, Course}

@@ -1,7 +1,7 @@
 -- The attributes, one by one: positions come first, and every other one past them. Assumes nothing.
 use mathlib.Core.Path.{_≡_, refl}
 use mathlib.Core.Logic.{_≢_}
-use Prim.Native.Nat.{ℕ, _+_, _≤_}
+use Prim.Native.Nat.{_≤_}
 use native.Mathlib.Omega.{arith}
 use Rattle.rules.specs.Mesh.{position, normal}
 use Rattle.vav.specs.declared.Attribute.{Attribute}

@@ -8,7 +8,7 @@ use native.Mathlib.Nat.{add-zero, mul-le-mul-left}
 use native.Mathlib.Omega.{arith}
 use native.Mathlib.Decide.{decLt}
 use lib.ListN.{length, take, drop, getD, set, replicate, length-append, length-take, length-drop, length-replicate, List·getD-append, take-append-drop, drop-of-length-le, replicate-append-replicate}
-use lib.Seq.{ext-getD, sets, sets-eq, take-at, drop-at, drop-append-add, take-suc, drop-cons, getD-drop, getD-take, set-at, set-split, length-take-le, getD-append-add, drop-drop}
+use lib.Seq.{ext-getD, sets, sets-eq, take-at, drop-at, drop-append-add, take-suc, drop-cons, getD-drop, getD-take, set-at, set-split, getD-append-add, drop-drop}
 use borrow.Author.Tests.{leb-false}
 use borrow.Rule.Slice.PartMut.{putMid}
 use Rattle.rules.specs.Lists.{part}

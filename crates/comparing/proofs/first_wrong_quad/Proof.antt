@@ -6,7 +6,6 @@ use Prim.Native.Nat.{ℕ, _*_, _≤_, _<_}
 use native.Mathlib.Nat.{mul-le-mul-left}
 use native.Mathlib.Omega.{arith}
 use denote.Ref.{now}
-use borrow.Author.Needs.{needs}
 use Rattle.rules.specs.Lists.{lowest}
 use Rattle.rules.specs.Cells.{Size}
 use Rattle.rules.specs.Cube.{floatsOf}

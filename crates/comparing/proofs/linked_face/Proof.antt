@@ -1,7 +1,6 @@
 -- `comparing::linked_face` meets its contract: the cell's type and the link's code. Assumes nothing.
-use mathlib.Core.Path.{_≡_, ap, _∙_}
+use mathlib.Core.Path.{ap, _∙_}
 use Prim.Native.Nat.{ℕ, _+_, _-_, _*_}
-use native.Mathlib.Omega.{arith}
 use denote.Ref.{now}
 use lib.ListN.{getD}
 use borrow.Author.Needs.{needs}

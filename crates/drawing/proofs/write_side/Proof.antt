@@ -1,6 +1,6 @@
 -- `drawing::write_side` meets its contract: the face's corners are lent of the registry. Assumes nothing.
 use mathlib.Core.Path.{_≡_, sym, ap, subst, _∙_}
-use mathlib.Core.Bool.{Bool, true, false}
+use mathlib.Core.Bool.{Bool}
 use mathlib.Core.List.{List, []}
 use Prim.Native.Nat.{ℕ, _+_, _-_, _*_, _/_, _%_, _≤_, _<_}
 use native.Mathlib.Omega.{arith}
@@ -17,7 +17,7 @@ use Rattle.util.proofs.Rows.{row-cords}
 use Rattle.terms.specs.Scenes.{sceneOf}
 use Rattle.quads.specs.Quads.{cornersOf, Corners}
 use Rattle.quads.proofs.Writing.{corners-end, corners-lent, drawable-corners, quad-of-corners}
-use Rattle.drawing.specs.Written.{Side, Long, quadWritten, sideWords}
+use Rattle.drawing.specs.Written.{Long, quadWritten, sideWords}
 use Rattle.drawing.proofs.write_side.Statement.{statement}
 use Rattle.drawing.proofs.write_side.Tie as tie
 

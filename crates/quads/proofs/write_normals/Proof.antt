@@ -1,16 +1,16 @@
 -- `quads::write_normals` meets its contract: each turn gets a vertex's words right, and the next one's place is written over. Assumes nothing.
-use mathlib.Core.Path.{_≡_, sym, ap, subst, _∙_}
+use mathlib.Core.Path.{_≡_, sym, subst, _∙_}
 use mathlib.Core.List.{List}
 use Prim.Native.Nat.{ℕ, _+_, _-_, _*_, _≤_, _<_}
 use native.Mathlib.Omega.{arith}
-use lib.ListN.{length, getD}
+use lib.ListN.{length}
 use borrow.Author.Needs.{needs}
 use Rattle.rules.specs.Cells.{Triple}
-use Rattle.rules.specs.Types.{order, quadWords}
+use Rattle.rules.specs.Types.{quadWords}
 use Rattle.rules.specs.Mesh.{normal, attributeIn}
 use Rattle.vav.specs.Rows.{four}
 use Rattle.vav.proofs.Laws.{Begun, none-begun, begun-more, begun-all, four-at, part-at, length-part}
-use Rattle.quads.specs.Quads.{Vertices}
+use Rattle.quads.specs.Quads.{FourVertices}
 use Rattle.quads.proofs.Writing.{order-below, corner-within, length-row-of, normal-word}
 use Rattle.quads.proofs.write_normals.Statement.{statement}
 use Rattle.quads.proofs.write_normals.Tie as tie
@@ -24,7 +24,7 @@ Inv-loop out₀ corners floats i₀ out i = (i ≤ 3) × (length out ≡ 12) × 
 abbrev μ-loop : tie.MeasureT-loop
 μ-loop out₀ corners floats i₀ out i = 3 - i
 
-module _ {corners : List ℕ} {n : ℕ} (vs : Vertices corners n) where
+module _ {corners : List ℕ} {n : ℕ} (vs : FourVertices corners n) where
   long : (d a : Triple) → length (normals corners n d a) ≡ 12
   long d a = length-row-of corners n d 0 a normal (omega (arith, vs .least))
 
