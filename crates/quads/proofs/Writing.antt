@@ -92,13 +92,13 @@ along-of P v k x y z = first (eqb k 0) (eqb k 1)
     first false false = z
 
 module _ {corners : List ℕ} {n : ℕ} {a d : Triple} (h : Corners corners n a d) where
-  pub finite-x : T (finite (d .x))
+  finite-x : T (finite (d .x))
   finite-x = and-l (finite (d .x)) (finite (d .y)) (and-l (finite (d .x) && finite (d .y)) (finite (d .z)) (h .finite))
 
-  pub finite-y : T (finite (d .y))
+  finite-y : T (finite (d .y))
   finite-y = and-r (finite (d .x)) (finite (d .y)) (and-l (finite (d .x) && finite (d .y)) (finite (d .z)) (h .finite))
 
-  pub finite-z : T (finite (d .z))
+  finite-z : T (finite (d .z))
   finite-z = and-r (finite (d .x) && finite (d .y)) (finite (d .z)) (h .finite)
 
   pub finite-along : (k : ℕ) → T (finite (along d k))
