@@ -13,7 +13,7 @@ use Rattle.rules.specs.Lists.{each, table, every, part}
 use Rattle.rules.specs.Cells.{cells}
 use Rattle.rules.specs.Mesh.{Quad, Lists, layout, decode}
 use Rattle.rules.specs.Update.{Entry, Work, Course, Tested, u32At, entryAt, work, ops, run, moves, highest, needed, courseFrom, meshAfter}
-use Rattle.rules.specs.Answers.{fine, refuseLowest, BAD-SIZE, badNeighbour, badEntry, BAD-ENTRY}
+use Rattle.rules.specs.Answers.{fine, refuseLowest, BAD-SIZE, badSide, badSides, badEntry, BAD-ENTRY}
 use Rattle.rules.specs.Calls.{Scene, answered, world, faces, room, typesVerdict, lentVerdict, updateVerdict, entriesOf, course, updateBy, updateMesh}
 use Rattle.rules.proofs.ListLaws.{each-same, each-split}
 use Rattle.rules.proofs.Checking.{then-fine, fine-then, fine-if, lowest-fine, fine-lowest}
@@ -95,15 +95,16 @@ module _ (k : ℕ) (first rest : List ℕ) (whole : length first ≡ 12 * k) whe
   every-alike (suc n) p q h = rw (h n (omega arith), every-alike n p q (λ i l. h i (omega arith)))
 
   bad-stays : (cells types j : ℕ) → j < k → badEntry cells types (first ++ rest) j ≡ badEntry cells types first j
-  unfolding badEntry
+  unfolding badEntry badSides
   bad-stays cells types j h =
+      let change = byte (12 * j + 4) (omega arith) in
       rw (
         word j h,
-        byte (12 * j + 4) (omega arith),
+        change,
         byte (12 * j + 5) (omega arith),
-        every-alike 6 (λ f. not (badNeighbour types (getD (first ++ rest) (12 * j + (6 + f)) 0)))
-            (λ f. not (badNeighbour types (getD first (12 * j + (6 + f)) 0)))
-            (λ f l. ap (λ (t : ℕ). not (badNeighbour types t)) (byte (12 * j + (6 + f)) (omega arith))),
+        every-alike 6 (λ f. not (badSide types (getD first (12 * j + 4) 0) (getD (first ++ rest) (12 * j + (6 + f)) 0)))
+            (λ f. not (badSide types (getD first (12 * j + 4) 0) (getD first (12 * j + (6 + f)) 0)))
+            (λ f l. ap (λ (t : ℕ). not (badSide types (getD first (12 * j + 4) 0) t)) (byte (12 * j + (6 + f)) (omega arith))),
       )
 
 -- the entries of the first k are the first k entries

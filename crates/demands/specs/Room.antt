@@ -2,7 +2,7 @@
 use Prim.Native.Nat.{ℕ, _/_, _≤_, _<_}
 use mathlib.Core.List.{List}
 use lib.ListN.{length}
-use Rattle.rules.specs.Mesh.{Lists, decode}
+use Rattle.rules.specs.Mesh.{Quad, Lists, decode}
 use Rattle.rules.specs.Update.{Tested, work, entryAt, needed, meshAfter}
 use Rattle.rules.specs.Calls.{Scene, world, room}
 use Rattle.answers.specs.declared.Refusal.the-variants.{NoRoom}
@@ -10,10 +10,13 @@ use Rattle.terms.specs.declared.Count.{Count}
 use Rattle.update.specs.declared.Updated.{Updated}
 use Rattle.update.specs.declared.Updated.the-variants.{Done, Refused}
 
--- what entry k needs: Q, less its own removed quads, plus the new ones it draws, on the mesh that the entries before it left
+-- the mesh that the entries before entry k left
+abbrev pub meshBefore : Tested → Scene → List ℕ → Lists → ℕ → ℕ → List Quad
+meshBefore tested S log B Q k = meshAfter (λ j. work tested (world S) (entryAt log j)) 0 k (decode (S .types .coloured) Q B)
+
+-- what entry k needs: Q, less its own removed quads, plus the new ones it draws, on that mesh
 abbrev pub neededAt : Tested → Scene → List ℕ → Lists → ℕ → ℕ → ℕ
-neededAt tested S log B Q k =
-    needed (work tested (world S) (entryAt log k)) (meshAfter (λ j. work tested (world S) (entryAt log j)) 0 k (decode (S .types .coloured) Q B))
+neededAt tested S log B Q k = needed (work tested (world S) (entryAt log k)) (meshBefore tested S log B Q k)
 
 abbrev pub FindsRoom : Tested → Scene → List ℕ → Lists → ℕ → ℕ → Type 0
 FindsRoom tested S log B Q k = neededAt tested S log B Q k ≤ room S B

@@ -9,20 +9,24 @@ use native.Mathlib.Numerals.{add-one}
 use native.Mathlib.Nat.{add-zero}
 use lib.ListN.{length, getD}
 use lib.Dec.{eqb, leb, ltb}
-use borrow.Author.Tests.{lt-ltb, le-ltb, leb-true, leb-false, eqb-true, eqb-false}
+use borrow.Author.Tests.{lt-ltb, le-ltb, leb-true, leb-false, eqb-true, eqb-false, ne-eqb}
 use Rattle.rules.specs.Lists.{each, table, part, every, lowestFrom}
 use Rattle.rules.specs.Update as rule
 use Rattle.rules.specs.Answers.{badNeighbour}
 use Rattle.rules.proofs.ListLaws.{getD-table, table-is}
 use Rattle.vav.proofs.Laws.{length-part, part-at}
 use Rattle.entries.specs.declared.Entry.{Entry}
-use Rattle.entries.specs.Log.{entryIn}
+use Rattle.entries.specs.Log.{entryIn, sideOf}
+use Rattle.entries.specs.declared.Side.the-variants.{Keep}
 
-pub change-last : (n : ℕ) → n ≢ 0 → n ≢ 1 → n ≢ 2 → rule.AddFaces ≡ rule.changeOf n
-change-last zero a b c = absurd (a refl)
-change-last (suc zero) a b c = absurd (b refl)
-change-last (suc (suc zero)) a b c = absurd (c refl)
-change-last (suc (suc (suc n))) a b c = refl
+pub change-last : (n : ℕ) → n ≢ 0 → n ≢ 1 → rule.Sides ≡ rule.changeOf n
+change-last zero a b = absurd (a refl)
+change-last (suc zero) a b = absurd (b refl)
+change-last (suc (suc n)) a b = refl
+
+-- a byte that says neither
+pub side-kept : (n : ℕ) → n ≢ 1 → n ≢ 2 → Keep ≡ sideOf n
+side-kept n a b = rw (ne-eqb n 1 a, ne-eqb n 2 b)
 
 -- one more of which p holds, or not
 pub every-more : (n : ℕ) (p : ℕ → Bool) → (every n p && p n) ≡ every (n + 1) p

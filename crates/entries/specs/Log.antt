@@ -6,16 +6,18 @@ use Rattle.rules.specs.Lists.{table}
 use Rattle.rules.specs.Update.{outside}
 use Rattle.rules.specs.Update as rule
 use Rattle.entries.specs.declared.VoxelChange.{VoxelChange}
-use Rattle.entries.specs.declared.VoxelChange.the-variants.{Broken, Added, CullFaces, AddFaces}
+use Rattle.entries.specs.declared.VoxelChange.the-variants.{Broken, Added, Sides}
 use Rattle.entries.specs.declared.Entry.{Entry}
 use Rattle.entries.specs.declared.Neighbour.{Neighbour}
 use Rattle.entries.specs.declared.Neighbour.the-variants.{Outside, Voxel}
+use Rattle.entries.specs.declared.Side.{Side}
+use Rattle.entries.specs.declared.Side.the-variants.{Keep, Hide, Draw}
+use lib.Dec.{eqb}
 
 abbrev pub changeIn : VoxelChange → rule.Change
 changeIn Broken = rule.Broken
 changeIn Added = rule.Added
-changeIn CullFaces = rule.CullFaces
-changeIn AddFaces = rule.AddFaces
+changeIn Sides = rule.Sides
 
 abbrev pub entryIn : Entry → rule.Entry
 entryIn e =
@@ -29,3 +31,7 @@ entryIn e =
 -- a neighbour is either outside or a voxel of a type
 abbrev pub neighbourOf : ℕ → Neighbour
 neighbourOf t = cond (outside t) Outside (Voxel t)
+
+-- 0 keep, 1 hide, 2 draw
+abbrev pub sideOf : ℕ → Side
+sideOf byte = cond (eqb byte 1) Hide (cond (eqb byte 2) Draw Keep)

@@ -3,25 +3,32 @@ use face::Cell;
 use face::Face;
 use std::num::wrapping_add_u8;
 ghost use mathlib.Core.Path.{_≡_};
-ghost use mathlib.Core.Bool.{not};
+ghost use mathlib.Core.Bool.{cond};
 ghost use Prim.Native.Nat.{_+_, _-_, _*_, _/_, _≤_, _<_, min};
-ghost use lib.ListN.{length, getD};
-ghost use Rattle.rules.specs.Lists.{every, lowest};
+ghost use lib.ListN.{length};
+ghost use lib.Dec.{ltb};
+ghost use Rattle.rules.specs.Lists.{lowest};
 ghost use Rattle.rules.specs.Update.{u32At, changeOf, entryAt, givenAt};
-ghost use Rattle.rules.specs.Answers.{badNeighbour, badEntry};
+ghost use Rattle.rules.specs.Answers.{badNeighbour, badSides, badEntry};
 ghost use Rattle.face.specs.Face.{number};
-ghost use Rattle.entries.specs.Log.{changeIn, entryIn, neighbourOf};
+ghost use Rattle.entries.specs.Log.{changeIn, entryIn, neighbourOf, sideOf};
 
 pub enum VoxelChange {
     Broken,
     Added,
-    CullFaces,
-    AddFaces,
+    Sides,
 }
 
 pub enum Neighbour {
     Outside,
     Voxel(u8),
+}
+
+// What Sides does with a side of its cell.
+pub enum Side {
+    Keep,
+    Hide,
+    Draw,
 }
 
 pub struct Entry {
@@ -38,8 +45,7 @@ impl VoxelChange {
         match code {
             0 => VoxelChange::Broken,
             1 => VoxelChange::Added,
-            2 => VoxelChange::CullFaces,
-            _ => VoxelChange::AddFaces,
+            _ => VoxelChange::Sides,
         }
     }
 }
@@ -60,6 +66,18 @@ impl Entry {
             Neighbour::Outside
         } else {
             Neighbour::Voxel(given)
+        }
+    }
+
+    pub fn side(self, face: Face) -> Side
+        ensures { λ r. ⌜ r ≡ sideOf (givenAt (entryIn self) (number face)) ⌝ }
+    {
+        let side = face.number() as usize;
+        let byte = self.neighbours[side];
+        match byte {
+            1 => Side::Hide,
+            2 => Side::Draw,
+            _ => Side::Keep,
         }
     }
 }
@@ -113,22 +131,26 @@ fn byte_of(types: u32) -> u8
     if types < 255 { types as u8 } else { 255 }
 }
 
-// One test of bytes, so that the six go at once: 255 and 1 wrap to 0, which is over no number of types.
-fn bad_neighbour(given: u8, types: u32) -> bool
-    ensures { λ r. ⌜ r ≡ badNeighbour types given ⌝ }
+// One test of a byte, so that the six go at once. Of a neighbour: 255 and 1 wrap to 0, which is over no number of types.
+fn bad_side(byte: u8, sides: bool, types: u32) -> bool
+    ensures { λ r. ⌜ r ≡ cond sides (ltb 2 byte) (badNeighbour types byte) ⌝ }
 {
-    byte_of(types) < wrapping_add_u8(given, 1)
+    if sides {
+        return 2 < byte;
+    }
+    byte_of(types) < wrapping_add_u8(byte, 1)
 }
 
-// Whether one of the six neighbours that start at `at` is no type and not outside.
-fn bad_neighbours(log: &[u8], at: usize, types: u32) -> bool
+// Whether one of the six bytes of the entry that starts at `at` is none that its change takes.
+fn bad_sides(log: &[u8], at: usize, types: u32) -> bool
     requires { ⌜ at + 12 ≤ length (now log) ⌝ }
-    ensures { λ r. ⌜ r ≡ not (every 6 (λ f. not (badNeighbour types (getD (now (log .entry)) (at + (6 + f)) 0)))) ⌝ }
+    ensures { λ r. ⌜ r ≡ badSides types (now (log .entry)) at ⌝ }
 {
+    let sides = log[at + 4] == 2;
     let mut good = true;
     let mut f = 0;
     while f < 6 {
-        good = good & !bad_neighbour(log[at + (6 + f)], types);
+        good = good & !bad_side(log[at + (6 + f)], sides, types);
         f += 1;
     }
     !good
@@ -141,9 +163,9 @@ fn bad_entry(log: &[u8], k: usize, cells: u32, types: u32) -> bool
     let at = Entry::BYTES * k;
     (Entry::MOST <= k)
         | (cells <= u32_at(log, at))
-        | (3 < log[at + 4])
+        | (2 < log[at + 4])
         | (types <= wide_byte(log[at + 5]))
-        | bad_neighbours(log, at, types)
+        | bad_sides(log, at, types)
 }
 
 // The lowest entry with a bad field or past the limit, or the number of whole entries.

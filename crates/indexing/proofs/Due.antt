@@ -13,7 +13,7 @@ use Rattle.rules.specs.Cells.{cells, has, opposite, neighbour, keyOf, quadsOf}
 use Rattle.rules.specs.Mesh.{Quad, World, NONE, there}
 use Rattle.rules.specs.Update as rule
 use Rattle.rules.specs.Update.{Entry, Op, run, ops, needed}
-use Rattle.rules.proofs.ListLaws.{All, and-true, all-kept, all-map, all-each, not-member, map-each, split, each-same, count-each, members, read-one, read-none}
+use Rattle.rules.proofs.ListLaws.{All, and-false, and-with, and-true, all-kept, all-map, all-each, not-member, map-each, split, each-same, count-each, members, read-one, read-none}
 use Rattle.rules.proofs.Sets.{setOf-lt, has-setOf}
 use Rattle.rules.proofs.Neighbours.{beside, opposite-lt}
 use Rattle.rules.proofs.Quads.{Once, run-once}
@@ -192,16 +192,12 @@ module _ (W : World) (e : Entry) (grid : Within (W .size)) (inside : e .cell < c
           far = far;
           met = met;
           there-yet = seen-far (w .own) 0 k far m once ∙ sees k low;
-          due-now = rw (met, ne-eqb k NONE (λ z. omega (arith, grid .most))) (ap (λ (y : Bool). has (w .shown) f && y) (split (λ y. (y && true) ≡ y) (isBare slots k) (λ _. refl) (λ _. refl)));
+          due-now = rw (met, ne-eqb k NONE (λ z. omega (arith, grid .most))) (ap (λ (y : Bool). has (w .shown) f && y) (and-with (isBare slots k)));
         }
 
     -- where the grid has no neighbour nothing is due
     none-due : (f : ℕ) → f < 6 → neighbour (W .size) (e .cell) f ≡ none → (due 1 f ≡ false) × (due 3 f ≡ false)
-    none-due f l q = let met = near-key (W .size) (e .cell) 1 f refl l ∙ ap (keyOr f) q in rw (met, no-face) (never (has (w .shown) f), ap (λ (b : Bool). has (w .hidden) f && b) (never (has (w .shown) f)) ∙ never (has (w .hidden) f))
-      where
-        never : (b : Bool) → (b && false) ≡ false
-        never true = refl
-        never false = refl
+    none-due f l q = let met = near-key (W .size) (e .cell) 1 f refl l ∙ ap (keyOr f) q in rw (met, no-face) (and-false (has (w .shown) f), ap (λ (b : Bool). has (w .hidden) f && b) (and-false (has (w .shown) f)) ∙ and-false (has (w .hidden) f))
 
     -- LAW: what is due is what changes something
     due-at : (j f : ℕ) → j < 4 → f < 6 → acting (opsAt W e (setIn w j) j f) (before j) ≡ opsOf (quadIn W) (only (due j f) (deedBy (cutting j) (typeDrawn e j f) (keyMet keys j f)))

@@ -13,7 +13,7 @@ use borrow.Author.Tests.{leb-true}
 use Rattle.rules.specs.Lists.{each, only}
 use Rattle.rules.specs.Cells.{cells, opposite, neighbour, keyOf}
 use Rattle.rules.specs.Mesh.{Quad, World, isNormalCube, covering, meshBy, quadsBy, typeAt, there, placeOf, quadOf}
-use Rattle.rules.specs.Update.{Change, Broken, Added, CullFaces, AddFaces, Entry, givenAt, blank, draw, shifts, removeAt, remove, moved, Op, put, cut, step, run, moves, highest, Work, Tested, quads, hide, reveal, all, isOpen, withGiven, nothing, added, workBy, work, cuts, puts, ops, needed, Course, courseFrom, meshAfter, emptyType, gridBy, gridAfter, gridLog, Honest, Mends, AddsAlike}
+use Rattle.rules.specs.Update.{Change, Broken, Added, Sides, Entry, givenAt, blank, draw, shifts, removeAt, remove, moved, Op, put, cut, step, run, moves, highest, Work, Tested, quads, hide, reveal, all, isOpen, toHide, toDraw, nothing, added, workBy, work, cuts, puts, ops, needed, Course, courseFrom, meshAfter, emptyType, gridBy, gridAfter, gridLog, Honest, Mends, AddsAlike}
 use Rattle.rules.proofs.ListLaws.{All, all-append, all-take, all-drop, all-at, all-each, all-only, split, each-few}
 use Rattle.rules.proofs.Neighbours.{beside, opposite-lt}
 use Rattle.rules.proofs.Quads.{Once, placed, moved-le, length-removeAt, run-append, run-once}
@@ -21,7 +21,7 @@ use Rattle.rules.proofs.Laying.{Fits}
 use Rattle.rules.proofs.Mending.{Shows, Sound, mends-entry}
 
 -- ---- moves: at most five a removal, sixty an entry
-moves-append : (a b : List Op) (m : List Quad) → moves (a ++ b) m ≡ moves a m + moves b (run a m)
+pub moves-append : (a b : List Op) (m : List Quad) → moves (a ++ b) m ≡ moves a m + moves b (run a m)
 moves-append [] b m = omega arith
 moves-append (o ∷ a) b m = omega (arith, moves-append a b (step o m))
 
@@ -52,10 +52,7 @@ few-own tested W e Broken = each-few 1 6 0 (λ f. only (all f) (keyOf (e .cell) 
 few-own tested W e Added =
     split (λ t. length ((cond t (added tested W e) nothing) .own) ≤ 6) (isNormalCube W (e .type))
     (λ s. each-few 1 6 0 (λ f. only (all f) (keyOf (e .cell) f)) (λ f. only-few (all f) (keyOf (e .cell) f))) (λ s. omega arith)
-few-own tested W e CullFaces = each-few 1 6 0 (λ f. only (withGiven e f) (keyOf (e .cell) f)) (λ f. only-few (withGiven e f) (keyOf (e .cell) f))
-few-own tested W e AddFaces =
-    split (λ t. length ((cond t (record { own = []; new = quads W (e .type) (e .cell) (withGiven e); facing = [] }) nothing) .own) ≤ 6)
-    (isNormalCube W (e .type)) (λ s. omega arith) (λ s. omega arith)
+few-own tested W e Sides = each-few 1 6 0 (λ f. only (toHide e f) (keyOf (e .cell) f)) (λ f. only-few (toHide e f) (keyOf (e .cell) f))
 
 pub few-facing : (tested : Tested) (W : World) (e : Entry) (k : Change) → length ((workBy tested W e k) .facing) ≤ 6
 few-facing tested W e Broken = omega arith
@@ -66,10 +63,7 @@ few-facing tested W e Added =
     one : (i : ℕ) (o : Option ℕ) → length (hide tested W (e .type) i o) ≤ 1
     one i none = omega arith
     one i (some n) = only-few (covering W (e .type) (tested i)) (keyOf n (opposite i))
-few-facing tested W e CullFaces = omega arith
-few-facing tested W e AddFaces =
-    split (λ t. length ((cond t (record { own = []; new = quads W (e .type) (e .cell) (withGiven e); facing = [] }) nothing) .facing) ≤ 6)
-    (isNormalCube W (e .type)) (λ s. omega arith) (λ s. omega arith)
+few-facing tested W e Sides = omega arith
 
 -- LAW: an entry moves at most sixty quads
 pub entry-moves : (tested : Tested) (W : World) (e : Entry) (m : List Quad) → moves (ops (work tested W e)) m ≤ 60
@@ -87,7 +81,7 @@ remove-shrinks k m =
     split (λ t. there k m ≡ t → length (cond t (removeAt (placeOf k m) m) m) ≤ length m) (there k m)
     (λ x e. omega (arith, length-removeAt (placeOf k m) m (placed k m e .within))) (λ x e. omega arith) refl
 
-cuts-shrink : (ks : List ℕ) (m : List Quad) → length (run (cuts ks) m) ≤ length m
+pub cuts-shrink : (ks : List ℕ) (m : List Quad) → length (run (cuts ks) m) ≤ length m
 cuts-shrink [] m = omega arith
 cuts-shrink (k ∷ ks) m = omega (arith, remove-shrinks k m, cuts-shrink ks (remove k m))
 
@@ -95,7 +89,7 @@ puts-grow : (qs m : List Quad) → length m ≤ length (run (puts qs) m)
 puts-grow [] m = omega arith
 puts-grow (q ∷ qs) m = omega (arith, draw-grows q m, puts-grow qs (draw q m))
 
-highest-append : (a b : List Op) (p : ℕ) (m : List Quad) → highest p (a ++ b) m ≡ highest (highest p a m) b (run a m)
+pub highest-append : (a b : List Op) (p : ℕ) (m : List Quad) → highest p (a ++ b) m ≡ highest (highest p a m) b (run a m)
 highest-append [] b p m = refl
 highest-append (o ∷ a) b p m = highest-append a b (max p (length (step o m))) (step o m)
 
@@ -191,10 +185,7 @@ module _ (W : World) (snd : Sound W) (s : ℕ) (sized : (t f c : ℕ) → length
   fits-new tested e h Added =
       split (λ t. All (Fits (6 * cells (W .size)) s) ((cond t (added tested W e) nothing) .new)) (isNormalCube W (e .type))
       (λ x. fits-quads (e .type) (e .cell) (isOpen W e) h) (λ x. tt)
-  fits-new tested e h CullFaces = tt
-  fits-new tested e h AddFaces =
-      split (λ t. All (Fits (6 * cells (W .size)) s) ((cond t (record { own = []; new = quads W (e .type) (e .cell) (withGiven e); facing = [] }) nothing) .new))
-      (isNormalCube W (e .type)) (λ x. fits-quads (e .type) (e .cell) (withGiven e) h) (λ x. tt)
+  fits-new tested e h Sides = fits-quads (e .type) (e .cell) (λ f. isNormalCube W (e .type) && toDraw e f) h
 
 -- ---- a log
 
@@ -298,6 +289,11 @@ found-room room work i (suc n) m v p e =
     go true t e rest = let s = rest e in record { found = found (leb-true (needed (work i) m) room t) (s .found); left = rw t (s .left) }
     go false t e rest = let z : _≡_ {A = ℕ} 0 1 = cc in absurd (omega arith)
 
+-- LAW: distinct faces stay distinct through a log
+pub once-after : (work : ℕ → Work) (i n : ℕ) (m : List Quad) → Once m → Once (meshAfter work i n m)
+once-after work i zero m h = h
+once-after work i (suc n) m h = once-after work (suc i) n (run (ops (work i)) m) (run-once (ops (work i)) m h)
+
 -- LAW: entries that move at most s quads each move at most s times their number
 pub course-moves : (s room : ℕ) (work : ℕ → Work) (i n : ℕ) (m : List Quad) (v p : ℕ) → ((j : ℕ) (m : List Quad) → moves (ops (work j)) m ≤ s)
     → (courseFrom room work i n m v p) .moved ≤ v + n * s
@@ -315,8 +311,7 @@ course-moves s room work i (suc n) m v p h =
 pub length-after : (W : World) (g : List ℕ) (e : Entry) (k : Change) → length (gridBy W g e k) ≡ length g
 length-after W g e Broken = length-set g (e .cell) (emptyType W)
 length-after W g e Added = length-set g (e .cell) (e .type)
-length-after W g e CullFaces = refl
-length-after W g e AddFaces = refl
+length-after W g e Sides = refl
 
 pub length-log : (W : World) (g : List ℕ) (es : List Entry) → length (gridLog W es g) ≡ length g
 length-log W g [] = refl

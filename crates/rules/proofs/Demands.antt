@@ -15,7 +15,7 @@ use Rattle.rules.specs.Lists.{only, member}
 use Rattle.rules.specs.Cells.{cells, keyOf}
 use Rattle.rules.specs.Types.{floats, quadWord, quadWords, cubeOf}
 use Rattle.rules.specs.Mesh.{Quad, Attribute, position, normal, uv, colour, Vertices, HasList, of-positions, of-normals, of-uvs, of-colours, eachList, attributeLaid, Lists, listsOf, typeAt, drawn, allSides, culled, at, decode, layout, meshBy}
-use Rattle.rules.specs.Update.{Change, Broken, Added, CullFaces, AddFaces, Entry, entryAt, Tested, work, Course, blank, u32At, emptyType, gridBy, gridAfter, gridLog, TrueBy, Honest, Mends, AddsAlike}
+use Rattle.rules.specs.Update.{Change, Broken, Added, Sides, Entry, entryAt, Tested, work, Course, blank, u32At, emptyType, gridBy, gridAfter, gridLog, TrueBy, Honest, Mends, AddsAlike}
 use Rattle.rules.specs.Answers.{Verdict, fine, refuse, _then_, refuseIf, refuseLowest, outOf, badLimits, BAD-SIZE, BAD-GRID, badCounts, badType, BAD-TYPES, BAD-NUMBER, NOT-A-CUBE, BAD-OUTER, BAD-CELL, SHORT-SLOTS, roomOf, BAD-COUNT, badEntry, BAD-ENTRY, NO-ROOM}
 use Rattle.rules.specs.Check.{linked, Holds, Right}
 use Rattle.rules.specs.Calls.{Answer, answered, Scene, wordsIn, world, span, faces, room, typesVerdict, freshMesh, inputVerdict, meshVerdict, meshedBy, meshGrid, lentVerdict, updateVerdict, entriesOf, course, courseAnswer, updateBy, updateMesh, openVerdict, bookVerdict, faceVerdict, checkVerdict, checkBy, checkMesh}
@@ -302,8 +302,7 @@ codes-after S g e k listed h codes c l = go k h l
     go : (k : Change) → TrueBy (world S) g e k → c < length (gridBy (world S) g e k) → getD (gridBy (world S) g e k) c 0 < length (S .types .kinds)
     go Broken h l = on (emptyType (world S)) (h .1) l
     go Added h l = on (e .type) listed l
-    go CullFaces h l = absurd h
-    go AddFaces h l = absurd h
+    go Sides h l = absurd h
 
 codes-log : (S : Scene) (g : List ℕ) (es : List Entry) → All (λ e. e .type < length (S .types .kinds)) es → Honest (world S) g es
     → ((c : ℕ) → c < length g → getD g c 0 < length (S .types .kinds))
@@ -352,9 +351,9 @@ unfolding BAD-ENTRY badEntry entryAt
 entry-known n types log e k h =
     let a = then-fine (refuseLowest 13 (length log / 12) (badEntry n types log)) _ e .0 in
     let b = lowest-fine 13 (length log / 12) (badEntry n types log) a k h in
-    let c = or-false (leb 16777216 k || leb n (u32At log (12 * k)) || ltb 3 (getD log (12 * k + 4) 0) || leb types (getD log (12 * k + 5) 0)) _ b .0 in
-    let d = or-false (leb 16777216 k || leb n (u32At log (12 * k)) || ltb 3 (getD log (12 * k + 4) 0)) (leb types (getD log (12 * k + 5) 0)) c in
-    let f = or-false (leb 16777216 k || leb n (u32At log (12 * k))) (ltb 3 (getD log (12 * k + 4) 0)) (d .0) .0 in
+    let c = or-false (leb 16777216 k || leb n (u32At log (12 * k)) || ltb 2 (getD log (12 * k + 4) 0) || leb types (getD log (12 * k + 5) 0)) _ b .0 in
+    let d = or-false (leb 16777216 k || leb n (u32At log (12 * k)) || ltb 2 (getD log (12 * k + 4) 0)) (leb types (getD log (12 * k + 5) 0)) c in
+    let f = or-false (leb 16777216 k || leb n (u32At log (12 * k))) (ltb 2 (getD log (12 * k + 4) 0)) (d .0) .0 in
     (leb-false n (u32At log (12 * k)) (or-false (leb 16777216 k) (leb n (u32At log (12 * k))) f .1), leb-false types (getD log (12 * k + 5) 0) (d .1))
 
 pub entry-inside : (n types : ℕ) (log : List ℕ) → BAD-ENTRY n types log ≡ fine → (k : ℕ) → k < length log / 12 → (entryAt log k) .cell < n
@@ -426,23 +425,30 @@ left-lent tested S log B Q = go (updateVerdict S log B Q) refl (update-numbers S
         ap (λ (q : ℕ). lentVerdict S (layout (faces S) (S .types .coloured) (c .highest) (c .quads) B) q) (counted (c .full)) ∙ ran-lent tested S log B Q t
     go (refuse n p) t (given k) h = absurd (false≢true (sym (neither n k) ∙ h))
 
+-- LAW: a log that is not refused comes through
+pub through : (tested : Tested) (S : Scene) (log : List ℕ) (B : Lists) (Q : ℕ) → (updateMesh tested S log B Q) .answer .number ≡ 0
+    → (updateVerdict S log B Q ≡ fine) × ((course tested S log B Q) .full ≡ none)
+through tested S log B Q = by (updateVerdict S log B Q) refl
+  where
+    c : Course
+    c = course tested S log B Q
+
+    none-of : (o : Option ℕ) → c .full ≡ o → (courseAnswer c o) .number ≡ 0 → c .full ≡ none
+    none-of none q e = q
+    none-of (some k) q e = absurd (omega arith)
+
+    by : (v : Verdict) → updateVerdict S log B Q ≡ v → (updateBy v S c B) .answer .number ≡ 0 → (updateVerdict S log B Q ≡ fine) × (c .full ≡ none)
+    by fine v e = (v, none-of (c .full) refl e)
+    by (refuse n p) v e =
+        let f = zero-fine UPDATE-FIRST refl (updateVerdict S log B Q) (update-numbers S log B Q) (ap (λ (x : Verdict). (checkBy x) .number) v ∙ e) in
+        let z : _≡_ {A = ℕ} 0 1 = cc in absurd (omega arith)
+
 module _ (tested : Tested) (S : Scene) (g log : List ℕ) (B : Lists) (Q : ℕ) where
   abbrev c : Course
   c = course tested S log B Q
 
   abbrev grid : List ℕ
   grid = gridLog (world S) (entriesOf log) g
-
-  -- a log that is not refused comes through
-  through : (v : Verdict) → updateVerdict S log B Q ≡ v → (updateBy v S c B) .answer .number ≡ 0 → (updateVerdict S log B Q ≡ fine) × (c .full ≡ none)
-  through fine v e = (v, none-of (c .full) refl e)
-    where
-      none-of : (o : Option ℕ) → c .full ≡ o → (courseAnswer c o) .number ≡ 0 → c .full ≡ none
-      none-of none q e = q
-      none-of (some k) q e = absurd (omega arith)
-  through (refuse n p) v e =
-      let f = zero-fine UPDATE-FIRST refl (updateVerdict S log B Q) (update-numbers S log B Q) (ap (λ (x : Verdict). (checkBy x) .number) v ∙ e) in
-      let z : _≡_ {A = ℕ} 0 1 = cc in absurd (omega arith)
 
   mended : checkVerdict S [] g B Q ≡ fine → Honest (world S) g (entriesOf log) → Mends (world S) g (entriesOf log)
       → AddsAlike tested (world S) (entriesOf log) → updateVerdict S log B Q ≡ fine → c .full ≡ none
@@ -481,6 +487,6 @@ module _ (tested : Tested) (S : Scene) (g log : List ℕ) (B : Lists) (Q : ℕ) 
       → checkMesh S [] (gridLog (world S) (entriesOf log) g) ((updateMesh tested S log B Q) .lists) ((updateMesh tested S log B Q) .answer .quads)
       ≡ answered 0 0
   mended-accepted ec ho me al eu =
-      let t = through (updateVerdict S log B Q) refl eu in
+      let t = through tested S log B Q eu in
       let m = mended (accepted S [] g B Q ec) ho me al (t .0) (t .1) in
       rw (t .0, t .1) (ap checkBy m)

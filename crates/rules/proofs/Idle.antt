@@ -17,7 +17,7 @@ use Rattle.rules.specs.Update.{Tested, source, Work, nothing, ops, neede
 use Rattle.rules.specs.Answers.{fine, slotAt, SHORT-SLOTS, BAD-COUNT, BAD-SIZE, _then_, BAD-ENTRY}
 use Rattle.rules.specs.Check.{linked}
 use Rattle.rules.specs.Calls.{answered, Scene, world, faces, room, bookVerdict, lentVerdict, typesVerdict, updateVerdict, updateMesh}
-use Rattle.rules.proofs.Cases.{scene, quadsIn, above, below, withAbove, null-unrefused, null-idle}
+use Rattle.rules.proofs.Abacus.{scene, quadsIn, above, below, withAbove, null-unrefused, null-idle}
 use Rattle.rules.proofs.ListLaws.{table-is, length-table}
 use Rattle.rules.proofs.Attributes.{lies, each-list, each-stays, attribute-quad}
 use Rattle.rules.proofs.Laying.{link-of-key}

@@ -26,7 +26,7 @@ full-yes S k d = rw (ne-eqb (getD S k NONE) NONE d)
 full-no : (S : List ℕ) (k : ℕ) → getD S k NONE ≡ NONE → isFull S k ≡ false
 full-no S k e = rw (eq-eqb (getD S k NONE) NONE e)
 
-count-same : (n : ℕ) (p q : ℕ → Bool) → ((k : ℕ) → k < n → p k ≡ q k) → count n p ≡ count n q
+pub count-same : (n : ℕ) (p q : ℕ → Bool) → ((k : ℕ) → k < n → p k ≡ q k) → count n p ≡ count n q
 unfolding count
 count-same zero p q h = refl
 count-same (suc n) p q h = rw (count-same n p q (λ k l. h k (omega arith)), h n (omega arith))

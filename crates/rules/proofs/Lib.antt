@@ -1,5 +1,5 @@
 -- What 01 works by hand, by computing; then the laws, leaves first.
-pub mod Cases
+pub mod Abacus
 pub mod ListLaws
 pub mod Rows
 pub mod Searches
@@ -17,6 +17,7 @@ pub mod Courses
 pub mod Modes
 pub mod Refusals
 pub mod Demands
+pub mod Former
 pub mod Idle
 pub mod Apart
 pub mod Witness

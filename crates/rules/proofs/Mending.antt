@@ -15,8 +15,8 @@ use borrow.Author.Tests.{eq-eqb, ne-eqb, eqb-true}
 use Rattle.rules.specs.Lists.{each, only, member}
 use Rattle.rules.specs.Cells.{cells, opposite, neighbour, keyOf}
 use Rattle.rules.specs.Mesh.{Quad, World, typeAt, isNormalCube, covering, shown, drawn, allSides, quadsBy, meshBy, culled, at, quadOf}
-use Rattle.rules.specs.Update.{Change, Broken, Added, CullFaces, AddFaces, Entry, givenAt, outside, run, Work, Tested, sides, quads, hide, reveal, all, isOpen, added, broken, workBy, cuts, puts, ops, isEmpty, emptyType, gridBy, standing, Told, TrueBy, Fills, MendsBy, Alike, AlikeBy}
-use Rattle.rules.proofs.ListLaws.{Reads, read-none, read-one, members, and-true, lowest-bad}
+use Rattle.rules.specs.Update.{Change, Broken, Added, Sides, Entry, givenAt, outside, run, Work, Tested, sides, quads, hide, reveal, all, isOpen, added, broken, workBy, cuts, puts, ops, isEmpty, emptyType, gridBy, standing, Told, TrueBy, Fills, MendsBy, Alike, AlikeBy}
+use Rattle.rules.proofs.ListLaws.{Reads, read-none, read-one, members, and-false, and-with, and-true, lowest-bad}
 use Rattle.rules.proofs.Neighbours.{Beside, beside, opposite-twice, opposite-lt}
 use Rattle.rules.proofs.Quads.{quadsAt, Once, orElse, orElse-nil, at-cuts, at-puts, run-append}
 
@@ -109,14 +109,6 @@ at-only j true q = go (eqb j (q .key))
     go : (t : Bool) → only t (q .words) ++ [] ≡ only t (q .words)
     go true = refl
     go false = refl
-
-and-false : (b : Bool) → (b && false) ≡ false
-and-false true = refl
-and-false false = refl
-
-and-with : (b : Bool) → (b && true) ≡ b
-and-with true = refl
-and-with false = refl
 
 no-member : (j k : ℕ) (b : Bool) → eqb j k ≡ false → member j (only b k) ≡ false
 no-member j k b e = member-only j k b ∙ rw e (and-false b)
@@ -472,5 +464,4 @@ module _ (W : World) (s : Sound W) (tested : Tested) (g : List ℕ) (hg : length
   mends-entry Added h t alike =
       rw (t .cube)
       (by-faces (added tested W e) (set g (e .cell) (e .type)) (λ n f hf. added-new W s g hg e inGrid told n f hf tested) (λ n f hf. added-due W s g hg e inGrid told n f hf tested t (alike (t .cube))))
-  mends-entry CullFaces h t alike = absurd t
-  mends-entry AddFaces h t alike = absurd t
+  mends-entry Sides h t alike = absurd t

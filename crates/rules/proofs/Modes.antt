@@ -10,7 +10,7 @@ use lib.ListN.{length}
 use Rattle.rules.specs.Lists.{each}
 use Rattle.rules.specs.Cells.{Size, neighbour}
 use Rattle.rules.specs.Mesh.{World, Lists, isNormalCube, covering, decode}
-use Rattle.rules.specs.Update.{Change, Broken, Added, CullFaces, AddFaces, Entry, entryAt, Tested, itself, hide, nothing, added, workBy, work, Course, Alike, AlikeBy, AddsAlike}
+use Rattle.rules.specs.Update.{Change, Broken, Added, Sides, Entry, entryAt, Tested, itself, hide, nothing, added, workBy, work, Course, Alike, AlikeBy, AddsAlike}
 use Rattle.rules.specs.Calls.{Scene, world, room, entriesOf, updateVerdict, updateBy, updateMesh}
 use Rattle.rules.proofs.ListLaws.{split, each-same}
 use Rattle.rules.proofs.Courses.{course-alike}
@@ -21,8 +21,7 @@ use Rattle.rules.proofs.Courses.{course-alike}
 alike-by : (tested : Tested) (W : World) → ((t : ℕ) → isNormalCube W t ≡ true → Alike tested W t) → (e : Entry) (k : Change) → AlikeBy tested W e k
 alike-by tested W cubes e Broken = tt
 alike-by tested W cubes e Added = cubes (e .type)
-alike-by tested W cubes e CullFaces = tt
-alike-by tested W cubes e AddFaces = tt
+alike-by tested W cubes e Sides = tt
 
 -- LAW: where every cube of the table covers alike, those that a log adds do
 pub table-alike : (tested : Tested) (W : World) → ((t : ℕ) → isNormalCube W t ≡ true → Alike tested W t) → (es : List Entry) → AddsAlike tested W es
@@ -65,8 +64,7 @@ work-alike tested W e Broken h = refl
 work-alike tested W e Added h =
     split (λ t. isNormalCube W (e .type) ≡ t → cond t (added tested W e) nothing ≡ cond t (added itself W e) nothing) (isNormalCube W (e .type))
     (λ x c. added-alike tested W e (h c)) (λ x c. refl) refl
-work-alike tested W e CullFaces h = refl
-work-alike tested W e AddFaces h = refl
+work-alike tested W e Sides h = refl
 
 -- LAW: for cubes that cover the side that is tested as the side itself, both modes give the same answer and the same lists, after any log
 pub modes-agree : (tested : Tested) (S : Scene) (log : List ℕ) (B : Lists) (Q : ℕ) → AddsAlike tested (world S) (entriesOf log)

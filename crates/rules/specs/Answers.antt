@@ -143,15 +143,21 @@ BAD-LINKS cells B Q = refuseLowest 11 Q (badLink cells B) then refuseIf (ltb Q (
 abbrev pub BAD-TRIANGLES : Lists → ℕ → Verdict
 BAD-TRIANGLES B Q = refuseLowest 12 Q (λ q. not (same (row 6 (B .triangles) q) (pattern q)))
 
--- ---- 13: cell, change, type, neighbour; an entry past the limit; the lowest entry. A ragged end is tried last
+-- ---- 13: cell, change, type, neighbour, a side byte over 2 in Sides (02, Q-6); an entry past the limit; the lowest entry. A ragged end is tried last
 
 abbrev pub badNeighbour : ℕ → ℕ → Bool
 badNeighbour types t = leb types t && not (eqb t 255)
 
+abbrev pub badSide : ℕ → ℕ → ℕ → Bool
+badSide types change byte = cond (eqb change 2) (ltb 2 byte) (badNeighbour types byte)
+
+-- one of the six bytes of the entry that starts at `at`
+unfoldable pub badSides : ℕ → List ℕ → ℕ → Bool
+badSides types log at = not (every 6 (λ f. not (badSide types (getD log (at + 4) 0) (getD log (at + (6 + f)) 0))))
+
 unfoldable pub badEntry : ℕ → ℕ → List ℕ → ℕ → Bool
 badEntry cells types log k =
-    leb 16777216 k || leb cells (u32At log (12 * k)) || ltb 3 (getD log (12 * k + 4) 0) || leb types (getD log (12 * k + 5) 0)
-    || not (every 6 (λ f. not (badNeighbour types (getD log (12 * k + (6 + f)) 0))))
+    leb 16777216 k || leb cells (u32At log (12 * k)) || ltb 2 (getD log (12 * k + 4) 0) || leb types (getD log (12 * k + 5) 0) || badSides types log (12 * k)
 
 unfoldable pub BAD-ENTRY : ℕ → ℕ → List ℕ → Verdict
 BAD-ENTRY cells types log =

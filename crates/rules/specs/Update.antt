@@ -1,4 +1,4 @@
--- 01, "An update"; 02, Q-2. Definitions only.
+-- 01, "An update"; 02, Q-2 and Q-6. Definitions only.
 use Prim.Native.Nat.{ℕ, zero, suc, _+_, _-_, _*_, _<_, max}
 use mathlib.Core.Path.{_≡_}
 use mathlib.Core.Bool.{Bool, true, cond, not, _&&_, _||_}
@@ -6,14 +6,14 @@ use mathlib.Core.List.{List, [], _∷_, _++_, map}
 use mathlib.Core.Option.{Option, none, some}
 use lib.ListN.{length, getD, set, take, drop}
 use lib.Dec.{eqb, leb, ltb}
-use Rattle.rules.specs.Lists.{each, only, part, lowest}
+use Rattle.rules.specs.Lists.{each, only, part, count, lowest}
 use Rattle.rules.specs.Cells.{opposite, neighbour, keyOf}
 use Rattle.rules.specs.Mesh.{Quad, World, typeAt, isNormalCube, covering, there, placeOf, quadOf}
 
 -- ---- a log entry, 12 bytes
 
 pub data Change : Type 0 where
-  Broken Added CullFaces AddFaces : Change
+  Broken Added Sides : Change
 
 pub record Entry : Type 0 where
   pub cell : ℕ
@@ -24,8 +24,7 @@ pub record Entry : Type 0 where
 abbrev pub changeOf : ℕ → Change
 changeOf zero = Broken
 changeOf (suc zero) = Added
-changeOf (suc (suc zero)) = CullFaces
-changeOf (suc (suc (suc n))) = AddFaces
+changeOf (suc (suc n)) = Sides
 
 -- u32, little-endian
 abbrev pub u32At : List ℕ → ℕ → ℕ
@@ -46,6 +45,13 @@ givenAt e f = getD (e .given) f 255
 
 abbrev pub outside : ℕ → Bool
 outside t = eqb t 255
+
+-- the six neighbour bytes of Sides say 0 keep, 1 hide, 2 draw (02, Q-6)
+abbrev pub toHide : Entry → ℕ → Bool
+toHide e f = eqb (givenAt e f) 1
+
+abbrev pub toDraw : Entry → ℕ → Bool
+toDraw e f = eqb (givenAt e f) 2
 
 -- ---- drawing and removal
 
@@ -145,9 +151,6 @@ all f = true
 abbrev pub isOpen : World → Entry → ℕ → Bool
 isOpen W e f = outside (givenAt e f) || not (covering W (givenAt e f) (opposite f))
 
-abbrev pub withGiven : Entry → ℕ → Bool
-withGiven e f = not (outside (givenAt e f))
-
 abbrev pub nothing : Work
 nothing = record { own = []; new = []; facing = [] }
 
@@ -167,12 +170,14 @@ broken W e =
       facing = [];
     }
 
+-- hiding comes first, then drawing, both in face order (02, Q-6); what is no NormalCube draws nothing
+abbrev pub sided : World → Entry → Work
+sided W e = record { own = sides (e .cell) (toHide e); new = quads W (e .type) (e .cell) (λ f. isNormalCube W (e .type) && toDraw e f); facing = [] }
+
 abbrev pub workBy : Tested → World → Entry → Change → Work
 workBy tested W e Broken = broken W e
 workBy tested W e Added = cond (isNormalCube W (e .type)) (added tested W e) nothing
-workBy tested W e CullFaces = record { own = sides (e .cell) (withGiven e); new = []; facing = [] }
-workBy tested W e AddFaces =
-    cond (isNormalCube W (e .type)) (record { own = []; new = quads W (e .type) (e .cell) (withGiven e); facing = [] }) nothing
+workBy tested W e Sides = sided W e
 
 abbrev pub work : Tested → World → Entry → Work
 work tested W e = workBy tested W e (e .change)
@@ -189,6 +194,13 @@ ops w = cuts (w .own) ++ (puts (w .new) ++ cuts (w .facing))
 -- Q, less its own removed quads, plus the new ones it draws (before Added removes facing quads)
 unfoldable pub needed : Work → List Quad → ℕ
 needed w m = length (run (puts (w .new)) (run (cuts (w .own)) m))
+
+-- of Sides: the hidden sides that have a quad, and the drawn ones that have none (02, Q-6)
+abbrev pub hiddenThere : Entry → List Quad → ℕ
+hiddenThere e m = count 6 (λ f. toHide e f && there (keyOf (e .cell) f) m)
+
+abbrev pub drawnMissing : World → Entry → List Quad → ℕ
+drawnMissing W e m = count 6 (λ f. isNormalCube W (e .type) && toDraw e f && not (there (keyOf (e .cell) f) m))
 
 -- ---- a log, in order, until an entry finds no room
 
@@ -224,8 +236,7 @@ emptyType W = lowest (length (W .kinds)) (isEmpty W)
 abbrev pub gridBy : World → List ℕ → Entry → Change → List ℕ
 gridBy W g e Broken = set g (e .cell) (emptyType W)
 gridBy W g e Added = set g (e .cell) (e .type)
-gridBy W g e CullFaces = g
-gridBy W g e AddFaces = g
+gridBy W g e Sides = g
 
 abbrev pub gridAfter : World → List ℕ → Entry → List ℕ
 gridAfter W g e = gridBy W g e (e .change)
@@ -243,12 +254,11 @@ standing g (some n) = typeAt g n
 abbrev pub Told : World → List ℕ → Entry → Type 0
 Told W g e = (f : ℕ) → f < 6 → givenAt e f ≡ standing g (neighbour (W .size) (e .cell) f)
 
--- Broken names the type in its cell, and there is an empty type to leave; CullFaces and AddFaces are never honest
+-- Broken names the type in its cell, and there is an empty type to leave; Sides is never honest
 abbrev pub TrueBy : World → List ℕ → Entry → Change → Type 0
 TrueBy W g e Broken = (e .type ≡ typeAt g (e .cell)) × (emptyType W < length (W .kinds))
 TrueBy W g e Added = Unit {0}
-TrueBy W g e CullFaces = ⊥
-TrueBy W g e AddFaces = ⊥
+TrueBy W g e Sides = ⊥
 
 -- only Added and Broken entries, each true of the grid as the entries before it left it
 abbrev pub Honest : World → List ℕ → List Entry → Type 0
@@ -263,8 +273,7 @@ pub record Fills (W : World) (g : List ℕ) (e : Entry) : Type 0 where
 abbrev pub MendsBy : World → List ℕ → Entry → Change → Type 0
 MendsBy W g e Broken = Unit {0}
 MendsBy W g e Added = Fills W g e
-MendsBy W g e CullFaces = ⊥
-MendsBy W g e AddFaces = ⊥
+MendsBy W g e Sides = ⊥
 
 abbrev pub Mends : World → List ℕ → List Entry → Type 0
 Mends W g [] = Unit {0}
@@ -277,8 +286,7 @@ Alike tested W t = (f : ℕ) → f < 6 → covering W t (tested f) ≡ covering 
 abbrev pub AlikeBy : Tested → World → Entry → Change → Type 0
 AlikeBy tested W e Broken = Unit {0}
 AlikeBy tested W e Added = isNormalCube W (e .type) ≡ true → Alike tested W (e .type)
-AlikeBy tested W e CullFaces = Unit {0}
-AlikeBy tested W e AddFaces = Unit {0}
+AlikeBy tested W e Sides = Unit {0}
 
 -- what the source's mode asks besides: each cube that is Added does
 abbrev pub AddsAlike : Tested → World → List Entry → Type 0

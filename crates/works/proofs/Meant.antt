@@ -10,7 +10,7 @@ use Rattle.rules.specs.Lists.{each, only}
 use Rattle.rules.specs.Cells.{Size, opposite, neighbour, keyOf, has, setOf}
 use Rattle.rules.specs.Mesh.{Quad, World, isNormalCube, covering, quadOf}
 use Rattle.rules.specs.Update as rule
-use Rattle.rules.specs.Update.{Entry, Change, Tested, Broken, Added, CullFaces, AddFaces, Op, put, cut, run, cuts, puts, ops, needed, givenAt, sides, quads, all, isOpen, withGiven, reveal, nothing, added, workBy, work}
+use Rattle.rules.specs.Update.{Entry, Change, Tested, Broken, Added, Sides, Op, put, cut, run, cuts, puts, ops, needed, givenAt, sides, quads, all, isOpen, toHide, toDraw, reveal, nothing, added, workBy, work}
 use Rattle.rules.proofs.Sets.{zero-has, has-setOf}
 use Rattle.rules.proofs.Neighbours.{opposite-lt}
 use Rattle.rules.proofs.ListLaws.{split, and-true, map-each, each-same}
@@ -101,12 +101,12 @@ module _ (W : World) (e : Entry) where
       pick : (b : Bool) → Means W e (cond b (sets 63 0 (setOf (isOpen W e)) (setOf (λ i. covering W (e .type) (tested i)))) noWork) (cond b (added tested W e) nothing)
       pick true = record { own = own-cut 63 all (has-setOf all); new = (λ i. idle 1 i ++ own-put (isOpen W e) i); facing = near-cut tested }
       pick false = idle-means
-  by-change tested CullFaces = record { own = own-cut _ (withGiven e) (has-setOf (withGiven e)); new = (λ i. idle 1 i ++ idle 2 i); facing = idle 3 }
-  by-change tested AddFaces = pick (isNormalCube W (e .type))
-    where
-      pick : (b : Bool) → Means W e (cond b (sets 0 0 (setOf (withGiven e)) 0) noWork) (cond b (record { own = []; new = quads W (e .type) (e .cell) (withGiven e); facing = [] }) nothing)
-      pick true = record { own = idle 0; new = (λ i. idle 1 i ++ own-put (withGiven e) i); facing = idle 3 }
-      pick false = idle-means
+  by-change tested Sides =
+      record {
+        own = own-cut _ (toHide e) (has-setOf (toHide e));
+        new = λ i. idle 1 i ++ own-put (λ f. isNormalCube W (e .type) && toDraw e f) i;
+        facing = idle 3;
+      }
 
   -- LAW: the sets of an entry are the rule's work
   pub meant-work : (tested : Tested) → Means W e (meant tested W e) (work tested W e)
@@ -133,13 +133,10 @@ module _ (W : World) (e : Entry) where
   pub meant-cubes : (tested : Tested) → CubesDrawn (W .kinds) e (meant tested W e)
   meant-cubes tested = go (e .change)
     where
-      idle-cubes : {own : ℕ} → CubesDrawn (W .kinds) e (sets own 0 0 0)
-      idle-cubes = record { shown = λ i l h. nothing-in i h; drawn = λ i l h. nothing-in i h }
-
-      own-drawn : (own drawn hidden : ℕ) → CubesDrawn (W .kinds) e (cond (isNormalCube W (e .type)) (sets own 0 drawn hidden) noWork)
-      own-drawn own drawn hidden =
-          split (λ b. isNormalCube W (e .type) ≡ b → CubesDrawn (W .kinds) e (cond b (sets own 0 drawn hidden) noWork)) (isNormalCube W (e .type))
-          (λ _ c. record { shown = λ i l h. nothing-in i h; drawn = λ i l h. c }) (λ _ c. idle-cubes) refl
+      if-cube : (drawn hidden : ℕ) → CubesDrawn (W .kinds) e (cond (isNormalCube W (e .type)) (sets 63 0 drawn hidden) noWork)
+      if-cube drawn hidden =
+          split (λ b. isNormalCube W (e .type) ≡ b → CubesDrawn (W .kinds) e (cond b (sets 63 0 drawn hidden) noWork)) (isNormalCube W (e .type))
+          (λ _ c. record { shown = λ i l h. nothing-in i h; drawn = λ i l h. c }) (λ _ c. record { shown = λ i l h. nothing-in i h; drawn = λ i l h. nothing-in i h }) refl
 
       go : (k : Change) → CubesDrawn (W .kinds) e (meantBy tested (typesBy (W .kinds) (W .covers)) e k)
       go Broken =
@@ -147,6 +144,9 @@ module _ (W : World) (e : Entry) where
             shown = λ i l h. and-true (covering W (e .type) i) (isNormalCube W (givenAt e i)) (sym (has-setOf (isShown (W .kinds) (getD (W .covers) (e .type) 0) e) i l) ∙ h) .1;
             drawn = λ i l h. nothing-in i h;
           }
-      go Added = own-drawn 63 _ _
-      go CullFaces = idle-cubes
-      go AddFaces = own-drawn 0 _ 0
+      go Added = if-cube _ _
+      go Sides =
+          record {
+            shown = λ i l h. nothing-in i h;
+            drawn = λ i l h. and-true (isNormalCube W (e .type)) (toDraw e i) (sym (has-setOf (λ f. isNormalCube W (e .type) && toDraw e f) i l) ∙ h) .0;
+          }

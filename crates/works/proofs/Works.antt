@@ -1,6 +1,6 @@
 -- What an entry tells of a side; its four sets as one, and the deeds of that; the keys around its cell. Assumes nothing.
 use mathlib.Core.Path.{_≡_, refl, sym, ap, _∙_, subst}
-use mathlib.Core.Bool.{Bool, true, false, cond, not}
+use mathlib.Core.Bool.{Bool, true, false, cond, not, true≢false}
 use mathlib.Core.List.{List, [], _∷_, _++_, append-assoc, append-nil}
 use mathlib.Core.Option.{Option, none, some}
 use Prim.Native.Nat.{ℕ, zero, suc, _+_, _-_, _*_, _/_, _%_, _≤_, _<_}
@@ -16,8 +16,10 @@ use Rattle.rules.proofs.Index.{count-le}
 use Rattle.rules.proofs.Neighbours.{beside, opposite-lt, opposite-twice}
 use Rattle.face.proofs.Lowest.{half}
 use Rattle.util.specs.Grid.{Within}
-use borrow.Author.Tests.{lt-ltb, le-ltb}
-use Rattle.entries.specs.Log.{neighbourOf}
+use borrow.Author.Tests.{lt-ltb, le-ltb, eqb-true}
+use Rattle.entries.specs.Log.{neighbourOf, sideOf}
+use Rattle.entries.specs.declared.Side.{Side}
+use Rattle.entries.specs.declared.Side.the-variants.{Keep, Hide, Draw}
 use Rattle.entries.specs.declared.Neighbour.the-variants.{Outside, Voxel}
 use Rattle.steps.specs.Steps.{Deed}
 use Rattle.works.specs.declared.Work.{Work}
@@ -38,6 +40,24 @@ module _ (e : Entry) (f : ℕ) (W : World) where
 
   pub open-voxel : {v k c : ℕ} {b : Bool} → neighbourOf (givenAt e f) ≡ Voxel v → b ≡ has c k → c ≡ getD (W .covers) v 0 → k ≡ opposite f → not b ≡ isOpen W e f
   open-voxel {v} n b c k = rw (given-voxel (givenAt e f) v n .0, given-voxel (givenAt e f) v n .1, b, c, k)
+
+-- what is told of a side, by its byte
+abbrev pub tellsOf : Bool → Side → Bool
+tellsOf draws Keep = false
+tellsOf draws Hide = not draws
+tellsOf draws Draw = draws
+
+pub tells-is : (draws : Bool) (n : ℕ) → tellsOf draws (sideOf n) ≡ cond draws (eqb n 2) (eqb n 1)
+tells-is draws n = go (eqb n 1) (eqb n 2) draws (λ e. ap (λ (k : ℕ). eqb k 2) (eqb-true n 1 e))
+  where
+    go : (a b d : Bool) → (a ≡ true → b ≡ false) → tellsOf d (cond a Hide (cond b Draw Keep)) ≡ cond d b a
+    go true true d z = absurd (true≢false (z refl))
+    go true false true z = refl
+    go true false false z = refl
+    go false true true z = refl
+    go false true false z = refl
+    go false false true z = refl
+    go false false false z = refl
 
 -- ---- four sets as one
 module _ (r a : ℕ) (h : r < 64) where

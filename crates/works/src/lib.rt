@@ -1,6 +1,7 @@
 // What an entry of a log means: four side sets, and the faces that they stand for. No list of the mesh is lent.
 use entries::Entry;
 use entries::Neighbour;
+use entries::Side;
 use entries::VoxelChange;
 use face::Cell;
 use face::Face;
@@ -16,18 +17,18 @@ use util::Neighbor;
 use util::cords_of;
 use util::neighbor_at;
 ghost use mathlib.Core.Path.{_≡_};
-ghost use mathlib.Core.Bool.{cond};
+ghost use mathlib.Core.Bool.{cond, _&&_};
 ghost use mathlib.Core.List.{[]};
 ghost use Prim.Native.Nat.{ℕ, _+_, _*_, _/_, _%_, _<_};
 ghost use lib.ListN.{getD};
 ghost use Rattle.rules.specs.Cells as rule;
 ghost use Rattle.rules.specs.Cells.{cells, coordinates, neighbour, setOf};
-ghost use Rattle.rules.specs.Update.{givenAt, withGiven, isOpen};
+ghost use Rattle.rules.specs.Update.{givenAt, isOpen};
 ghost use Rattle.face.specs.Face.{number};
 ghost use Rattle.util.specs.Grid.{sizeOf, tripleOf, Within, Inverts};
 ghost use Rattle.entries.specs.Log.{entryIn};
 ghost use Rattle.terms.specs.Modes.{testedBy};
-ghost use Rattle.works.specs.Sets.{typesBy, isShown, sets, noWork, meant, setIn, packed, keyOr, keysAround, cutting, typeDrawn};
+ghost use Rattle.works.specs.Sets.{typesBy, isShown, isTold, sets, noWork, meant, setIn, packed, keyOr, keysAround, cutting, typeDrawn};
 
 // All six sides.
 const ALL_SIDES: u8 = 63;
@@ -76,16 +77,28 @@ fn is_shown(kinds: &[u8], cover: u8, entry: Entry, face: Face) -> bool
     has(cover, face) & (code_of(kinds, given(entry, face.number())) == 1)
 }
 
-fn given_sides(entry: Entry) -> u8
-    ensures { λ r. ⌜ r ≡ setOf (withGiven (entryIn entry)) ⌝ }
+// Whether Sides draws this side; or whether it hides it.
+fn is_told(entry: Entry, draws: bool, face: Face) -> bool
+    ensures { λ r. ⌜ r ≡ isTold draws (entryIn entry) (number face) ⌝ }
+{
+    match entry.side(face) {
+        Side::Keep => false,
+        Side::Hide => !draws,
+        Side::Draw => draws,
+    }
+}
+
+// The sides that Sides draws or hides, where `on`.
+fn told_sides(entry: Entry, on: bool, draws: bool) -> u8
+    ensures { λ r. ⌜ r ≡ setOf (λ f. on && isTold draws (entryIn entry) f) ⌝ }
 {
     side_set(
-        given(entry, 0) != Entry::OUTSIDE,
-        given(entry, 1) != Entry::OUTSIDE,
-        given(entry, 2) != Entry::OUTSIDE,
-        given(entry, 3) != Entry::OUTSIDE,
-        given(entry, 4) != Entry::OUTSIDE,
-        given(entry, 5) != Entry::OUTSIDE,
+        on & is_told(entry, draws, Face::Top),
+        on & is_told(entry, draws, Face::Bottom),
+        on & is_told(entry, draws, Face::Right),
+        on & is_told(entry, draws, Face::Left),
+        on & is_told(entry, draws, Face::Back),
+        on & is_told(entry, draws, Face::Forward),
     )
 }
 
@@ -167,8 +180,10 @@ pub fn work_of(kinds: &[u8], covers: &[u8], tested: Tested, entry: Entry) -> Wor
             let open = open_sides(covers, entry);
             work_if(cube, ALL_SIDES, 0, open, hidden_sides(tested, cover))
         }
-        VoxelChange::CullFaces => work_if(true, given_sides(entry), 0, 0, 0),
-        VoxelChange::AddFaces => work_if(cube, 0, 0, given_sides(entry), 0),
+        VoxelChange::Sides => {
+            let drawn = told_sides(entry, cube, true);
+            work_if(true, told_sides(entry, true, false), 0, drawn, 0)
+        }
     }
 }
 

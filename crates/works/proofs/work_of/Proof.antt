@@ -1,11 +1,11 @@
 -- `works::work_of` meets its contract: change by change. Assumes nothing.
 use mathlib.Core.Path.{_≡_, sym, ap, _∙_}
-use mathlib.Core.Bool.{cond}
+use mathlib.Core.Bool.{cond, _&&_}
 use Prim.Native.Nat.{ℕ}
 use lib.Dec.{eqb}
 use Rattle.rules.specs.Cells.{setOf, has}
 use Rattle.rules.specs.Mesh.{World}
-use Rattle.rules.specs.Update.{Change}
+use Rattle.rules.specs.Update.{Change, toDraw}
 use Rattle.entries.specs.Log.{changeIn, entryIn}
 use Rattle.terms.specs.Modes.{testedBy}
 use Rattle.works.specs.Sets.{typesBy, sets, noWork, isShown, meantBy, meant}
@@ -43,22 +43,19 @@ returns-2 c =
 
 returns-3 : tie.Need-returns-3
 returns-3 c =
-    let given = c .before in
-    let t = given .before .before .before .before .before .before .before in
-    c .work-if3 .ensures ∙ ap (λ (n : ℕ). sets n 0 0 0) (given .given-sides .ensures) ∙ by t (ap changeIn (given .before .enum-told3 .given .1))
-
-returns-4 : tie.Need-returns-4
-returns-4 c =
-    let given = c .before in
-    let told = given .before in
+    let hidden = c .before in
+    let drawn = hidden .before in
+    let told = drawn .before in
     let cube = told .before .before .before in
+    let t = cube .before .before .before in
     let on = ap (λ (n : ℕ). eqb n 1) (cube .code-of .ensures) in
-    let drawn = given .given-sides2 .ensures in
-    c .work-if4 .ensures ∙ (λ i. cond (on i) (sets 0 0 (drawn i) 0) noWork) ∙ by (cube .before .before .before) (ap changeIn (told .enum-told4 .given .1))
+    c .work-if3 .ensures
+    ∙ (λ i. sets (hidden .told-sides2 .ensures i) 0 ((drawn .told-sides .ensures ∙ (λ j. setOf (λ f. on j && toDraw (entryIn (t .args .entry)) f))) i) 0)
+    ∙ by t (ap changeIn (told .enum-told3 .given .1))
 
 pub work-of-spec : {M : Type 1} → statement M
 work-of-spec =
     tie.close
     (tie.spec (λ c κs. search needs) (λ c κs. search needs) (λ c. search needs) (λ c κs. search needs) (λ c κs. search needs) (λ c. search needs)
     (λ c κs. search needs) (λ c κs. search needs) (λ c κs. search needs) (λ c. search needs) (λ c κs. search needs) (λ c κs. search needs)
-    (λ c. search needs) (λ c κs. search needs) (λ c κs. search needs) returns returns-2 returns-3 returns-4)
+    (λ c κs. search needs) returns returns-2 returns-3)

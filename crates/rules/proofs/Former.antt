@@ -1,0 +1,265 @@
+-- 02, Q-6: Sides does what CullFaces and AddFaces did, one after the other; and the room that it asks for. Assumes nothing.
+use mathlib.Core.Path.{_≡_, refl, sym, ap, _∙_, subst}
+use mathlib.Core.Bool.{Bool, true, false, cond, not, _&&_}
+use mathlib.Core.List.{List, [], _∷_, _++_, map, append-nil}
+use mathlib.Core.Option.{none, some}
+use Prim.Native.Nat.{ℕ, zero, suc, _+_, _-_, _%_, _/_, _≤_, _<_}
+use native.Mathlib.Omega.{arith}
+use lib.Dec.{eqb, leb}
+use lib.ListN.{length, getD}
+use borrow.Author.Tests.{eqb-true, le-leb, leb-true}
+use Rattle.rules.specs.Lists.{each, only, isNil, count}
+use Rattle.rules.specs.Cells.{keyOf}
+use Rattle.rules.specs.Mesh.{Quad, World, Lists, isNormalCube, at, there, quadOf, decode}
+use Rattle.rules.specs.Update.{Change, Broken, Added, Sides, Entry, givenAt, entryAt, outside, toHide, toDraw, Op, put, cut, run, moves, highest, Work, Tested, sides, quads, nothing, sided, workBy, work, cuts, puts, ops, needed, hiddenThere, drawnMissing, Course, courseFrom}
+use Rattle.rules.specs.Answers.{fine}
+use Rattle.rules.specs.Calls.{Scene, world, room, entriesOf, updateBy, updateMesh}
+use Rattle.rules.specs.Former.{Former, stayed, cullFaces, addFaces, withGiven, formerWork, giving, pairBy, pairs, formerWorks, formerUpdate, sidesOf, asSides}
+use Rattle.rules.proofs.ListLaws.{and-false, and-with, split, each-same, none-each, map-each, count-each, getD-table, all-each, all-only, all-map}
+use Rattle.rules.proofs.Quads.{Once, at-cuts, run-append, run-once}
+use Rattle.rules.proofs.Index.{count-same}
+use Rattle.rules.proofs.Acting.{faceOf, isCut, acts, acting, acting-same, acting-acts, acting-all, acting-count, acting-sides}
+use Rattle.rules.proofs.Mending.{sides-own}
+use Rattle.rules.proofs.Demands.{lent-sane, asked-of, through}
+use Rattle.rules.proofs.Courses.{moves-append, cuts-shrink, highest-append, run-le}
+
+-- ---- own sides that a test picks, as keys or as quads
+module _ {A : Type 0} (x : ℕ → A) where
+  picked : (p q : ℕ → Bool) → ((f : ℕ) → f < 6 → p f ≡ q f) → each 6 0 (λ f. only (p f) (x f)) ≡ each 6 0 (λ f. only (q f) (x f))
+  picked p q h = each-same 6 0 (λ f. only (p f) (x f)) (λ f. only (q f) (x f)) (λ f _ l. ap (λ (b : Bool). only b (x f)) (h f (omega arith)))
+
+  none-picked : (p : ℕ → Bool) → ((f : ℕ) → f < 6 → p f ≡ false) → each 6 0 (λ f. only (p f) (x f)) ≡ []
+  none-picked p h = none-each 6 0 (λ f. only (p f) (x f)) (λ f _ l. ap (λ (b : Bool). only b (x f)) (h f (omega arith)))
+
+-- a work that only hides, and one that only draws
+abbrev hiding : List ℕ → Work
+hiding own = record { own = own; new = []; facing = [] }
+
+abbrev drawing : List Quad → Work
+drawing new = record { own = []; new = new; facing = [] }
+
+-- AddFaces draws of a NormalCube what Sides does
+drawn-by : (tested : Tested) (W : World) (e : Entry) (p : ℕ → Bool) → ((f : ℕ) → f < 6 → withGiven e f ≡ p f)
+    → formerWork tested W (addFaces e) ≡ drawing (quads W (e .type) (e .cell) (λ f. isNormalCube W (e .type) && p f))
+drawn-by tested W e p h = go (isNormalCube W (e .type))
+  where
+    go : (b : Bool) → cond b (drawing (quads W (e .type) (e .cell) (withGiven e))) nothing ≡ drawing (quads W (e .type) (e .cell) (λ f. b && p f))
+    go true = ap drawing (picked (quadOf W (e .type) (e .cell)) (withGiven e) p h)
+    go false = ap drawing (sym (none-picked (quadOf W (e .type) (e .cell)) (λ f. false && p f) (λ f l. refl)))
+
+-- ---- entry for entry
+
+-- a byte other than 0 is said exactly where a neighbour was given
+said : (byte n : ℕ) (e : Entry) → eqb 0 n ≡ false → (f : ℕ) → f < 6 → eqb (givenAt (sidesOf byte e) f) n ≡ (eqb byte n && withGiven e f)
+said byte n e z f l =
+    ap (λ (t : ℕ). eqb t n) (getD-table (λ k. cond (withGiven e k) byte 0) 6 f 255 l)
+    ∙ split (λ b. eqb (cond b byte 0) n ≡ (eqb byte n && b)) (withGiven e f) (λ _. sym (and-with (eqb byte n))) (λ _. z ∙ sym (and-false (eqb byte n)))
+
+-- LAW: CullFaces is Sides that hides where a neighbour was given, AddFaces Sides that draws there
+pub as-sides : (tested : Tested) (W : World) (x : Former) → work tested W (asSides x) ≡ formerWork tested W x
+as-sides tested W (stayed e) = refl
+as-sides tested W (cullFaces e) =
+    let gone = picked (keyOf (e .cell)) (toHide (sidesOf 1 e)) (withGiven e) (said 1 1 e refl) in
+    let come =
+    none-picked (quadOf W (e .type) (e .cell)) (λ f. isNormalCube W (e .type) && toDraw (sidesOf 1 e) f)
+    (λ f l. ap (λ (b : Bool). isNormalCube W (e .type) && b) (said 1 2 e refl f l) ∙ and-false (isNormalCube W (e .type))) in
+    λ i. record { own = gone i; new = come i; facing = [] }
+as-sides tested W (addFaces e) =
+    let gone = none-picked (keyOf (e .cell)) (toHide (sidesOf 2 e)) (said 2 1 e refl) in
+    (λ i. record { own = gone i; new = quads W (e .type) (e .cell) (λ f. isNormalCube W (e .type) && toDraw (sidesOf 2 e) f); facing = [] })
+    ∙ sym (drawn-by tested W e (toDraw (sidesOf 2 e)) (λ f l. sym (said 2 2 e refl f l)))
+
+-- ---- one after the other
+given-where : (p : ℕ → Bool) (e : Entry) (f : ℕ) → f < 6 → withGiven (giving p e) f ≡ p f
+given-where p e f l =
+    ap (λ (t : ℕ). not (outside t)) (getD-table (λ k. cond (p k) 0 255) 6 f 255 l)
+    ∙ split (λ b. not (outside (cond b 0 255)) ≡ b) (p f) (λ _. refl) (λ _. refl)
+
+halves-ops : (own : List ℕ) (new : List Quad) → ops (record { own = own; new = new; facing = [] }) ≡ ops (hiding own) ++ ops (drawing new)
+unfolding ops
+halves-ops own new = sym (ap (λ (os : List Op). os ++ (puts new ++ [])) (append-nil (cuts own)))
+
+halves-needed : (own : List ℕ) (new m : List Quad) → needed (record { own = own; new = new; facing = [] }) m ≡ needed (drawing new) (run (ops (hiding own)) m)
+unfolding ops needed
+halves-needed own new m = sym (ap (λ (os : List Op). length (run (puts new) (run os m))) (append-nil (cuts own)))
+
+hiding-needed : (own : List ℕ) (m : List Quad) → needed (hiding own) m ≤ length m
+unfolding needed
+hiding-needed own m = cuts-shrink own m
+
+module _ (tested : Tested) (W : World) (e : Entry) where
+  abbrev first : Work
+  first = formerWork tested W (cullFaces (giving (toHide e) e))
+
+  abbrev second : Work
+  second = formerWork tested W (addFaces (giving (toDraw e) e))
+
+  first-is : first ≡ hiding ((sided W e) .own)
+  first-is = ap hiding (picked (keyOf (e .cell)) (withGiven (giving (toHide e) e)) (toHide e) (given-where (toHide e) e))
+
+  second-is : second ≡ drawing ((sided W e) .new)
+  second-is = drawn-by tested W (giving (toDraw e) e) (toDraw e) (given-where (toDraw e) e)
+
+  -- LAW: what Sides does is what CullFaces did, and then AddFaces
+  pub sides-ops : ops (sided W e) ≡ ops first ++ ops second
+  sides-ops = halves-ops ((sided W e) .own) ((sided W e) .new) ∙ sym (λ i. ops (first-is i) ++ ops (second-is i))
+
+  -- LAW: it asks for the room that AddFaces asked for then; CullFaces asked for none
+  pub sides-needed : (m : List Quad) → needed (sided W e) m ≡ needed second (run (ops first) m)
+  sides-needed m = halves-needed ((sided W e) .own) ((sided W e) .new) m ∙ sym (λ i. needed (second-is i) (run (ops (first-is i)) m))
+
+  pub first-needed : (m : List Quad) → needed first m ≤ length m
+  first-needed m = subst (λ w. needed w m ≤ length m) (sym first-is) (hiding-needed ((sided W e) .own) m)
+
+-- ---- a log
+
+-- an entry that finds its room
+course-one : (room : ℕ) (works : ℕ → Work) (w : Work) (i n : ℕ) (m : List Quad) (v p : ℕ) → works i ≡ w → needed w m ≤ room
+    → courseFrom room works i (suc n) m v p ≡ courseFrom room works (suc i) n (run (ops w) m) (v + moves (ops w) m) (highest p (ops w) m)
+unfolding courseFrom
+course-one room works w i n m v p e l = rw (e, le-leb (needed w m) room l)
+
+-- two that are one
+course-two : (room : ℕ) (works : ℕ → Work) (a b w : Work) (i n : ℕ) (m : List Quad) (v p : ℕ) → works i ≡ a → works (suc i) ≡ b → ops w ≡ ops a ++ ops b
+    → needed a m ≤ room → needed b (run (ops a) m) ≤ room
+    → courseFrom room works i (suc (suc n)) m v p ≡ courseFrom room works (suc (suc i)) n (run (ops w) m) (v + moves (ops w) m) (highest p (ops w) m)
+course-two room works a b w i n m v p ea eb o la lb =
+    course-one room works a i (suc n) m v p ea la
+    ∙ course-one room works b (suc i) n (run (ops a) m) (v + moves (ops a) m) (highest p (ops a) m) eb lb
+    ∙ sym (λ j. courseFrom room works (suc (suc i)) n (left j) (moved j) (top j))
+  where
+    left : run (ops w) m ≡ run (ops b) (run (ops a) m)
+    left = ap (λ (os : List Op). run os m) o ∙ run-append (ops a) (ops b) m
+
+    moved : v + moves (ops w) m ≡ v + moves (ops a) m + moves (ops b) (run (ops a) m)
+    moved = omega (arith, ap (λ (os : List Op). moves os m) o, moves-append (ops a) (ops b) m)
+
+    top : highest p (ops w) m ≡ highest (highest p (ops a) m) (ops b) (run (ops a) m)
+    top = ap (λ (os : List Op). highest p os m) o ∙ highest-append (ops a) (ops b) p m
+
+module _ (tested : Tested) (W : World) (room : ℕ) (entry : ℕ → Entry) (former : ℕ → Work) where
+  abbrev entries : ℕ → ℕ → List Entry
+  entries n i = each n i (λ k. entry k ∷ [])
+
+  abbrev now : ℕ → Work
+  now k = work tested W (entry k)
+
+  -- from j on `former` does what these entries did
+  abbrev Follows : ℕ → List Former → Type 0
+  Follows j es = (k : ℕ) → former (j + k) ≡ getD (map (formerWork tested W) es) k nothing
+
+  later : (j : ℕ) (x : Former) (es : List Former) → Follows j (x ∷ es) → Follows (suc j) es
+  later j x es h k = ap former (omega arith) ∙ h (suc k)
+
+  here : (j : ℕ) (x : Former) (es : List Former) → Follows j (x ∷ es) → former j ≡ formerWork tested W x
+  here j x es h = ap former (omega arith) ∙ h 0
+
+  -- LAW: a log that comes through does what its former entries do
+  pub same-course : (n i j : ℕ) (m : List Quad) (v p : ℕ) → length m ≤ room → Follows j (pairs (entries n i)) → (courseFrom room now i n m v p) .full ≡ none
+      → courseFrom room former j (length (pairs (entries n i))) m v p ≡ courseFrom room now i n m v p
+  unfolding courseFrom each
+  same-course zero i j m v p l h q = refl
+  same-course (suc n) i j m v p l h q =
+      found (leb (needed (now i) m) room) refl q
+      (λ f g j h. same-course n (suc i) j (run (ops (now i)) m) (v + moves (ops (now i)) m) (highest p (ops (now i)) m) f h g)
+    where
+      rest : List Former
+      rest = pairs (entries n (suc i))
+
+      after : Course
+      after = courseFrom room now (suc i) n (run (ops (now i)) m) (v + moves (ops (now i)) m) (highest p (ops (now i)) m)
+
+      stop : Course
+      stop = record { full = some i; quads = m; moved = v; highest = p }
+
+      -- what the rest does, from whatever place on
+      Rest : Type 0
+      Rest = (j : ℕ) → Follows j rest → courseFrom room former j (length rest) (run (ops (now i)) m) (v + moves (ops (now i)) m) (highest p (ops (now i)) m) ≡ after
+
+      one : needed (now i) m ≤ room → Rest → Follows j (stayed (entry i) ∷ rest) → courseFrom room former j (suc (length rest)) m v p ≡ after
+      one f r h = course-one room former (now i) j (length rest) m v p (here j (stayed (entry i)) rest h) f ∙ r (suc j) (later j (stayed (entry i)) rest h)
+
+      step : needed (now i) m ≤ room → Rest → (k : Change) → (entry i) .change ≡ k → Follows j (pairBy (entry i) k ++ rest) → courseFrom room former j (length (pairBy (entry i) k ++ rest)) m v p ≡ after
+      step f r Broken e h = one f r h
+      step f r Added e h = one f r h
+      step f r Sides e h =
+          let w = ap (workBy tested W (entry i)) e in
+          let a = cullFaces (giving (toHide (entry i)) (entry i)) in
+          let b = addFaces (giving (toDraw (entry i)) (entry i)) in
+          let g = later j a (b ∷ rest) h in
+          course-two room former (formerWork tested W a) (formerWork tested W b) (now i) j (length rest) m v p (here j a (b ∷ rest) h) (here (suc j) b rest g)
+          (ap ops w ∙ sides-ops tested W (entry i))
+          (omega (arith, first-needed tested W (entry i) m))
+          (omega (arith, f, ap (λ (x : Work). needed x m) w, sides-needed tested W (entry i) m))
+          ∙ r (suc (suc j)) (later (suc j) b rest g)
+
+      found : (t : Bool) → leb (needed (now i) m) room ≡ t → (cond t after stop) .full ≡ none → (length (run (ops (now i)) m) ≤ room → after .full ≡ none → Rest)
+          → courseFrom room former j (length (pairBy (entry i) ((entry i) .change) ++ rest)) m v p ≡ cond t after stop
+      found true t q later = let f = leb-true (needed (now i) m) room t in step f (later (omega (arith, run-le (now i) m)) q) ((entry i) .change) refl h
+      found false t q later = let z : _≡_ {A = ℕ} 0 1 = cc in absurd (omega arith)
+
+-- LAW: an update that is not refused answers and leaves what the former one did by the pairs
+pub update-by-pairs : (tested : Tested) (S : Scene) (log : List ℕ) (B : Lists) (Q : ℕ) → (updateMesh tested S log B Q) .answer .number ≡ 0
+    → updateMesh tested S log B Q ≡ formerUpdate tested S (pairs (entriesOf log)) B Q
+update-by-pairs tested S log B Q e =
+    let t = through tested S log B Q e in
+    let a = asked-of tested S log B Q (t .0) in
+    let s = lent-sane S B Q (a .size) (a .slots) (a .count) (a .book) in
+    let l = s .reached in
+    let r = s .within in
+    let c = same-course tested (world S) (room S B) (entryAt log) (λ k. getD (formerWorks tested S (pairs (entriesOf log))) k nothing) (length log / 12) 0 0
+    (decode (S .types .coloured) Q B) 0 Q (omega arith) (λ k. ap (λ (n : ℕ). getD (formerWorks tested S (pairs (entriesOf log))) n nothing) (omega arith)) (t .1) in
+    rw (t .0) (ap (λ (x : Course). updateBy fine S x B) (sym c))
+
+-- ---- the room
+
+-- the operations of own sides that a test picks: each alone on its side
+module _ {A : Type 0} (g : A → Op) (x : ℕ → A) (c : Bool) (side : (f : ℕ) → f < 6 → faceOf (g (x f)) % 6 ≡ f) (kind : (f : ℕ) → isCut (g (x f)) ≡ c) (p : ℕ → Bool) (m : List Quad) (once : Once m) where
+  abbrev os : List Op
+  os = map g (each 6 0 (λ f. only (p f) (x f)))
+
+  abbrev does : ℕ → Bool
+  does f = p f && acts (g (x f)) m
+
+  own-acting : acting os m ≡ each 6 0 (λ f. only (does f) (g (x f)))
+  own-acting =
+      ap (λ (l : List Op). acting l m) (map-each g 6 0 (λ f. only (p f) (x f)))
+      ∙ acting-sides (λ k. k % 6) (λ f. map g (only (p f) (x f))) 6 0 (λ f. few f (p f)) (λ f _ l. all-map (λ o. faceOf o % 6 ≡ f) g (only (p f) (x f)) (all-only (λ a. faceOf (g a) % 6 ≡ f) (p f) (x f) (side f (omega arith)))) m once
+      ∙ each-same 6 0 (λ f. acting (map g (only (p f) (x f))) m) (λ f. only (does f) (g (x f))) (λ f _ l. one f (p f))
+    where
+      few : (f : ℕ) (b : Bool) → length (map g (only b (x f))) ≤ 1
+      few f true = omega arith
+      few f false = omega arith
+
+      one : (f : ℕ) (b : Bool) → acting (map g (only b (x f))) m ≡ only (b && acts (g (x f)) m) (g (x f))
+      one f true = append-nil (only (acts (g (x f)) m) (g (x f)))
+      one f false = refl
+
+  -- LAW: they make as many quads more, or fewer, as change something
+  own-count : length (run os m) + cond c (count 6 does) 0 ≡ length m + cond c 0 (count 6 does)
+  unfolding count
+  own-count =
+      let many : length (acting os m) ≡ count 6 does = ap length own-acting ∙ omega (arith, count-each does (λ f. g (x f)) 6 0) in
+      let same = ap (λ (y : ℕ × ℕ × List Quad). length (y .2)) (acting-same os (length m) m (omega arith)) in
+      let kinds = all-map (λ o. isCut o ≡ c) g (each 6 0 (λ f. only (p f) (x f))) (all-each (λ a. isCut (g a) ≡ c) 6 0 (λ f. only (p f) (x f)) (λ f _ l. all-only (λ a. isCut (g a) ≡ c) (p f) (x f) (kind f))) in
+      (λ i. sym same i + cond c (sym many i) 0) ∙ acting-count c (acting os m) m (acting-all (λ o. isCut o ≡ c) os m kinds) (acting-acts os m) ∙ ap (λ (n : ℕ). length m + cond c 0 n) many
+
+-- LAW: Sides asks for Q, less the hidden sides that have a quad, plus the drawn ones that have none
+pub sides-room : (W : World) (e : Entry) (m : List Quad) → Once m → needed (sided W e) m ≡ length m - hiddenThere e m + drawnMissing W e m
+unfolding needed
+sides-room W e m once =
+    let hid = own-count cut (keyOf (e .cell)) true (λ f l. omega arith) (λ f. refl) (toHide e) m once in
+    let drew = own-count put (quadOf W (e .type) (e .cell)) false (λ f l. omega arith) (λ f. refl) (λ f. isNormalCube W (e .type) && toDraw e f) left (run-once (cuts ((sided W e) .own)) m once) in
+    omega (arith, hid, drew, count-same 6 (λ f. isNormalCube W (e .type) && toDraw e f && not (there (keyOf (e .cell) f) left)) (λ f. isNormalCube W (e .type) && toDraw e f && not (there (keyOf (e .cell) f) m)) (λ f l. still f l (toDraw e f) refl))
+  where
+    left : List Quad
+    left = run (cuts ((sided W e) .own)) m
+
+    -- a side that is drawn is not one that was hidden
+    still : (f : ℕ) → f < 6 → (b : Bool) → toDraw e f ≡ b → (isNormalCube W (e .type) && b && not (there (keyOf (e .cell) f) left)) ≡ (isNormalCube W (e .type) && b && not (there (keyOf (e .cell) f) m))
+    still f l true d =
+        let n = eqb-true (givenAt e f) 2 d in
+        let h : toHide e f ≡ false = ap (λ (byte : ℕ). eqb byte 1) n in
+        let s = sides-own W (e .type) (e .cell) (e .cell) f l (toHide e) refl ∙ h in
+        ap (λ (y : List (List ℕ)). isNormalCube W (e .type) && true && not (not (isNil y))) (at-cuts (keyOf (e .cell) f) ((sided W e) .own) m (once (keyOf (e .cell) f)) ∙ ap (λ (b : Bool). cond b [] (at (keyOf (e .cell) f) m)) s)
+    still f l false d = rw (and-false (isNormalCube W (e .type)))

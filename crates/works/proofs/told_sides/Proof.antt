@@ -1,0 +1,10 @@
+-- `works::told_sides` meets its contract: side by side. Assumes nothing.
+use borrow.Author.Needs.{needs}
+use Rattle.works.proofs.told_sides.Statement.{statement}
+use Rattle.works.proofs.told_sides.Tie as tie
+
+pub told-sides-spec : {M : Type 1} → statement M
+told-sides-spec =
+    tie.close
+    (tie.spec (λ c κs. search needs) (λ c κs. search needs) (λ c κs. search needs) (λ c κs. search needs) (λ c κs. search needs)
+    (λ c κs. search needs) (λ c κs. search needs) (λ c. cc))
