@@ -10,7 +10,7 @@ from collections import Counter
 from cube_vectors import INF, MAX, NAN, NEG, cube, f, shape
 from plain_mesh import EACH, JUNK, LINKS, LISTS, UNIT, attributes, call, faces, mesh, words_for
 from sure import sure
-from trials import ADD_FACES, CHECK, CULL_FACES, CULLING, NAIVE, NONE, OUTSIDE, UPDATE, Trials, entry, spare
+from trials import CHECK, CULLING, DRAW, HIDE, KEEP, NAIVE, NONE, SIDES, UPDATE, Trials, entry, spare
 
 trials = Trials()
 answers = Counter()
@@ -153,12 +153,11 @@ sure(check(count) == (0, 0))
 drawn = {6 * cell + face for cell, _, face in faces(MIXED)}
 for cell in range(8):
     for face in range(6):
-        change, after = (CULL_FACES, count - 1) if 6 * cell + face in drawn else (ADD_FACES, count + 1)
-        given = [OUTSIDE] * face + [1] + [OUTSIDE] * (5 - face)
-        sure(trials.add(UPDATE, count, entry(cell, change, 1, *given))[:3] == (0, 0, after))
+        other, after = (HIDE, count - 1) if 6 * cell + face in drawn else (DRAW, count + 1)
+        sure(trials.add(UPDATE, count, entry(cell, SIDES, 1, *[other if side == face else KEEP for side in range(6)]))[:3] == (0, 0, after))
         sure(check(after, goes_on=True) == (15, 6 * cell + face))
         # The same for a second face of the grid's last cell: the lowest is named.
-        sure(trials.add(UPDATE, after, entry(7, CULL_FACES, 1, *[1] * 6), goes_on=True)[0] == 0)
+        sure(trials.add(UPDATE, after, entry(7, SIDES, 1, *[HIDE] * 6), goes_on=True)[0] == 0)
         check(trials.told[2], goes_on=True)
 sure(trials.add(NAIVE, 0)[0] == 14 and trials.add(CULLING, 0)[:3] == (0, 0, count) and check(count, goes_on=True) == (0, 0))
 for turn in range(12):

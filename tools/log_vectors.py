@@ -1,7 +1,8 @@
 #!/usr/bin/env python3
 """Writes a set that the program trials_run reads, crates/trials_run/data/logs, and what it must print for it.
 
-Every expected word comes from trials.py, from document 01's sentences; where 01 itself works a case, its figures stand here, held by `sure`.
+Every expected word comes from trials.py, from the sentences of document 01, of Sides from 02's Q-6; where 01 itself works a case, its figures
+stand here, held by `sure`, and so do those of Sides entries that were worked by hand.
 Run it at the repository's root; stored.py says where it writes.
 """
 import random
@@ -10,7 +11,7 @@ from cube_vectors import INF, NAN, cube, f, shape
 from mesh_vectors import some_types
 from plain_mesh import EACH, JUNK, LISTS, SLOTS, UNIT, attributes, call, counted, faces, mesh, words_for
 from sure import sure
-from trials import (ADD_FACES, ADDED, BROKEN, CHECK, CULL_FACES, CULLING, NAIVE, NONE, OUTSIDE, UPDATE, UPDATE_ITSELF, Trials, beside, cell_count,
+from trials import (ADDED, BROKEN, CHECK, CULLING, DRAW, HIDE, KEEP, NAIVE, NONE, OUTSIDE, SIDES, UPDATE, UPDATE_ITSELF, Trials, beside, cell_count,
                     covers, entry, spare)
 
 trials = Trials()
@@ -32,6 +33,11 @@ def fit(m, quads):
 def by(face, code):
     """Neighbours of which one is given."""
     return ALONE[:face] + (code,) + ALONE[face + 1:]
+
+
+def sides(hidden=(), drawn=()):
+    """What a Sides entry says of the six: these are hidden, those drawn, the others kept."""
+    return tuple(HIDE if face in hidden else DRAW if face in drawn else KEEP for face in range(6))
 
 
 def around(m, grid, cell):
@@ -68,22 +74,64 @@ for m in (PAIR, TINTED):  # the room is what the shortest list holds, each in it
     for k in counted(m):
         for length in (10 * EACH[k], 11 * EACH[k] - 1, 11 * EACH[k]):
             sure(add(UPDATE, 10, BREAK + BUILD, **{LISTS[k]: length})[:2] == ((14, 1) if length < 11 * EACH[k] else (0, 0)))
+sure(add(UPDATE, 10, entry(0, SIDES, 1, *sides([0, 4], [2]))) == (0, 0, 9, 6))  # with colour
 base(PAIR)
-for length in range(8):  # without colour any list of colours will do
+for length in (0, 1, 6, 7):  # without colour any list of colours will do
     sure(add(UPDATE, 10, BREAK + BUILD, colours=length)[:3] == (0, 0, 10))
+
+# ---- sides hidden and drawn by one entry: first those hidden go, in face order, then those drawn come, in face order
+def as_two(cell, code, given):
+    """The same by two entries: what is hidden, then what is drawn."""
+    hidden, drawn = ([what if what == one else KEEP for what in given] for one in (HIDE, DRAW))
+    return entry(cell, SIDES, code, *hidden) + entry(cell, SIDES, code, *drawn)
+
+
+def by_one_or_two(count, cell, code, given, **lent):
+    """One entry, and the same as two: the answers and all words are the same. Answers quads and moved."""
+    told, left = add(UPDATE, count, entry(cell, SIDES, code, *given), **lent), trials.image
+    sure(told[0] == 0 and add(UPDATE, count, as_two(cell, code, given), **lent) == told and trials.image == left)
+    return told[2:]
+
+
+FRESH = [(cell, face) for cell, _, face in faces(PAIR)]
+SWAPPED = [(1, 5), (0, 1), (0, 3), (0, 5), (1, 0), (1, 1), (1, 2), (1, 4)]  # the last quad takes Top's place, then Back's is closed up
+sure(by_one_or_two(10, 0, 1, sides([0, 4], [2])) == (9, 6) and keys() == SWAPPED + [(0, 2)])
+sure(by_one_or_two(10, 0, 0, sides([0, 4], [2])) == (8, 6) and keys() == SWAPPED)  # a Null is not drawn
+sure(by_one_or_two(10, 1, 1, sides([1, 4], [0, 3])) == (9, 4) and keys() == FRESH[:6] + [(1, 2), (1, 5), (1, 3)])  # Top is there already
+sure(by_one_or_two(10, 0, 1, sides([2], [0, 1, 3, 4, 5])) == (10, 0) and keys() == FRESH)  # what is hidden is not there, what is drawn is
+sure(add(UPDATE, 10, entry(0, SIDES, 1, *sides())) == (0, 0, 10, 0) and trials.image == trials.kept)
+sure(add(UPDATE, 10, entry(1, SIDES, 1, *sides((), range(6)))) == (0, 0, 11, 0) and keys() == FRESH + [(1, 3)])
+sure(add(UPDATE, 10, entry(0, SIDES, 1, *sides(range(6)))) == (0, 0, 5, 14) and keys() == [(1, face) for face in (5, 4, 0, 1, 2)])
+sure(add(UPDATE, 5, entry(0, SIDES, 1, *sides((), range(6))), goes_on=True) == (0, 0, 11, 0))
+sure(keys() == [(1, face) for face in (5, 4, 0, 1, 2)] + [(0, face) for face in range(6)])
+told, left = add(UPDATE, 10, entry(0, SIDES, 1, *sides([5, 3], [2]))), trials.image
+sure(add(UPDATE_ITSELF, 10, entry(0, SIDES, 1, *sides([5, 3], [2]))) == told and trials.image == left)
+
+ROW = call(grid=[1, 1, 1])  # the one amid has no Right and no Left
+sure(base(ROW, 2) == 14)
+for given, quads in ((sides([0], [2, 3]), 15), (sides([2], [3]), 15), (sides([0], [1, 2, 3]), 15), (sides([0, 1, 5], [2, 3, 4]), 14),
+                     (sides([2, 4], [3, 1]), 14), (sides([2, 3], [0, 1, 4, 5]), 14), (sides([], [2, 3]), 16)):
+    sure(by_one_or_two(14, 1, 1, given, **fit(ROW, quads))[0] == len(keys()) <= quads)
+    if quads > 14:
+        sure(add(UPDATE, 14, entry(1, SIDES, 1, *given), **fit(ROW, quads - 1)) == (14, 0, 14, 0) and trials.image == trials.kept)
+    sure(add(UPDATE, 14, entry(1, SIDES, 0, *given), **fit(ROW, 14))[:2] == (0, 0))  # a Null asks for no room
+FOLLOWING = [entry(2, SIDES, 1, *sides([2, 5])), entry(1, SIDES, 1, *sides([1], [2, 3])), entry(2, SIDES, 1, *sides([4], [2, 3, 5]))]
+sure(add(UPDATE, 14, b"".join(FOLLOWING), **fit(ROW, 14)) == (14, 2, 13, 7))  # 12, 13, and 15 are asked for
+sure(keys() == [(0, 0), (0, 1), (0, 3), (0, 4), (0, 5), (1, 0), (1, 4), (1, 5), (2, 0), (2, 1), (2, 4), (1, 2), (1, 3)])
+sure(add(UPDATE, 14, b"".join(FOLLOWING), **fit(ROW, 15))[:3] == (0, 0, 15))
 
 # ---- one quad removed, from every place of meshes of 6 to 14: Q - q from 1 to 14
 ROWS = [call(grid=[1] * n) for n in (1, 2, 3)] + [TINTED]
 for m in ROWS:
     count = base(m, 2)
     for q, (cell, _, face) in enumerate(faces(m)):
-        sure(add(UPDATE, count, entry(cell, CULL_FACES, 1, *by(face, 0))) == (0, 0, count - 1, count - 1 - q if count - q <= 6 else 1))
+        sure(add(UPDATE, count, entry(cell, SIDES, 1, *sides([face]))) == (0, 0, count - 1, count - 1 - q if count - q <= 6 else 1))
 base(ROWS[1], 2)
-sure(add(UPDATE, 10, entry(0, CULL_FACES, 0, *by(5, 0)))[3] == 5)  # quad 4
-sure(add(UPDATE, 10, entry(0, CULL_FACES, 0, *by(4, 0)))[3] == 1 and keys()[3] == (1, 5))  # quad 3
+sure(add(UPDATE, 10, entry(0, SIDES, 0, *sides([5])))[3] == 5)  # quad 4
+sure(add(UPDATE, 10, entry(0, SIDES, 0, *sides([4])))[3] == 1 and keys()[3] == (1, 5))  # quad 3
 for q in range(10):  # bits of no number go with their quad
     places = [trials.at(LISTS[k], EACH[k] * q + i) for k in attributes(PAIR) for i in range(EACH[k])]
-    add(UPDATE, 10, entry(0, CULL_FACES, 1, *by(3, 1)) + BREAK, before=[(at, 0x7F800001 + 977 * i) for i, at in enumerate(places)])
+    add(UPDATE, 10, entry(0, SIDES, 1, *sides([3])) + BREAK, before=[(at, 0x7F800001 + 977 * i) for i, at in enumerate(places)])
 
 # ---- 01's cases 7, 8 and 9
 for covering, quads, fresh in ((2, 11, 10), (1, 10, 11)):
@@ -105,8 +153,8 @@ RIM = [c for c in range(27) if sum(k in (0, 2) for k in (c % 3, c // 3 % 3, c //
 sure(len(RIM) == 20)
 for cell in RIM:
     for face in range(6):
-        for change in (BROKEN, ADDED, CULL_FACES, ADD_FACES):
-            sure(add(UPDATE, 54, entry(cell, change, 1, *by(face, 1)))[0] == 0)
+        for change, given in ((BROKEN, by(face, 1)), (ADDED, by(face, 1)), (SIDES, sides([face], [face ^ 1]))):
+            sure(add(UPDATE, 54, entry(cell, change, 1, *given))[0] == 0)
 for cell in range(27):
     number, _, quads, _ = add(UPDATE, 54, entry(cell, BROKEN, 1, *around(BOX, BOX["grid"], cell)))
     sure(number == 0)
@@ -115,7 +163,7 @@ for cell in range(27):
     sure(check_goes_on([1] * 27)[0] == 0)
 
 CORE = entry(13, BROKEN, 1, 1, 1, 1, 1, 1, 1)  # nothing goes, six come
-CUT = [entry(c, CULL_FACES, 1, *by(1, 1)) for c in (0, 1)]
+CUT = [entry(c, SIDES, 1, *sides([1])) for c in (0, 1)]
 for quads in range(54, 61):
     full = quads < 60
     sure(add(UPDATE, 54, CORE, **fit(BOX, quads)) == ((14, 0, 54, 0) if full else (0, 0, 60, 0)))
@@ -127,15 +175,33 @@ for quads in range(54, 61):
 KINDS = dict(kinds=[0, 1, 1, 0, 2, 1, 1], covers=[0, 63, 21, 63, 42, 0, 0b001100], cubes=JUNK + UNIT * 2 + JUNK * 2 + UNIT * 2)
 ODD = call(dims=[2, 2, 1], grid=[1, 0, 2, 5], **KINDS)
 count = base(ODD, 8)
-for change in (BROKEN, ADDED, CULL_FACES, ADD_FACES):
+for change in (BROKEN, ADDED):
     for code in range(7):
-        for given in (0, 1, 2, 4) if change in (BROKEN, ADDED) else (0, 1):  # the other two ask only whether one is given
+        for given in (0, 1, 2, 4):
             add(UPDATE, count, entry(0, change, code, *((given,) * 6)))
     for cell in range(4):
         add(UPDATE, count, entry(cell, change, 1, *ALONE))  # as if the cell were alone
         add(UPDATE, count, entry(cell, change, 5, 5, 5, 5, 5, 5, 5))
-        add(UPDATE, count, entry(cell, change, 1, *ALONE) * 3)  # over a cube; of nothing; faces already there
+        add(UPDATE, count, entry(cell, change, 1, *ALONE) * 3)  # over a cube; of nothing
         add(UPDATE, count, entry(cell, change, 1, 1, OUTSIDE, 1, OUTSIDE, 1, OUTSIDE) + entry(cell, change, 2, OUTSIDE, 1, OUTSIDE, 1, OUTSIDE, 1))
+EVEN, UNEVEN, EVERY = (0, 2, 4), (1, 3, 5), range(6)
+for code in range(7):
+    is_cube = KINDS["kinds"][code] == 1  # cell 0 has all six, cell 1 none
+    sure(add(UPDATE, count, entry(0, SIDES, code, *sides(EVERY)))[2] == count - 6)
+    sure(add(UPDATE, count, entry(1, SIDES, code, *sides((), EVERY)))[2] == count + 6 * is_cube)
+    sure(add(UPDATE, count, entry(0, SIDES, code, *sides(EVEN)) + entry(0, SIDES, code, *sides(UNEVEN, EVEN)))[2] == count - 6 + 3 * is_cube)
+for cell in range(4):
+    sure(add(UPDATE, count, entry(cell, SIDES, 1, *sides())) == (0, 0, count, 0))
+    for given in (sides(EVERY), sides((), EVERY)):
+        add(UPDATE, count, entry(cell, SIDES, 5, *given))
+        add(UPDATE, count, entry(cell, SIDES, 1, *given) * 3)  # of nothing; faces already there
+    for first, then in ((sides(EVEN), sides(UNEVEN)), (sides((), EVEN), sides((), UNEVEN)), (sides(EVEN, UNEVEN), sides(UNEVEN, EVEN))):
+        add(UPDATE, count, entry(cell, SIDES, 1, *first) + entry(cell, SIDES, 2, *then))
+# a neighbour is no word on a side, nor the reverse
+sure(add(UPDATE, count, entry(0, BROKEN, 1, 3, 4, 5, 6, 3, OUTSIDE) + entry(1, ADDED, 6, 6, OUTSIDE, 5, 4, 3, 3))[0] == 0)
+for change, number in ((BROKEN, 0), (ADDED, 0), (SIDES, 13)):
+    for byte in (3, 6, OUTSIDE):
+        sure(add(UPDATE, count, entry(2, change, 1, 0, 1, 2, 1, byte, 0))[0] == number)
 
 
 # ---- logs at random, and each at every room from the count on
@@ -157,7 +223,9 @@ def some_log(rng, m, length, honest=None, may_add=is_alike):
     for _ in range(length):
         cell = rng.randrange(cell_count(m))
         if honest is None:
-            log += entry(cell, rng.randrange(4), rng.randrange(types), *[rng.choice((OUTSIDE, rng.randrange(types))) for _ in range(6)])
+            change = rng.choice((BROKEN, ADDED, SIDES))
+            given = [rng.choice((KEEP, HIDE, DRAW, DRAW) if change == SIDES else (OUTSIDE, rng.randrange(types))) for _ in range(6)]
+            log += entry(cell, change, rng.randrange(types), *given)
         elif honest[cell] in empty:
             code = rng.choice(codes)
             log += entry(cell, ADDED, code, *around(m, honest, cell))
@@ -172,7 +240,7 @@ rng = random.Random(11)
 SMALL = call(dims=[2, 1, 2], grid=[1, 0, 0, 2], **KINDS)
 count = base(SMALL, 30)
 places = set()
-for turn in range(16):
+for turn in range(12):
     log = some_log(rng, SMALL, 5)
     for quads in range(count, 24):
         told = add(UPDATE, count, log, **fit(SMALL, quads))
@@ -180,7 +248,7 @@ for turn in range(16):
             places.add((told[1], log[12 * told[1] + 4]))
         else:
             break
-sure({place for place, _ in places} == {0, 1, 2, 3, 4} and {change for _, change in places} == {ADDED, ADD_FACES}, places)
+sure({place for place, _ in places} == {0, 1, 2, 3, 4} and {change for _, change in places} == {ADDED, SIDES}, places)
 
 for turn in range(10):
     dims = [rng.choice((1, 2, 3)) for _ in range(3)]
@@ -242,7 +310,7 @@ for turn in range(2):
 
 # ---- refusals: each, and each two; the log would change everything
 base(PAIR, 3)
-LOG = BREAK + BUILD + entry(1, CULL_FACES, 1, 1, 1, 1, 1, 1, 1)
+LOG = BREAK + BUILD + entry(1, SIDES, 1, *sides(range(6)))
 BAD = entry(2, BROKEN, 1, *ALONE)
 T, L, S = (trials.at(name) for name in ("triangles", "links", "slots"))
 K, C, R = (trials.at(name) for name in ("kinds", "covers", "cubes"))
@@ -312,10 +380,17 @@ refusal(11, 9, before=[(L + 9, 7 << 29), (T, 9)])
 sure(add(UPDATE, 9, LOG, before=[(S + 11, NONE)])[0] == 0 and add(UPDATE, 10, LOG, before=[(S + 12, 0), (S + 18, 4)])[0] == 0)
 refusal(11, 10, count=11)  # what stands in place 10 is no link
 refusal(11, 10, count=11, before=[(L + 10, 0), (T + 60, 0)])
-for bad in [(2,), (NONE,), (0, 4), (0, 255), (0, 1, 2), (0, 1, 255)] + [(0, 2, 0) + (0,) * k + (2,) for k in range(6)] + [(0, 3, 0, 254)]:
+BAD_FIELDS = [(2,), (NONE,), (2, SIDES), (0, 3), (0, 4), (0, 255), (0, 1, 2), (0, 1, 255), (0, SIDES, 2), (0, SIDES, 255), (0, 3, 1) + ALONE]
+BAD_FIELDS += [(0, ADDED, 0, 254), (0, SIDES, 1, 254), (0, SIDES, 1, DRAW, 3, OUTSIDE)]
+BAD_BYTES = [(change, code) for change in (BROKEN, ADDED) for code in (2, 254)] + [(SIDES, what) for what in (3, OUTSIDE)]
+for bad in BAD_FIELDS + [(0, change, 1) + (0,) * k + (byte,) for change, byte in BAD_BYTES for k in range(6)]:
     one = entry(*(bad + (0, 1, 0, 0, 0, 0, 0, 0, 0)[len(bad):]))
-    for i in range(4):
+    for i in range(4) if bad in BAD_FIELDS else [len(bad) % 4]:
         refusal(13, i, log=LOG[:12 * i] + one + LOG[12 * i:] + one)
+TAKEN = entry(0, SIDES, 1, DRAW, DRAW, HIDE, KEEP, DRAW, DRAW)
+sure(add(UPDATE, 10, TAKEN + BREAK)[0] == 0)
+refusal(13, 1, log=TAKEN + entry(0, BROKEN, 1, 0, 0, 0, 0, DRAW, 0) + TAKEN)
+refusal(13, 2, log=TAKEN + BREAK + entry(0, ADDED, 1, DRAW, 0, 0, 0, 0, 0))
 for n in range(1, 12):
     refusal(13, n % 4, log=LOG[:12 * (n % 4)] + BAD[:n])
 refusal(13, 1, log=BREAK + BAD + b"\1")  # a bad field before the ragged end
@@ -326,6 +401,15 @@ refusal(13, 3, log=LOG + b"\0", **fit(PAIR, 10))
 for outer in ((), (0,), (5, 3, 3)):
     sure(add(CULLING, 0, outer=outer)[0] == 0 and add(NAIVE, 0, outer=outer) == (0, 0, 12, 0))
 sure(add(CULLING, 0, outer=(1, 6)) == (7, 1, 0, 0) and add(CULLING, 0, links=9) == (14, 0, 0, 0) and add(CULLING, 0, grid=1) == (2, 0, 0, 0))
+
+# ---- one type: 2 is no type there, but a side that is drawn
+ONE_TYPE = call(grid=[0, 0], kinds=[1], covers=[63], cubes=UNIT)
+sure(base(ONE_TYPE, 2) == 10 and add(UPDATE, 10, entry(1, SIDES, 0, *sides([0], [3, 2]))) == (0, 0, 10, 4))
+sure(add(UPDATE, 10, entry(1, SIDES, 0, *sides((), range(6))))[:3] == (0, 0, 11))
+for face in range(6):
+    refusal(13, 1, log=entry(0, BROKEN, 0, *ALONE) + entry(1, SIDES, 0, *[3 if k == face else DRAW for k in range(6)]))
+    for change in (BROKEN, ADDED):
+        refusal(13, 0, log=entry(0, change, 0, *by(face, 1)))
 
 if __name__ == "__main__":
     trials.write("logs")

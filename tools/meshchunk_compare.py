@@ -1,6 +1,6 @@
 #!/usr/bin/env python3
 """tools/meshchunk_compare.py [CASES [SEED]]: runs meshchunk on work files made at random and holds each answer to plain_program.py, a plain
-reading of document 01. Prints how many agreed, and how often each answer came. Run it at the repository's root; meshchunk is proved and
+reading of the documents. Prints how many agreed, and how often each answer came. Run it at the repository's root; meshchunk is proved and
 built first if it is not there.
 """
 import collections
@@ -46,9 +46,10 @@ def random_float(rng):
 
 def random_entry(rng, cells, types):
     cell = rarely(rng, rng.randrange(cells), lambda: rng.randrange(2 * cells), 300)
-    change = rarely(rng, rng.choice((0, 0, 1, 1, 2, 3)), lambda: rng.randrange(256), 300)
+    change = rarely(rng, rng.choice((0, 1, 2)), lambda: rng.choice((3, rng.randrange(256))), 300)
     code = rarely(rng, rng.randrange(types), lambda: rng.randrange(256), 300)
-    given = [rarely(rng, rng.choice((255, rng.randrange(types))), lambda: rng.randrange(256), 900) for _ in range(6)]
+    usual = (lambda: rng.randrange(3)) if change == 2 else (lambda: rng.choice((255, rng.randrange(types))))
+    given = [rarely(rng, usual(), lambda: rng.choice((3, 255, rng.randrange(256))), 900) for _ in range(6)]
     return struct.pack("<I", cell) + bytes([change, code] + given)
 
 

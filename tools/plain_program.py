@@ -1,4 +1,5 @@
-"""What meshchunk has to print for the bytes of a work file: a plain reading of document 01, written from its text and not from the rules."""
+"""What meshchunk has to print for the bytes of a work file: a plain reading of document 01 and of 02's Q-6, written from their text and not
+from the rules."""
 import math
 import struct
 
@@ -132,10 +133,11 @@ class Work:
     def update(self):
         self.moved = 0
         for i, e in enumerate(self.log):
-            neighbours = e[6:]
-            if struct.unpack("<I", e[:4])[0] >= self.cells or e[4] > 3 or e[5] >= self.types:
+            if struct.unpack("<I", e[:4])[0] >= self.cells or e[4] > 2 or e[5] >= self.types:
                 raise Refused(13, i)
-            if any(n >= self.types and n != 255 for n in neighbours):
+            if e[4] == 2 and max(e[6:]) > 2:
+                raise Refused(13, i)
+            if e[4] != 2 and any(n >= self.types and n != 255 for n in e[6:]):
                 raise Refused(13, i)
         for i, e in enumerate(self.log):
             self.enter(i, struct.unpack("<I", e[:4])[0], e[4], e[5], e[6:])
@@ -157,9 +159,8 @@ class Work:
                 if beside is not None and self.covering(code, f ^ 1):
                     facing.append((beside, f ^ 1))
         elif change == 2:
-            own = [(cell, f) for f in range(6) if given[f] != 255]
-        elif change == 3 and self.is_normal(code):
-            new = [(cell, f) for f in range(6) if given[f] != 255]
+            own = [(cell, f) for f in range(6) if given[f] == 1]
+            new = [(cell, f) for f in range(6) if given[f] == 2 and self.is_normal(code)]
         left = [q for q in self.quads if q not in own]
         if new and len(left) + len([q for q in new if q not in left]) > ROOM:
             raise Refused(14, i)

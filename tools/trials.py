@@ -1,4 +1,5 @@
-"""Document 01's update, in both modes of document 02's Q-2, and check in plain Python, and the records that crates/trials_run reads.
+"""Document 01's update, in both modes of document 02's Q-2 and with the changes of its Q-6, and check in plain Python, and the records that
+crates/trials_run reads.
 
 A mesh is seven lists of words. An update takes them for a list of quads (cell, face, words by attribute), works on that as 01's sentences say, and
 lays it out again. No code of the crates is used; cubes, fresh meshing and the types' tests are those of cube_vectors.py and plain_mesh.py.
@@ -13,7 +14,8 @@ from stored import counted, keep_set, spoiled
 from sure import sure
 
 NAIVE, CULLING, UPDATE, CHECK, UPDATE_ITSELF = range(5)
-BROKEN, ADDED, CULL_FACES, ADD_FACES = range(4)
+BROKEN, ADDED, SIDES = range(3)
+KEEP, HIDE, DRAW = range(3)  # what the six bytes of a Sides entry say; those of the others are neighbours
 OUTSIDE = 255
 HEAD, ROOM = 22, 65536
 LENGTHS, TOLD = 11, 17  # where a base has the lengths of its lists, and a trial its answer
@@ -117,10 +119,16 @@ def entries(log):
     return [(struct.unpack("<I", log[i:i + 4])[0], log[i + 4], log[i + 5], log[i + 6:i + 12]) for i in range(0, len(log) - 11, 12)]
 
 
-def entries_answer(m, log):
+def is_entry(m, cell, change, code, given):
     types = len(m["kinds"])
-    for i, (cell, change, code, given) in enumerate(entries(log)):
-        if cell >= cell_count(m) or change > 3 or code >= types or any(g != OUTSIDE and g >= types for g in given):
+    if cell >= cell_count(m) or change > SIDES or code >= types:
+        return False
+    return all(byte <= DRAW if change == SIDES else byte == OUTSIDE or byte < types for byte in given)
+
+
+def entries_answer(m, log):
+    for i, one in enumerate(entries(log)):
+        if not is_entry(m, *one):
             return 13, i
     return (13, len(log) // 12) if len(log) % 12 else (0, 0)
 
@@ -146,10 +154,8 @@ def plan(m, tested, cell, change, code, given):
     if change == BROKEN:
         return own, [(beside(m, cell, i), i ^ 1, given[i]) for i in range(6)
                      if covers(m, code, i) and given[i] != OUTSIDE and m["kinds"][given[i]] == 1 and beside(m, cell, i) is not None], []
-    sides = [face for face in range(6) if given[face] != OUTSIDE]
-    if change == CULL_FACES:
-        return [(cell, face) for face in sides], [], []
-    return [], [(cell, face, code) for face in sides] if cube else [], []
+    hidden = [(cell, face) for face in range(6) if given[face] == HIDE]
+    return hidden, [(cell, face, code) for face in range(6) if given[face] == DRAW and cube], []
 
 
 def remove(quads, cell, face):
@@ -182,18 +188,19 @@ def laid(m, lists, quads, highest):
         slots + lists[SLOTS][6 * cells:]]
 
 
-def update(m, lists, count, log, tested=opposite):
-    """Number, place, quads and moved; and the lists."""
+def update(m, lists, count, log, tested=opposite, reading=(entries_answer, plan)):
+    """Number, place, quads and moved; and the lists. `reading` says which entries are refused, and what each does."""
+    tried, planned = reading
     for number, place in ((2 if bad_size(m) else 0, 0), types_answer(m)):
         if number:
             return (number, place, 0, 0), lists
-    for number, place in (book_answer(m, lists, count), entries_answer(m, log)):
+    for number, place in (book_answer(m, lists, count), tried(m, log)):
         if number:
             return (number, place, 0, 0), lists
     quads = [(link & 0x1FFFFFFF, 5 - (link >> 29), words_of(m, lists, q)) for q, link in enumerate(lists[LINKS][:count])]
     highest, moved = count, 0
     for i, one in enumerate(entries(log)):
-        first, drawn, after = plan(m, tested, *one)
+        first, drawn, after = planned(m, tested, *one)
         there = {(cell, face) for cell, face, _ in quads}
         gone = there & set(first)
         new = [(cell, face, code) for cell, face, code in drawn if (cell, face) not in there - gone]
@@ -326,7 +333,7 @@ def headed(trial, **words):
 
 def wrong_answers(trials):
     """An update that stops for want of room, wrong in one thing each: the answer, and the first and last word of each list."""
-    log = entry(1, CULL_FACES, 1, 255, 255, 255, 255, 1, 255) + entry(1, ADD_FACES, 1, 255, 255, 255, 1, 1, 255)
+    log = entry(1, SIDES, 1, KEEP, KEEP, KEEP, KEEP, HIDE, KEEP) + entry(1, SIDES, 1, KEEP, KEEP, KEEP, DRAW, DRAW, KEEP)
     stopped = trials.only_made((14, 1, 9, 1), UPDATE, 10, log)
     ends = [trials.start[name] + k for name, n in zip(PARTS[4:], trials.size[4:]) for k in (0, n - 1)]
     return [spoiled(stopped, TOLD + k) for k in range(4)] + [stopped + [at, 1, trials.image[at] ^ 1] for at in ends]
