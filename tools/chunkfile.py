@@ -25,8 +25,7 @@ A description has a line for each thing; a line that starts with # is a comment.
     layer                         the lowest first: a line for each z, Forward first, with a letter for each x, Left first
     break 4 3 4                   the log: what stands at x y z goes
     add r 0 3 0                   a voxel is put at x y z
-    cull 0 0 0 top left           sides of a voxel are hidden, or drawn
-    draw 0 0 0 top
+    sides 0 0 0 hide top left draw back       sides of what stands at x y z are hidden, others drawn; one of the two may be left out
 
 Left out, a line has the value above, but for outer, none, atlas, 1 1, and colour, none. The log's neighbours are taken from the grid as
 the lines before left it. What a work file holds beyond that is written by number: `kind 3`, `set 64`, `codes` for a layer, 0x.. for a
@@ -47,7 +46,8 @@ FACES = ["top", "bottom", "right", "left", "back", "forward"]
 STEPS = [(0, 1, 0), (0, -1, 0), (1, 0, 0), (-1, 0, 0), (0, 0, 1), (0, 0, -1)]
 KINDS = ["null", "cube", "custom"]
 ALGORITHMS = ["naive", "culling"]
-CHANGES = ["break", "add", "cull", "draw"]
+CHANGES = ["break", "add", "sides"]
+SIDE_WORDS = ["keep", "hide", "draw"]
 LETTERS = "rstuvwxyzabcdefghijklmnopq"
 OUTSIDE = 255
 TYPE_BYTES, ENTRY_BYTES, TRAILER_BYTES = 74, 12, 92
@@ -146,6 +146,36 @@ def side_set(names):
 def side_text(sides):
     names = [name for n, name in enumerate(FACES) if sides >> n & 1]
     return {0: "none", 63: "all"}.get(sides, " ".join(names) if sides < 64 else "set %d" % sides)
+
+
+def faces_named(key, names):
+    if names in (["none"], ["all"]):
+        return range(6) if names == ["all"] else []
+    if not names:
+        raise Bad("the faces to %s are asked for" % key)
+    return [face(name) for name in names]
+
+
+def side_bytes(told):
+    """A Sides entry's six bytes, of `hide FACE.. draw FACE..`."""
+    cut = told.index("draw") if "draw" in told else len(told)
+    parts = [part for part in (told[:cut], told[cut:]) if part]
+    if not parts or parts[0][0] not in ("hide", "draw"):
+        raise Bad("hide or draw is asked for")
+    sides = bytearray(6)
+    for key, *names in parts:
+        for n in faces_named(key, names):
+            if sides[n]:
+                raise Bad("%s is named twice" % FACES[n])
+            sides[n] = SIDE_WORDS.index(key)
+    return bytes(sides)
+
+
+def side_words(sides):
+    """What side_bytes reads."""
+    hidden, drawn = (sum(1 << n for n in range(6) if sides[n] == what) for what in (1, 2))
+    parts = ["hide " + side_text(hidden)] if hidden or not drawn else []
+    return " ".join(parts + (["draw " + side_text(drawn)] if drawn else []))
 
 
 def number(text, bound=1 << 32):
@@ -271,26 +301,28 @@ class Reader:
         if len(chunk.grid) != self.cells() or not chunk.grid:
             raise Bad("the log comes after all layers")
         self.grid = chunk.grid if self.grid is None else self.grid
-        if key == "entry":
-            cell, *rest = several(told, 9)
-            entry = words(number(cell)) + bytes(number(n, 256) for n in rest)
-        else:
-            given = self.voxel(told.pop(0)) if key == "add" and told else None
-            cell = chunk.cell(*(number(n) for n in several(told[:3], 3)))
-            if cell is None:
-                raise Bad("%s is outside" % " ".join(told[:3]))
-            voxel = self.grid[cell] if given is None else given
-            entry = words(cell) + bytes([CHANGES.index(key), voxel]) + self.beside(key, cell, told[3:])
+        entry = self.numbered(told) if key == "entry" else self.named(key, told)
         chunk.log.append(entry)
         self.grid = chunk.after(self.grid, entry)
 
-    def beside(self, key, cell, names):
-        """An honest entry's neighbours, or for cull and draw a neighbour on each side named: air, that is type 0."""
-        if key in ("break", "add"):
-            several(names, 0)
-            return self.chunk.neighbours(self.grid, cell)
-        sides = side_set(names)
-        return bytes(0 if sides >> n & 1 else OUTSIDE for n in range(6))
+    def numbered(self, told):
+        cell, *rest = several(told, 9)
+        return words(number(cell)) + bytes(number(n, 256) for n in rest)
+
+    def named(self, key, told):
+        given = self.voxel(told.pop(0)) if key == "add" and told else None
+        cell = self.chunk.cell(*(number(n) for n in several(told[:3], 3)))
+        if cell is None:
+            raise Bad("%s is outside" % " ".join(told[:3]))
+        code, six = self.change_told(key, cell, told[3:])
+        return words(cell) + bytes([code, self.grid[cell] if given is None else given]) + six
+
+    def change_told(self, key, cell, told):
+        """The change's number, and its six bytes: what is told of the sides, or an honest entry's neighbours."""
+        if key == "sides":
+            return CHANGES.index(key), side_bytes(told)
+        several(told, 0)
+        return CHANGES.index(key), self.chunk.neighbours(self.grid, cell)
 
 
 # Writing one.
@@ -379,9 +411,8 @@ def entry_text(chunk, grid, entry):
             return "break " + place
         if change == 1 and voxel < len(chunk.types):
             return "add %s %s" % (chunk.types[voxel].letter, place)
-    if cell < len(grid) and change in (2, 3) and voxel == grid[cell] and set(entry[6:]) <= {0, OUTSIDE}:
-        sides = sum(1 << n for n in range(6) if entry[6 + n] == 0)
-        return "%s %d %d %d %s" % (CHANGES[change], *chunk.place(cell), side_text(sides))
+    if cell < len(grid) and change == 2 and voxel == grid[cell] and max(entry[6:]) < len(SIDE_WORDS):
+        return "sides %d %d %d %s" % (*chunk.place(cell), side_words(entry[6:]))
     return "entry %d %s" % (cell, " ".join(map(str, entry[4:])))
 
 
@@ -527,6 +558,41 @@ BAD = {
     SMALL + "dig 0 0 0": "line 6: dig is unknown",
     SMALL[:-3]: "line 4: the layer's lines end too early",
     "break 0 0 0": "line 1: the log comes after all layers",
+    SMALL + "sides 0 0 0": "line 6: hide or draw is asked for",
+    SMALL + "sides 0 0 0 top": "line 6: hide or draw is asked for",
+    SMALL + "sides 0 0 0 keep top draw left": "line 6: hide or draw is asked for",
+    SMALL + "sides 0 0 0 hide draw left": "line 6: the faces to hide are asked for",
+    SMALL + "sides 0 0 0 hide left draw": "line 6: the faces to draw are asked for",
+    SMALL + "sides 0 0 0 hide left draw roof": "line 6: roof is no face",
+    SMALL + "sides 0 0 0 draw left hide top": "line 6: hide is no face",
+    SMALL + "sides 0 0 0 hide left top left": "line 6: left is named twice",
+    SMALL + "sides 0 0 0 draw back back": "line 6: back is named twice",
+    SMALL + "sides 0 0 0 hide top left draw back left": "line 6: left is named twice",
+    SMALL + "sides 0 0 0 hide all draw top": "line 6: top is named twice",
+    SMALL + "sides 0 0 0 hide top all": "line 6: all is no face",
+    SMALL + "sides 0 1 0 hide top": "line 6: 0 1 0 is outside",
+    SMALL + "cull 0 0 0 top": "line 6: cull is unknown",
+    SMALL + "draw 0 0 0 top": "line 6: draw is unknown",
+}
+# lines of a log as `show` writes them, and their entries past the cell; below, other words for the same
+SHOWN = {
+    "sides 1 0 0 hide top forward draw left": (2, 1, 1, 0, 0, 2, 0, 1),
+    "sides 1 0 0 hide right": (2, 1, 0, 0, 1, 0, 0, 0),
+    "sides 1 0 0 draw bottom back": (2, 1, 0, 2, 0, 0, 2, 0),
+    "sides 1 0 0 hide all": (2, 1, 1, 1, 1, 1, 1, 1),
+    "sides 1 0 0 draw all": (2, 1, 2, 2, 2, 2, 2, 2),
+    "sides 1 0 0 hide none": (2, 1, 0, 0, 0, 0, 0, 0),
+    "entry 1 2 0 1 0 0 0 0 2": (2, 0, 1, 0, 0, 0, 0, 2),
+    "entry 1 2 1 1 0 3 0 0 2": (2, 1, 1, 0, 3, 0, 0, 2),
+    "entry 1 3 1 1 0 0 0 0 2": (3, 1, 1, 0, 0, 0, 0, 2),
+    "entry 2 2 1 1 0 0 0 0 2": (2, 1, 1, 0, 0, 0, 0, 2),
+}
+ALIKE = {
+    "sides 1 0 0 hide forward top draw left": "sides 1 0 0 hide top forward draw left",
+    "sides 1 0 0 hide none draw back bottom": "sides 1 0 0 draw bottom back",
+    "sides 1 0 0 hide right draw none": "sides 1 0 0 hide right",
+    "sides 1 0 0 draw none": "sides 1 0 0 hide none",
+    "entry 1 2 1 1 1 1 1 1 1": "sides 1 0 0 hide all",
 }
 
 
@@ -541,16 +607,19 @@ def said_of(text):
 def test(program):
     worked = File(log=words(0) + bytes([0, 1, 255, 255, 1, 255, 255, 255]))
     sure(chunk_in((SMALL + "break 0 0 0\n").encode()).bytes() == worked.text, "document 01's file")
-    sides = chunk_in((SMALL + "cull 0 0 0 right\ndraw 0 0 0 right top\nadd . 1 0 0\nbreak 1 0 0\n").encode())
+    log = chunk_in((SMALL + "\n".join(["add . 1 0 0", "sides 1 0 0 hide top", "break 1 0 0", "add r 1 0 0", *SHOWN]) + "\n").encode())
     folder = os.path.join(ROOT, "examples")
     examples = [read_input(os.path.join(folder, name)) for name in sorted(os.listdir(folder)) if name.endswith(".chunk")]
-    files = [file.text for file in good_files()] + [sides.bytes()] + [chunk_in(text).bytes() for text in examples]
+    files = [file.text for file in good_files()] + [log.bytes()] + [chunk_in(text).bytes() for text in examples]
     for file in files:
         text = "\n".join(description(read_workfile(file)))
         sure(Reader(text).read().bytes() == file, text)
+    for line, shown in list(ALIKE.items()) + [(line, line) for line in SHOWN]:
+        chunk = chunk_in((SMALL + line).encode())
+        sure(chunk.log[0][4:] == bytes(SHOWN[shown]) and list(description(chunk))[-1] == shown, line)
     for text, expected in BAD.items():
         sure(said_of(text) == expected, said_of(text), expected)
-    print("%d round trips, %d bad descriptions" % (len(files), len(BAD)))
+    print("%d round trips, %d lines of a log, %d bad descriptions" % (len(files), len(SHOWN) + len(ALIKE), len(BAD)))
     dug = chunk_in(read_input(os.path.join(folder, "dug.chunk")))
     sure(answer_of(program, dug.bytes()) == read_input(os.path.join(folder, "dug.stdout")).decode(), "the answer to examples/dug.chunk")
     print("the program answers examples/dug.chunk rightly")

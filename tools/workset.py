@@ -5,7 +5,7 @@
     tools/workset.py test           runs tools/meshchunk, or what --program names, on every file of the set
     tools/workset.py file NAME      the bytes of one file, on standard output
 
-What must be printed comes from document 01: the whole answer by plain_program.py, and the first line once more by hand, below, but for long logs.
+What must be printed comes from document 01, of Sides entries from 02's Q-6: the whole answer by plain_program.py, and the first line once more by hand, below, but for long logs.
 Where 01 itself works a file, its own lines stand here. One file has an answer that is wrong on purpose: a test that does not tell it has failed.
 
 What a file can reach: 1 BAD_FILE, 3 BAD_TYPES at a type, 4, 5, 6, 7 at a texture's entry, 8, 13 at an entry, and 14 at 0 or an entry. What it
@@ -37,7 +37,8 @@ SET = "examples/workfiles.txt"
 REACHED = {1, 3, 4, 5, 6, 7, 8, 13, 14}
 MOST = 0xFFFFFFFF
 INF, NAN, MAX, NEG = 0x7F800000, 0x7FC00000, 0x7F7FFFFF, 0x80000000
-BROKEN, ADDED, CULL_FACES, ADD_FACES = range(4)
+BROKEN, ADDED, SIDES = range(3)
+KEEP, HIDE, DRAW = range(3)
 CUSTOM = type_bytes(2, 63)
 NONE_GIVEN = [OUTSIDE] * 6
 
@@ -48,7 +49,7 @@ NONE_GIVEN = [OUTSIDE] * 6
 HEAD = """\
 # Work files, and what meshchunk must print for each. tools/workset.py makes them, and says more.
 #
-# A file is its parts in their order: `type` has kind, set and six times face, a, b; `entry` has cell, change, type and six neighbours;
+# A file is its parts in their order: `type` has kind, set and six times face, a, b; `entry` has cell, change, type and six neighbours, or sides;
 # `trailer` has 23 words; `grid` and `bytes` have bytes. `N times` says that a part comes N times, `n*N` that a byte does.
 # A line that starts with > is printed. `wrong` is a file whose lines here are wrong on purpose.
 """
@@ -121,10 +122,15 @@ def around(**given):
     return [given.get(face, OUTSIDE) for face in FACES]
 
 
-def textured(kind, sides, **entries):
+def sides(cell, code, **told):
+    """A Sides entry that keeps all but the sides named."""
+    return entry(cell, SIDES, code, *[told.get(face, KEEP) for face in FACES])
+
+
+def textured(kind, covering, **entries):
     """A type whose entries are faces 0 to 5 with tile 0,0, but for those given by number, as e3=(6, 0, 0)."""
     told = [entries.get("e%d" % i, (i, 0, 0)) for i in range(6)]
-    return bytes([kind, sides]) + words(*itertools.chain(*told))
+    return bytes([kind, covering]) + words(*itertools.chain(*told))
 
 
 def grid_file(size, codes, log=b"", **more):
@@ -168,6 +174,21 @@ quads 6 moved 14
 """
 
 
+# Of ten quads Top is 0 and Back is 3: the last takes the place of Top, then the five after Back close up. Right comes last.
+TWO_HIDDEN_ONE_DRAWN = """\
+quads 9 moved 6
+0 1 5
+1 0 1
+2 0 3
+3 0 5
+4 1 0
+5 1 1
+6 1 2
+7 1 4
+8 0 2
+"""
+
+
 def worked_by_hand():
     yield "example", File(), WORKED
     yield "case_1", row(1), quads(6, 0)
@@ -176,8 +197,9 @@ def worked_by_hand():
     yield "case_3", row(1, 1, w8=1), quads(8, 0)
     yield "case_4", grid_file((3, 3, 3), [1] * 27), quads(54, 0)
     yield "case_5", row(1, 0, types=(type_bytes(0, 63), CUBE)), quads(5, 0)
-    yield "case_6_shifts", row(1, 1, log=entry(0, CULL_FACES, 1, *around(forward=0))), quads(9, 5)
-    yield "case_6_swaps", row(1, 1, log=entry(0, CULL_FACES, 1, *around(back=0))), quads(9, 1)
+    yield "case_6_shifts", row(1, 1, log=sides(0, 1, forward=HIDE)), quads(9, 5)
+    yield "case_6_swaps", row(1, 1, log=sides(0, 1, back=HIDE)), quads(9, 1)
+    yield "two_hidden_one_drawn", row(1, 1, log=sides(0, 1, top=HIDE, back=HIDE, right=DRAW)), TWO_HIDDEN_ONE_DRAWN
     for case, covers, mended, fresh in ((7, 2, 11, 10), (8, 1, 10, 11)):
         types = NULL, CUBE, type_bytes(1, covers)
         yield "case_%d" % case, grid_file((1, 2, 1), [1], entry(1, ADDED, 2, *around(bottom=1)), types=types), quads(mended)
@@ -291,23 +313,30 @@ def bad_cells():
 
 
 def bad_entries():
-    good = entry(0, ADD_FACES, 1, *NONE_GIVEN)
+    good = sides(0, 1)
     yield "cell_1", row(1, 1, log=good * 2 + entry(1, BROKEN, 1, *around(left=1))), quads(6)
     bad = {
         "cell_2": entry(2, BROKEN, 1, *NONE_GIVEN),
         "cell_most": entry(MOST, BROKEN, 1, *NONE_GIVEN),
+        "change_3": entry(0, 3, 1, *NONE_GIVEN),
+        "change_3_of_sides": entry(0, 3, 1, *[HIDE] * 6),
         "change_4": entry(0, 4, 1, *NONE_GIVEN),
         "change_255": entry(0, 255, 1, *NONE_GIVEN),
         "entry_type_2": entry(0, BROKEN, 2, *NONE_GIVEN),
-        "entry_type_255": entry(0, CULL_FACES, 255, *NONE_GIVEN),
+        "entry_type_255": sides(0, 255),
+        "entry_type_2_of_sides": sides(0, 2, top=HIDE),
         "neighbour_254": entry(0, ADDED, 0, *around(back=254)),
+        "side_255": sides(0, 1, left=OUTSIDE),
     }
     for face in FACES:
-        bad["neighbour_2_" + face] = entry(0, CULL_FACES, 1, *around(**{face: 2}))
+        bad["neighbour_2_" + face] = entry(0, BROKEN, 1, *around(**{face: 2}))
+        bad["side_3_" + face] = sides(0, 1, **{face: 3})
     for name, one in bad.items():
         yield name, row(1, 1, log=good * 2 + one), refused(13, 2)
-    yield "two_bad_entries", row(1, 1, log=good + (good[:4] + b"\4" + good[5:]) * 2), refused(13, 1)
-    yield "entry_667", row(*[0] * 10, types=(CUBE,), log=entry(0, CULL_FACES, 0, *NONE_GIVEN) * 667 + entry(10, 0, 0, *NONE_GIVEN)), refused(13, 667)
+    yield "two_bad_entries", row(1, 1, log=good + (good[:4] + b"\3" + good[5:]) * 2), refused(13, 1)
+    yield "entry_667", row(*[0] * 10, types=(CUBE,), log=sides(0, 0) * 667 + entry(10, 0, 0, *NONE_GIVEN)), refused(13, 667)
+    yield "side_2_of_1_type", row(0, 0, types=(CUBE,), log=sides(0, 0, top=HIDE, right=DRAW)), quads(10, 1)
+    yield "neighbour_2_of_1_type", row(0, 0, types=(CUBE,), log=sides(0, 0, right=DRAW) + entry(0, ADDED, 0, *around(right=2))), refused(13, 1)
 
 
 # Four by twelve cubes in one layer have 2·48 + 2·4 + 2·12 = 128 quads. A cube that leaves its Right side open shows one more.
@@ -321,18 +350,22 @@ def plate(log=b"", **more):
 
 def no_room():
     corner = around(right=1, back=1)
-    one_more = entry(9, ADD_FACES, 1, *around(right=1))
-    cull = entry(0, CULL_FACES, 1, *around(top=0))
-    draw = entry(0, ADD_FACES, 1, *around(top=0))
+    one_more = sides(9, 1, right=DRAW)
+    hide, draw = sides(0, 1, top=HIDE), sides(0, 1, top=DRAW)
     yield "128_quads", plate(), quads(128, 0)
     yield "128_quads_with_colour", plate(w19=1, w20=ONE, w21=ONE), quads(128, 0)
     yield "129_quads", grid_file(PLATE, [1] * 5 + [2] + [1] * 42, types=(NULL, CUBE, OPEN)), refused(14)
     yield "126_quads_naive", row(*[1] * 21, w9=0), quads(126, 0)
     yield "132_quads_naive", row(*[1] * 22, w9=0), refused(14)
     yield "129_quads_at_entry_0", plate(one_more), refused(14, 0)
-    yield "128_quads_after_127", plate(cull + draw), quads(128, 1)
-    yield "129_quads_at_entry_3", plate(cull + draw + draw + one_more + cull), refused(14, 3)
-    yield "129_quads_at_entry_2_with_colour", plate(cull + draw + one_more, w19=1), refused(14, 2)
+    yield "128_quads_after_127", plate(hide + draw), quads(128, 1)
+    yield "129_quads_at_entry_3", plate(hide + draw + draw + one_more + hide), refused(14, 3)
+    yield "129_quads_at_entry_2_with_colour", plate(hide + draw + one_more, w19=1), refused(14, 2)
+    # the corner has a Top and a Left, but no Right and no Back
+    yield "128_quads_one_hidden_one_drawn", plate(sides(0, 1, top=HIDE, right=DRAW, left=DRAW)), quads(128, 1)
+    yield "129_quads_one_hidden_two_drawn", plate(sides(0, 1, top=HIDE, right=DRAW, back=DRAW)), refused(14, 0)
+    yield "129_quads_one_drawn_that_hides_nothing", plate(sides(0, 1, back=HIDE, right=DRAW)), refused(14, 0)
+    yield "127_quads_one_hidden_of_no_cube", plate(sides(0, 0, top=HIDE, right=DRAW, back=DRAW)), quads(127, 1)
     yield "130_quads_at_a_broken", plate(entry(5, BROKEN, 1, *around(right=1, left=1, back=1, forward=1))), refused(14, 0)
     # the corner's four quads go, two show; put back it asks for four more before the two go
     yield "126_quads_at_a_broken", plate(entry(0, BROKEN, 1, *corner)), quads(126, 4)
@@ -344,7 +377,7 @@ def in_order():
     infinite = dict(w10=INF)
     face_6 = textured(0, 0, e1=(6, 0, 0))
     tile_4096 = textured(1, 63, e0=(0, 4096, 0))
-    entry_4 = entry(0, 4, 0, *NONE_GIVEN)
+    entry_3 = entry(0, 3, 0, *NONE_GIVEN)
     yield "flag_2_before_nan", row(1, 1, w19=2, **infinite), BAD_FILE
     yield "number_before_atlas", row(1, 1, w16=0, **infinite), refused(4)
     yield "atlas_before_face", row(1, 1, types=(face_6, CUBE), w16=0), refused(5)
@@ -354,8 +387,8 @@ def in_order():
     yield "kind_before_cube", row(1, 1, types=(CUBE, type_bytes(3, 0)), w10=0), refused(3, 1)
     yield "cube_before_cell", row(1, 2, w10=0), refused(6, 1)
     yield "cell_before_room", grid_file(PLATE, [1] * 5 + [2] + [1] * 41 + [3], types=(NULL, CUBE, OPEN)), refused(8, 47)
-    yield "mesh_before_entries", row(*[1] * 22, w9=0, log=entry_4), refused(14)
-    yield "entries_before_room", plate(entry(9, ADD_FACES, 1, *around(right=1)) + entry_4), refused(13, 1)
+    yield "mesh_before_entries", row(*[1] * 22, w9=0, log=entry_3), refused(14)
+    yield "entries_before_room", plate(sides(9, 1, right=DRAW) + entry_3), refused(13, 1)
 
 
 def described(text):
@@ -378,11 +411,14 @@ def honest(seed):
 
 
 def foolish(seed):
-    """Sixty entries of all four changes, their neighbours drawn by lot."""
-    rng = random.Random(seed)
+    """Sixty entries of all three changes, their neighbours and sides drawn by lot."""
+    rng, log = random.Random(seed), b""
     types = NULL, CUBE, type_bytes(1, 38), type_bytes(1, 0), type_bytes(0, 21), CUSTOM
-    log = [entry(rng.randrange(12), rng.randrange(4), rng.randrange(6), *[rng.choice((OUTSIDE, rng.randrange(6))) for _ in range(6)]) for _ in range(60)]
-    return grid_file((3, 2, 2), [rng.randrange(6) for _ in range(12)], b"".join(log), types=types)
+    for _ in range(60):
+        change = rng.choice((BROKEN, ADDED, SIDES))
+        given = [rng.choice((KEEP, HIDE, DRAW) if change == SIDES else (OUTSIDE, rng.randrange(6))) for _ in range(6)]
+        log += entry(rng.randrange(12), change, rng.randrange(6), *given)
+    return grid_file((3, 2, 2), [rng.randrange(6) for _ in range(12)], log, types=types)
 
 
 def answered():
@@ -402,7 +438,7 @@ def answered():
 
 
 def sections():
-    yield "worked by hand in document 01", worked_by_hand()
+    yield "worked by hand, most of them in document 01", worked_by_hand()
     yield "BAD_FILE, as crates/workfile_run has it", ((name, file, BAD_FILE) for name, file in named_bad_files())
     yield "at the file's limits, and parts that do not adjoin", at_the_limits()
     yield "3 BAD_TYPES", bad_types()
