@@ -47,6 +47,7 @@ STEPS = [(0, 1, 0), (0, -1, 0), (1, 0, 0), (-1, 0, 0), (0, 0, 1), (0, 0, -1)]
 KINDS = ["null", "cube", "custom"]
 ALGORITHMS = ["naive", "culling"]
 CHANGES = ["break", "add", "sides"]
+FORMER = ["cull", "draw"]  # what `sides` says by one line
 SIDE_WORDS = ["keep", "hide", "draw"]
 LETTERS = "rstuvwxyzabcdefghijklmnopq"
 OUTSIDE = 255
@@ -248,6 +249,8 @@ class Reader:
             self.layer(self.letters if key == "layer" else self.numbers)
         elif key in CHANGES + ["entry"]:
             self.change(key, told)
+        elif key in FORMER:
+            raise Bad("%s is a line of the former format, which tools/convert-sides converts" % key)
         else:
             raise Bad("%s is unknown" % key)
 
@@ -337,25 +340,34 @@ def name_types(chunk):
         t.letter = "." if code == chunk.empty() else next(letters)
 
 
-def read_workfile(file):
-    """The chunk in a work file whose parts adjoin and fill it."""
+def parts_of(file):
+    """The trailer's words of a work file whose parts adjoin and fill it, and where its types, its grid and its log end."""
     if len(file) < TRAILER_BYTES:
         raise Bad("a work file has 92 bytes at least")
     word = struct.unpack("<23I", file[-TRAILER_BYTES:])
-    chunk = Chunk()
-    chunk.size = word[5:8]
     ends = [word[3] * TYPE_BYTES]
     ends.append(ends[0] + word[5] * word[6] * word[7])
     ends.append(ends[1] + word[4] * ENTRY_BYTES)
     body = len(file) - TRAILER_BYTES
     if ends[2] != body or word[:3] != (body, body - ends[0], body - ends[1]) or word[22] != TRAILER_BYTES:
         raise Bad("the parts do not adjoin and fill the file")
+    return word, ends
+
+
+def entries_of(log):
+    return [log[at : at + ENTRY_BYTES] for at in range(0, len(log), ENTRY_BYTES)]
+
+
+def read_workfile(file):
+    word, ends = parts_of(file)
+    chunk = Chunk()
+    chunk.size = word[5:8]
     for at in range(0, ends[0], TYPE_BYTES):
         tiles = struct.unpack("<18I", file[at + 2 : at + TYPE_BYTES])
         chunk.types.append(Type("", file[at], file[at + 1], [tiles[i : i + 3] for i in range(0, 18, 3)]))
     name_types(chunk)
     chunk.grid = file[ends[0] : ends[1]]
-    chunk.log = [file[at : at + ENTRY_BYTES] for at in range(ends[1], body, ENTRY_BYTES)]
+    chunk.log = entries_of(file[ends[1] : ends[2]])
     chunk.outer, chunk.algorithm = word[8:10]
     chunk.voxel, chunk.centre, chunk.atlas = list(word[10:13]), list(word[13:16]), list(word[16:18])
     chunk.padding, chunk.coloured, chunk.colour = word[18], word[19], list(word[20:22])
@@ -571,8 +583,8 @@ BAD = {
     SMALL + "sides 0 0 0 hide all draw top": "line 6: top is named twice",
     SMALL + "sides 0 0 0 hide top all": "line 6: all is no face",
     SMALL + "sides 0 1 0 hide top": "line 6: 0 1 0 is outside",
-    SMALL + "cull 0 0 0 top": "line 6: cull is unknown",
-    SMALL + "draw 0 0 0 top": "line 6: draw is unknown",
+    SMALL + "cull 0 0 0 top": "line 6: cull is a line of the former format, which tools/convert-sides converts",
+    SMALL + "draw 0 0 0 top": "line 6: draw is a line of the former format, which tools/convert-sides converts",
 }
 # lines of a log as `show` writes them, and their entries past the cell; below, other words for the same
 SHOWN = {

@@ -5,7 +5,8 @@
     tools/workset.py test           runs tools/meshchunk, or what --program names, on every file of the set
     tools/workset.py file NAME      the bytes of one file, on standard output
 
-What must be printed comes from document 01, of Sides entries from 02's Q-6: the whole answer by plain_program.py, and the first line once more by hand, below, but for long logs.
+What must be printed comes from document 01, of Sides entries from 02's Q-6: the whole answer by plain_program.py, and the first line once more by
+hand, below, but for long logs.
 Where 01 itself works a file, its own lines stand here. One file has an answer that is wrong on purpose: a test that does not tell it has failed.
 
 What a file can reach: 1 BAD_FILE, 3 BAD_TYPES at a type, 4, 5, 6, 7 at a texture's entry, 8, 13 at an entry, and 14 at 0 or an entry. What it
