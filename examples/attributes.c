@@ -27,6 +27,10 @@ static const uint8_t laid[2 * 12] = {
     22, 0, 0, 0, ADDED, ROCK, OUTSIDE, AIR, AIR,     AIR, OUTSIDE, AIR,
     14, 0, 0, 0, ADDED, ROCK, OUTSIDE, AIR, OUTSIDE, AIR, AIR,     OUTSIDE};
 static const uint8_t dug[12] = {ALONE, 0, 0, 0, BROKEN, ROCK, AIR, OUTSIDE, AIR, OUTSIDE, AIR, OUTSIDE};
+/* of a rock beside another two sides are hidden, and the one that it lacks is drawn; then three where nothing is */
+static const uint8_t cut[2 * 12] = {
+    7,  0, 0, 0, SIDES, ROCK, HIDE, KEEP, DRAW, KEEP, HIDE, KEEP,
+    14, 0, 0, 0, SIDES, ROCK, DRAW, KEEP, KEEP, DRAW, DRAW, KEEP};
 
 static struct types types_of(uint32_t coloured) {
     return (struct types){
@@ -91,8 +95,10 @@ static const struct trial trials[] = {
     {"update that removes", UPDATE, {dug, 12}, FRESH, {MESHEM_DONE, 0, 10, 10}, {MESHEM_BAD_COUNT, 0, 0, 0}},
     {"update that draws", UPDATE, {laid, 12}, FRESH + 6, {MESHEM_DONE, 0, 22, 0}, {MESHEM_NO_ROOM, 0, FRESH, 0}},
     {"update that draws twice", UPDATE, {laid, 24}, FRESH + 12, {MESHEM_DONE, 0, 28, 0}, {MESHEM_NO_ROOM, 1, 22, 0}},
+    {"update of sides", UPDATE, {cut, 12}, FRESH, {MESHEM_DONE, 0, 15, 6}, {MESHEM_BAD_COUNT, 0, 0, 0}},
+    {"update of sides twice", UPDATE, {cut, 24}, FRESH + 2, {MESHEM_DONE, 0, 18, 6}, {MESHEM_NO_ROOM, 1, 15, 6}},
 };
-enum { TRIALS = sizeof trials / sizeof trials[0], DRAWS = 3, DRAWS_TWICE = 4 };
+enum { TRIALS = sizeof trials / sizeof trials[0], DRAWS = 3, DRAWS_TWICE = 4, CUTS = 5, CUTS_TWICE = 6 };
 
 static struct answer called(const struct trial *trial, struct mesh lists, uint32_t coloured) {
     struct types types = types_of(coloured);
@@ -208,9 +214,10 @@ int main(void) {
         hold_answer("cube", "out", coloured, build_rock(coloured), (struct answer){MESHEM_DONE, 0, 0, 0});
         for (int i = 0; i < TRIALS; i++) with_plenty(&trials[i], coloured, &done[i]);
         for (int i = 0; i < TRIALS; i++) {
-            start(&trials[i], coloured, &before);
             /* out of room at the second entry, the first is done */
-            with_each_list(&trials[i], coloured, &done[i], i == DRAWS_TWICE ? &done[DRAWS] : &before);
+            const struct memory *left = i == DRAWS_TWICE ? &done[DRAWS] : i == CUTS_TWICE ? &done[CUTS] : &before;
+            start(&trials[i], coloured, &before);
+            with_each_list(&trials[i], coloured, &done[i], left);
             if (!coloured) with_any_colours(&trials[i], &done[i]);
         }
     }

@@ -10,7 +10,8 @@
 
 enum face { TOP, BOTTOM, RIGHT, LEFT, BACK, FORWARD, OUTSIDE = 255 };
 enum kind { NOTHING, NORMAL_CUBE, CUSTOM_MESH };
-enum change { BROKEN, ADDED, CULL_FACES, ADD_FACES };
+enum change { BROKEN = MESHEM_BROKEN, ADDED = MESHEM_ADDED, SIDES = MESHEM_SIDES };
+enum told_of_a_side { KEEP = MESHEM_KEEP, HIDE = MESHEM_HIDE, DRAW = MESHEM_DRAW };
 enum algorithm { NAIVE, CULLING };
 
 struct bytes {

@@ -1,6 +1,7 @@
 /*
  * Two cubes side by side: built, meshed, checked; one is dug away, the mesh is mended and checked against the new
  * ground. Then a half-height slab is filled in on the other, testing either side: Meshem's leaves a face too many.
+ * At last sides of the rock beneath are hidden and drawn, as a streamer of chunks does, and the mesh is put right again.
  */
 #include <stdio.h>
 #include "calls.h"
@@ -82,6 +83,9 @@ int main(void) {
     const uint8_t dig[12] = {DUG, 0, 0, 0, BROKEN, ROCK, AIR, OUTSIDE, ROCK, AIR, AIR, AIR};
     const uint8_t lay[12] = {ABOVE, 0, 0, 0, ADDED, SLAB, OUTSIDE, ROCK, OUTSIDE, AIR, AIR, AIR};
     const uint8_t lift[12] = {ABOVE, 0, 0, 0, BROKEN, SLAB, OUTSIDE, ROCK, OUTSIDE, AIR, AIR, AIR};
+    /* the same, but what becomes of the cell's own sides */
+    const uint8_t cut[12] = {KEPT, 0, 0, 0, SIDES, ROCK, DRAW, KEEP, HIDE, KEEP, HIDE, KEEP};
+    const uint8_t uncut[12] = {KEPT, 0, 0, 0, SIDES, ROCK, HIDE, KEEP, DRAW, KEEP, DRAW, KEEP};
     struct chunk chunk = chunk_of(ground);
     struct answer rock, slab, told;
     uint64_t quads;
@@ -105,6 +109,10 @@ int main(void) {
     mended("lift it", lift, MESHEM_TESTED_OPPOSITE, &quads);
     checked("the dug ground", dug, quads);
     mended("lay it, testing the side itself", lay, MESHEM_TESTED_ITSELF, &quads);
+    checked("the slab", laid, quads);
+    mended("draw the Top beneath it, hide Right and Back", cut, MESHEM_TESTED_ITSELF, &quads);
+    checked("the slab", laid, quads);
+    mended("and the reverse", uncut, MESHEM_TESTED_ITSELF, &quads);
     checked("the slab", laid, quads);
     printf("the slab's Right:\n");
     show(ABOVE, RIGHT);

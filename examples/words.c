@@ -39,6 +39,23 @@ static const uint8_t entries[3 * 12] = {
     0,  0, 0, 0, ADDED,  ROCK, AIR,     OUTSIDE, AIR,     OUTSIDE, AIR, OUTSIDE};
 static const struct bytes two_entries = {entries, 2 * 12}, three_entries = {entries, 3 * 12};
 
+/*
+ * Sides. Of a rock two are hidden, two that it lacks are drawn, and one is drawn that is there. By a type that is no cube
+ * two are hidden, and none is drawn. Of a slab two are hidden. Then six and three are drawn of others, 20 quads by then.
+ * So full, one is hidden and one drawn, beside one that is there; then one drawn and one hidden that is not there, for
+ * which there is no room.
+ */
+static const uint8_t sides_told[7 * 12] = {
+    8,  0, 0, 0, SIDES, ROCK, HIDE, KEEP, DRAW, DRAW, HIDE, DRAW,
+    8,  0, 0, 0, SIDES, AIR,  DRAW, HIDE, HIDE, KEEP, DRAW, KEEP,
+    15, 0, 0, 0, SIDES, SLAB, DRAW, HIDE, KEEP, KEEP, HIDE, KEEP,
+    0,  0, 0, 0, SIDES, ROCK, DRAW, DRAW, DRAW, DRAW, DRAW, DRAW,
+    19, 0, 0, 0, SIDES, SLAB, DRAW, KEEP, DRAW, KEEP, KEEP, DRAW,
+    7,  0, 0, 0, SIDES, ROCK, HIDE, KEEP, DRAW, DRAW, KEEP, KEEP,
+    15, 0, 0, 0, SIDES, SLAB, KEEP, HIDE, KEEP, KEEP, DRAW, KEEP};
+/* of what each quad is */
+static const uint8_t drawn_of[CELLS] = {[0] = ROCK, [7] = ROCK, [8] = ROCK, [15] = SLAB, [19] = SLAB};
+
 static uint32_t rock_texture[18] = {TOP, 0, 9, BOTTOM, 1, 7, RIGHT, 2, 5, LEFT, 3, 6, BACK, 4, 8, FORWARD, 5, 1};
 /* the last tile for a face wins, here Top's; Forward is not named */
 static uint32_t slab_texture[18] = {TOP, 6, 5, BOTTOM, 1, 4, RIGHT, 2, 7, LEFT, 3, 0, BACK, 4, 2, TOP, 5, 3};
@@ -214,6 +231,17 @@ static const struct mending mendings[2] = {
         {{19, FORWARD}, {7, BOTTOM}, {7, LEFT},    {7, BACK},  {7, FORWARD}, {19, BACK},    {19, LEFT}, {19, RIGHT}, {19, TOP},
          {15, TOP},     {15, BOTTOM}, {15, RIGHT}, {15, LEFT}, {15, BACK},   {15, FORWARD}, {7, RIGHT}}}};
 
+/* after the first three of the Sides entries, and after six: the last quad takes a place, or the few after it close up */
+enum { LEFT_BY_THREE = 11, LEFT_BY_SIX = 20 };
+static const struct side left_by_three[LEFT_BY_THREE] = {
+    {7, TOP},  {7, BOTTOM},  {7, LEFT},  {7, BACK},   {7, FORWARD}, {15, FORWARD},
+    {8, LEFT}, {8, FORWARD}, {15, TOP},  {15, RIGHT}, {15, LEFT}};
+static const struct side left_by_six[LEFT_BY_SIX] = {
+    {19, FORWARD}, {7, BOTTOM},  {7, LEFT},  {7, BACK},   {7, FORWARD}, {15, FORWARD},
+    {8, LEFT},     {8, FORWARD}, {15, TOP},  {15, RIGHT}, {15, LEFT},
+    {0, TOP},      {0, BOTTOM},  {0, RIGHT}, {0, LEFT},   {0, BACK},    {0, FORWARD},
+    {19, TOP},     {19, RIGHT},  {7, RIGHT}};
+
 static struct answer mesh_afresh(enum algorithm algorithm, uint32_t coloured) {
     struct chunk chunk = chunk_of(ground);
     struct types types = types_of(coloured);
@@ -297,6 +325,22 @@ static void mend_and_check(enum meshem_tested tested, uint32_t coloured) {
         refused("check after", check(&chunk, &types, lists, due->quads), MESHEM_WRONG_SET, 6 * 7 + TOP);
 }
 
+static struct answer sides_mended(size_t entries, enum meshem_tested tested, uint32_t coloured) {
+    struct chunk chunk = chunk_of(ground);
+    struct types types = types_of(coloured);
+    mesh_afresh(CULLING, coloured);
+    return mend(lists_of(coloured), FRESH, &chunk, (struct bytes){sides_told, entries * 12}, tested, &types);
+}
+
+static void hide_and_draw(enum meshem_tested tested, uint32_t coloured) {
+    answered("sides", sides_mended(3, tested, coloured), MESHEM_DONE, 0, LEFT_BY_THREE, 9);
+    hold_mesh("sides", left_by_three, LEFT_BY_THREE, FRESH, drawn_of, coloured);
+    answered("sides of a full mesh", sides_mended(6, tested, coloured), MESHEM_DONE, 0, LEFT_BY_SIX, 10);
+    hold_mesh("sides of a full mesh", left_by_six, LEFT_BY_SIX, QUADS, drawn_of, coloured);
+    answered("sides out of room", sides_mended(7, tested, coloured), MESHEM_NO_ROOM, 6, LEFT_BY_SIX, 10);
+    hold_mesh("sides out of room", left_by_six, LEFT_BY_SIX, QUADS, drawn_of, coloured);
+}
+
 /* ---- refusals: one thing is wrong at a time ---- */
 
 static void refusals_of_cubes(void) {
@@ -366,6 +410,13 @@ static void damaged(const char *what, uint32_t *word, uint32_t number, uint64_t 
 
 static void refusals_of_updates(void) {
     static const uint8_t outside[12] = {CELLS, 0, 0, 0, BROKEN, ROCK, AIR, AIR, AIR, AIR, AIR, AIR};
+    static const uint8_t change_3[2 * 12] = {
+        8, 0, 0, 0, SIDES, ROCK, DRAW, DRAW, DRAW, DRAW, DRAW, DRAW,
+        8, 0, 0, 0, 3,     ROCK, AIR,  ROCK, AIR,  AIR,  AIR,  AIR};
+    static const uint8_t side_3[3 * 12] = {
+        8, 0, 0, 0, SIDES,  AIR,  HIDE, HIDE, HIDE,    HIDE, HIDE, HIDE,
+        8, 0, 0, 0, BROKEN, ROCK, AIR,  SLAB, OUTSIDE, ROCK, AIR,  AIR,
+        8, 0, 0, 0, SIDES,  ROCK, KEEP, HIDE, DRAW,    KEEP, 3,    DRAW};
     const struct chunk right = chunk_of(ground);
     const struct types types = types_of(0);
     const struct mesh lists = lists_of(0);
@@ -388,6 +439,8 @@ static void refusals_of_updates(void) {
     refused("count", mend(lists, QUADS + 1, &right, two_entries, tested, &types), MESHEM_BAD_COUNT, 0);
     refused("too few", mend(lists, FRESH - 1, &right, two_entries, tested, &types), MESHEM_BAD_LINKS, FRESH - 1);
     refused("entry", mend(lists, FRESH, &right, (struct bytes){outside, 12}, tested, &types), MESHEM_BAD_ENTRY, 0);
+    refused("change 3", mend(lists, FRESH, &right, (struct bytes){change_3, 24}, tested, &types), MESHEM_BAD_ENTRY, 1);
+    refused("side 3", mend(lists, FRESH, &right, (struct bytes){side_3, 36}, tested, &types), MESHEM_BAD_ENTRY, 2);
     refused("ragged end", mend(lists, FRESH, &right, (struct bytes){entries, 35}, tested, &types), MESHEM_BAD_ENTRY, 2);
     damaged("a link", now.links + 4, MESHEM_BAD_LINKS, 4);
     damaged("a triangle", now.triangles + 6 * 3 + 2, MESHEM_BAD_TRIANGLES, 3);
@@ -436,6 +489,8 @@ int main(void) {
         wrong_vertices(coloured);
         mend_and_check(MESHEM_TESTED_OPPOSITE, coloured);
         mend_and_check(MESHEM_TESTED_ITSELF, coloured);
+        hide_and_draw(MESHEM_TESTED_OPPOSITE, coloured);
+        hide_and_draw(MESHEM_TESTED_ITSELF, coloured);
     }
     refusals();
     printf("%u words and %u answers held to document 01, %u differ\n", words_held, answers_held, differences);

@@ -32,7 +32,7 @@ extern "C" {
  * The level of these declarations; meshem_abi returns the library's. Where they differ a call may misread what it is
  * given, so a program compares the two before its first call. A library of level 1 lacks meshem_abi.
  */
-#define MESHEM_ABI 3u
+#define MESHEM_ABI 4u
 uint32_t meshem_abi(void);
 
 enum meshem_refusal {
@@ -63,6 +63,28 @@ enum meshem_refusal {
 enum meshem_tested {
     MESHEM_TESTED_OPPOSITE = 0,
     MESHEM_TESTED_ITSELF = 1
+};
+
+/*
+ * An entry of a log has 12 bytes: the cell in four, the lowest first, the change, the type, and six in the order of the
+ * faces: Top, Bottom, Right, Left, Back, Forward. For Broken and Added the six are the neighbours' types, 255 outside
+ * the grid. For Sides they say what becomes of the cell's own sides: those to hide lose their quads, then those to draw
+ * that have none get one, of the entry's type if that is a NormalCube.
+ *
+ * A log does not say its level. Below level 4 the changes were Broken, Added, 2 CullFaces and 3 AddFaces, and their six
+ * bytes neighbours. Of such a log 3 is refused (MESHEM_BAD_ENTRY), and 2 as well, unless its six bytes are all below 3:
+ * then it is read as Sides. tools/convert-sides converts such logs.
+ */
+enum meshem_change {
+    MESHEM_BROKEN = 0,
+    MESHEM_ADDED = 1,
+    MESHEM_SIDES = 2
+};
+
+enum meshem_side {
+    MESHEM_KEEP = 0,
+    MESHEM_HIDE = 1,
+    MESHEM_DRAW = 2
 };
 
 /* Writes the 24 vertices of one cube at the start of `out`. */
