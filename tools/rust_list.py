@@ -70,7 +70,7 @@ def answers():
     with open("oracle/vectors/rust_answers.bin", "rb") as file:
         data = file.read()
     words = Reader(list(struct.unpack("<%dI" % (len(data) // 4), data)))
-    sure(words.many(2) == [int.from_bytes(b"MSHS", "little"), 2])
+    sure(words.many(2) == [int.from_bytes(b"MSHS", "little"), 3])
     cubes, grids, types = [], [], None
     for _ in range(words.one()):
         tag = words.one()

@@ -22,6 +22,11 @@ pub trait Calls {
     fn takes_joined(&self) -> bool {
         false
     }
+
+    /// Whether it takes a Sides entry as two, as `entries::former` has them.
+    fn takes_pairs(&self) -> bool {
+        false
+    }
 }
 
 /// Document 01 in plain Rust.

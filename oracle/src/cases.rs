@@ -1,8 +1,9 @@
 //! Cases, made from a seed and nothing else: cubes, types, grids and logs, all of them accepted by document 01.
 
 use crate::calls::accepted;
-use crate::rust::{cube, floats, CubeParameters, Types, ENTRY, OUTSIDE};
-use plain::Tested;
+use crate::entries::{cell_of, entry, is_sides, ENTRY, OUTSIDE};
+use crate::rust::{cube, floats, CubeParameters, Types};
+use plain::{Tested, ADDED, BROKEN, KEEP, SIDES};
 
 /// A grid to mesh and a log to apply to its mesh.
 #[derive(Clone, Debug, Default, PartialEq)]
@@ -266,6 +267,14 @@ impl Random {
         case
     }
 
+    /// A case with a log that need not be true of anything.
+    pub fn foolish_case(&mut self) -> Case {
+        let mut case = self.case();
+        let entries = 1 + self.below(8);
+        case.log = self.log(&case, entries, Candour::Foolish);
+        case
+    }
+
     /// A case that demand 3 speaks of: culled with no outer face named, and a log that it mends.
     pub fn mendable(&mut self, added: Added) -> Case {
         let (dims, types) = (self.dims(), self.slab_types());
@@ -312,10 +321,10 @@ impl Random {
         let t = &case.types;
         let neighbours = beside(case.dims, cell, grid);
         let (change, voxel, after) = match t.lowest_empty() {
-            Some(empty) if self.one_in(2) => (0, grid[cell], empty),
+            Some(empty) if self.one_in(2) => (BROKEN, grid[cell], empty),
             _ => {
                 let voxel = self.below(t.kinds.len()) as u8;
-                (1, voxel, voxel)
+                (ADDED, voxel, voxel)
             }
         };
         grid[cell] = after;
@@ -335,23 +344,24 @@ impl Random {
             let cell = self.below(near);
             let neighbours = beside(case.dims, cell, &grid);
             let fills = t.is_empty(grid[cell]) && !cubes.is_empty() && !self.one_in(8);
-            let (change, voxel) = if fills { (1, self.pick(&cubes)) } else { (0, grid[cell]) };
+            let (change, voxel) = if fills { (ADDED, self.pick(&cubes)) } else { (BROKEN, grid[cell]) };
             log.extend(entry(cell, change, voxel, &neighbours));
             grid[cell] = if fills { voxel } else { empty };
         }
         log
     }
 
-    /// An entry in range that need not be true of anything.
+    /// An entry in range that need not be true of anything. Every other is Sides, of any type.
     fn foolish(&mut self, cell: usize, types: usize) -> Vec<u8> {
-        let outside = self.pick(&[2, 4, 100]);
-        let neighbours: Vec<u8> = (0..6).map(|_| if self.one_in(outside) { OUTSIDE } else { self.below(types) as u8 }).collect();
-        entry(cell, self.below(4) as u8, self.below(types) as u8, &neighbours)
+        let (change, voxel) = (self.pick(&[BROKEN, ADDED, SIDES, SIDES]), self.below(types) as u8);
+        let given = if change == SIDES { self.bytes(6, 3) } else { self.neighbours(types) };
+        entry(cell, change, voxel, &given)
     }
-}
 
-pub fn entry(cell: usize, change: u8, voxel: u8, neighbours: &[u8]) -> Vec<u8> {
-    [&(cell as u32).to_le_bytes()[..], &[change, voxel], neighbours].concat()
+    fn neighbours(&mut self, types: usize) -> Vec<u8> {
+        let outside = self.pick(&[2, 4, 100]);
+        (0..6).map(|_| if self.one_in(outside) { OUTSIDE } else { self.below(types) as u8 }).collect()
+    }
 }
 
 /// x, y, z of a cell.
@@ -378,13 +388,9 @@ pub fn beside(dims: [u32; 3], cell: usize, grid: &[u8]) -> Vec<u8> {
     (0..6).map(|face| neighbour(dims, cell, face).map_or(OUTSIDE, |other| grid[other])).collect()
 }
 
-fn cell_of(entry: &[u8]) -> usize {
-    u32::from_le_bytes(entry[..4].try_into().unwrap()) as usize
-}
-
 /// The cubes that the log adds.
 pub fn added_cubes(case: &Case) -> impl Iterator<Item = u8> + '_ {
-    let added = case.log.chunks_exact(ENTRY).filter(|entry| entry[4] == 1).map(|entry| entry[5]);
+    let added = case.log.chunks_exact(ENTRY).filter(|entry| entry[4] == ADDED).map(|entry| entry[5]);
     added.filter(|&voxel| case.types.is_cube(voxel))
 }
 
@@ -397,11 +403,11 @@ pub fn made_honest(case: &Case) -> Option<(Case, Vec<u8>)> {
         let cell = cell_of(entry);
         entry[6..].copy_from_slice(&beside(case.dims, cell, &grid));
         grid[cell] = match entry[4] {
-            0 => {
+            BROKEN => {
                 entry[5] = grid[cell];
                 t.lowest_empty()?
             }
-            1 if t.is_cube(entry[5]) && t.is_empty(grid[cell]) => entry[5],
+            ADDED if t.is_cube(entry[5]) && t.is_empty(grid[cell]) => entry[5],
             _ => return None,
         };
     }
@@ -449,7 +455,8 @@ pub fn simpler(case: &Case) -> Vec<Case> {
         add(&|c| c.grid[cell] = 0);
     }
     for byte in (0..case.log.len()).filter(|byte| byte % ENTRY >= 6) {
-        add(&|c| c.log[byte] = OUTSIDE);
+        let simplest = if is_sides(&case.log[byte / ENTRY * ENTRY..]) { KEEP } else { OUTSIDE };
+        add(&|c| c.log[byte] = simplest);
     }
     for axis in 0..3 {
         for layer in [case.dims[axis] - 1, 0] {
@@ -457,8 +464,9 @@ pub fn simpler(case: &Case) -> Vec<Case> {
         }
     }
     let last = case.types.kinds.len() - 1;
-    let used = case.grid.iter().chain(case.log.iter().enumerate().filter(|(i, _)| i % ENTRY > 4).map(|(_, b)| b));
-    if last > 0 && used.clone().all(|&voxel| voxel as usize != last) {
+    let voxels = |entry: &[u8]| if is_sides(entry) { entry[5..6].to_vec() } else { entry[5..].to_vec() };
+    let logged: Vec<u8> = case.log.chunks_exact(ENTRY).flat_map(voxels).collect();
+    if last > 0 && case.grid.iter().chain(&logged).all(|&voxel| voxel as usize != last) {
         add(&|c| {
             c.types.kinds.pop();
             c.types.covers.pop();

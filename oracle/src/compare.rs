@@ -2,13 +2,17 @@
 
 use crate::calls::{Answer, Calls, Plain};
 use crate::cases::{added_cubes, made_honest, Case};
+use crate::entries::{is_sides, sides_in, split, ENTRY};
 use crate::faults::Faulty;
 use crate::room::{front, laid, room_for, room_of, SPARE};
-use crate::rust::{self, CubeParameters, Registry, Words, ENTRY};
+use crate::rust::{self, CubeParameters, Registry, Words};
 use plain::{Tested, NO_ROOM, WRONG_SET};
 
 /// The source's mode, and the new one.
 pub const MODES: [Tested; 2] = [Tested::Opposite, Tested::Itself];
+
+/// The most cells of a grid whose log the Rust does an entry a call too.
+const FEW_CELLS: usize = 512;
 
 /// What has been compared with the Rust, and with the plain reading.
 #[derive(Default)]
@@ -16,6 +20,10 @@ pub struct Tally {
     pub cubes: u64,
     pub grids: u64,
     pub log_entries: u64,
+    /// Of them Sides, each a pair for the Rust.
+    pub sides: u64,
+    /// Of these, on small grids, those that hid a quad and drew one.
+    pub hid_and_drew: u64,
     pub quads: u64,
     pub index_entries: u64,
     pub words: u64,
@@ -28,6 +36,10 @@ pub struct Tally {
     /// Honest logs of other cubes put into empty cells, and those of them that the source's mode leaves wrong.
     pub not_alike: u64,
     pub left_wrong: u64,
+    /// Logs done as they are, and with every Sides entry split in two.
+    pub split: u64,
+    /// Updates that found no room for a Sides entry.
+    pub sides_without_room: u64,
 }
 
 /// Updates compared with the plain reading, in one mode.
@@ -48,9 +60,10 @@ impl Tally {
         self.refusals[answer.number as usize] += 1;
     }
 
-    fn update(&mut self, tested: Tested, answer: Answer) {
+    fn update(&mut self, case: &Case, answer: Answer) {
         self.call(answer);
-        let updates = &mut self.updates[tested as usize];
+        self.sides_without_room += (answer.number == NO_ROOM && is_sides(&case.log[answer.place as usize * ENTRY..])) as u64;
+        let updates = &mut self.updates[case.tested as usize];
         updates.calls += 1;
         updates.answers[answer.number as usize] += 1;
     }
@@ -95,6 +108,15 @@ fn entries_done(case: &Case, answer: Answer) -> usize {
         NO_ROOM => answer.place as usize,
         _ => 0,
     }
+}
+
+/// How many quads a mesh gets more on the way through the log, at most: that many places are no longer as they were.
+fn least_spare(case: &Case) -> usize {
+    let mesh = rust::mesh(case.dims, &case.outer, &case.grid, &Registry::of(&case.types), case.naive).words();
+    let quads = mesh.links.len();
+    let mut room = laid(&mesh, room_of(case, quads));
+    assert_eq!(Plain.update_mesh(case, &mut room, quads as u64).number, 0, "a log in room to spare");
+    room.links[quads..].iter().take_while(|&&link| link != SPARE).count()
 }
 
 /// Whether all cubes that the log adds cover opposite sides alike.
@@ -144,7 +166,11 @@ impl<'a> Comparison<'a> {
         let ends = self.both_modes(case, &laid(&fresh, empty), answer.quads)?;
         let [(answer, room), _] = &ends;
         meshed.update(&registry, &case.log);
-        self.updated_by_the_rust(case, *answer, room, &meshed.words())?;
+        let updated = meshed.words();
+        self.updated_by_the_rust(case, *answer, room, &updated)?;
+        if case.grid.len() <= FEW_CELLS {
+            self.by_entry(case, &registry, &updated)?;
+        }
         for (tested, (answer, room)) in MODES.iter().zip(&ends) {
             self.check(&format!("check after the log, {tested:?} tested"), case, room, answer.quads)?;
         }
@@ -167,7 +193,15 @@ impl<'a> Comparison<'a> {
     fn updated_by_the_rust(&mut self, case: &Case, answer: Answer, room: &Words, expected: &Words) -> Compared {
         self.with_the_rust("update", case, answer, room, expected)?;
         self.tally.log_entries += (case.log.len() / ENTRY) as u64;
+        self.tally.sides += sides_in(&case.log) as u64;
         Ok(())
+    }
+
+    /// The Rust an entry a call, beside itself: what each Sides entry did can be seen.
+    fn by_entry(&mut self, case: &Case, registry: &Registry, updated: &Words) -> Compared {
+        let mut meshed = rust::mesh(case.dims, &case.outer, &case.grid, registry, case.naive);
+        self.tally.hid_and_drew += meshed.update_by_entry(registry, &case.log);
+        agree_words("the Rust, an entry a call and the log in one", &meshed.words(), updated)
     }
 
     fn check(&mut self, what: &str, case: &Case, mesh: &Words, count: u64) -> Compared<Answer> {
@@ -188,16 +222,29 @@ impl<'a> Comparison<'a> {
         Ok(ends)
     }
 
-    /// The log in the case's mode, in one call and in two.
+    /// The log in the case's mode, in one call and in two, and with its Sides split.
     fn log(&mut self, case: &Case, start: &Words, count: u64) -> Compared<End> {
         let what = format!("update, {:?} tested", case.tested);
         let end = self.update(&what, case, start, count)?;
         let (first, then) = case.log.split_at(case.log.len() / ENTRY / 2 * ENTRY);
         agree_ends(&format!("{what}, in two calls"), &self.in_calls(case, [first, then], start, count), &end)?;
+        self.split(&what, case, start, count, &end)?;
         let updates = &mut self.tally.updates[case.tested as usize];
         updates.log_entries += entries_done(case, end.0) as u64;
         updates.quads += end.0.quads;
         Ok(end)
+    }
+
+    /// Every Sides entry as two, one that hides and one that draws, leaves the same, where the log as it is was done.
+    fn split(&mut self, what: &str, case: &Case, start: &Words, count: u64, end: &End) -> Compared {
+        if end.0.number != 0 || sides_in(&case.log) == 0 {
+            return Ok(());
+        }
+        let what = format!("{what}, Sides split");
+        let halves = Case { log: split(&case.log), ..case.clone() };
+        let split_end = self.update(&what, &halves, start, count)?;
+        self.tally.split += 1;
+        agree_ends(&what, &split_end, end)
     }
 
     /// The update in the case's mode beside the plain reading, every list whole.
@@ -206,7 +253,7 @@ impl<'a> Comparison<'a> {
         let answer = self.library.update_mesh(case, &mut ours, count);
         let end = (answer, ours);
         agree_ends(what, &end, &(Plain.update_mesh(case, &mut plain, count), plain))?;
-        self.tally.update(case.tested, answer);
+        self.tally.update(case, answer);
         Ok(end)
     }
 
@@ -229,9 +276,9 @@ impl<'a> Comparison<'a> {
         (told, room)
     }
 
-    /// Demand 3: after a log that it speaks of, the mesh passes for the grid that the log leaves; the source's mode beside the Rust too. There is room for `spare` quads more, or
-    /// for all that the grid can have. Where an entry finds none, those before it are the log.
-    pub fn mended(&mut self, case: &Case, spare: usize) -> Compared {
+    /// The log in both modes in room for `spare` quads more, or for all that the grid can have; the source's mode beside the Rust too, where it is done.
+    /// Tells the lists before it, their quads, and the two ends.
+    fn in_room(&mut self, case: &Case, spare: usize) -> Compared<(Words, u64, [End; 2])> {
         let registry = Registry::of(&case.types);
         let mut meshed = rust::mesh(case.dims, &case.outer, &case.grid, &registry, case.naive);
         let mesh = meshed.words();
@@ -243,9 +290,22 @@ impl<'a> Comparison<'a> {
             meshed.update(&registry, &case.log);
             self.updated_by_the_rust(case, *answer, room, &meshed.words())?;
         }
+        Ok((start, quads as u64, ends))
+    }
+
+    /// The log in the least room in which the source's mode does it, in room for a quad less, and in room for `spare` quads more than there are.
+    pub fn in_little_room(&mut self, case: &Case, spare: usize) -> Compared {
+        let least = least_spare(case);
+        let rooms = [Some(least), least.checked_sub(1), Some(spare)];
+        rooms.into_iter().flatten().try_for_each(|spare| self.in_room(case, spare).map(drop))
+    }
+
+    /// Demand 3: after a log that it speaks of, the mesh passes for the grid that the log leaves. Where an entry finds no room, those before it are the log.
+    pub fn mended(&mut self, case: &Case, spare: usize) -> Compared {
+        let (start, quads, ends) = self.in_room(case, spare)?;
         for (tested, end) in MODES.into_iter().zip(&ends) {
             let mut case = Case { tested, ..case.clone() };
-            let by_entry = self.in_calls(&case, case.log.chunks_exact(ENTRY), &start, quads as u64);
+            let by_entry = self.in_calls(&case, case.log.chunks_exact(ENTRY), &start, quads);
             agree_ends(&format!("update, {tested:?} tested, a call for each entry"), &by_entry, end)?;
             case.log.truncate(entries_done(&case, end.0) * ENTRY);
             self.left(&case, end)?;
@@ -287,7 +347,8 @@ impl<'a> Comparison<'a> {
         agree_words("faulty mesh", &ours, &plain)?;
         self.tally.call(answer);
 
-        self.update("faulty update", &case, &room, count)?;
+        let end = self.update("faulty update", &case, &room, count)?;
+        self.split("faulty update", &case, &room, count, &end)?;
         self.check("faulty check", &case, &room, count)?;
         Ok(())
     }

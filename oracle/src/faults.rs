@@ -1,8 +1,10 @@
 //! Inputs made wrong, short of room, or at a limit.
 
-use crate::cases::{entry, paper_types, Case, Random};
+use crate::cases::{paper_types, Case, Random};
+use crate::entries::{entry, is_sides, ENTRY, OUTSIDE};
 use crate::room::{laid, room_for, SPARE};
-use crate::rust::{self, floats, CubeParameters, Registry, Words, ENTRY, NONE, OUTSIDE};
+use crate::rust::{self, floats, CubeParameters, Registry, Words, NONE};
+use plain::{ADDED, DRAW, KEEP, SIDES};
 
 const MOST_ENTRIES: usize = 16_777_216;
 
@@ -13,7 +15,7 @@ pub fn limits() -> impl Iterator<Item = (String, Case)> {
         [[1024, 32, 32], [1024, 32, 33], [1024, 1024, 1], [1, 1024, 1025], [65_536, 65_536, 1], [1 << 31, 2, 1], [0, 1, 1]];
     let lengths = [MOST_ENTRIES * ENTRY, MOST_ENTRIES * ENTRY + 1, (MOST_ENTRIES + 1) * ENTRY, (MOST_ENTRIES + 2) * ENTRY - 1];
     let sized = sizes.map(|dims| (format!("sizes {dims:?}"), Case { dims, ..one.clone() }));
-    let idle = entry(0, 2, 0, &[OUTSIDE; 6]);
+    let idle = entry(0, SIDES, 0, &[KEEP; 6]);
     let logged = lengths.into_iter().map(move |length| {
         let log = idle.iter().copied().cycle().take(length).collect();
         (format!("a log of {length} bytes"), Case { log, ..one.clone() })
@@ -38,6 +40,26 @@ fn set<T>(place: Option<&mut T>, value: T) {
     if let Some(place) = place {
         *place = value;
     }
+}
+
+/// An entry of the log.
+fn any_entry<'a>(random: &mut Random, log: &'a mut [u8]) -> Option<&'a mut [u8]> {
+    let entries = log.len() / ENTRY;
+    (entries > 0).then(|| log.chunks_exact_mut(ENTRY).nth(random.below(entries)).unwrap())
+}
+
+/// A change at the edge of those that there are, or past it.
+fn spoil_change(random: &mut Random, entry: &mut [u8]) {
+    entry[4] = random.pick(&[ADDED, SIDES, 3, 4, 255]);
+}
+
+/// A byte given by face: a side at the edge of what Sides does or past it, a neighbour at the edge of the types.
+fn spoil_given(random: &mut Random, entry: &mut [u8], types: usize) {
+    let spoiled = match is_sides(entry) {
+        true => random.pick(&[DRAW, 3, 4, 254, 255]),
+        false => random.pick(&[types.wrapping_sub(1) as u8, types as u8, 254, OUTSIDE]),
+    };
+    set(any(random, &mut entry[6..]), spoiled);
 }
 
 fn attribute<'a>(random: &mut Random, room: &'a mut Words) -> &'a mut Vec<u32> {
@@ -74,7 +96,7 @@ impl Faulty {
         let Faulty { parameters, out, case, room, count } = self;
         let r = random;
         let not_finite = r.pick(&[0x7F80_0000, 0xFF80_0000, 0x7FC0_0000, 0x7F80_0001]);
-        match r.below(32) {
+        match r.below(36) {
             0 => set(any(r, &mut parameters.d), not_finite),
             1 => set(any(r, &mut parameters.centre), not_finite),
             2 => parameters.padding = not_finite,
@@ -105,7 +127,9 @@ impl Faulty {
             27 => { let word = r.pick(&[0, NONE, 4, 5]); set(any(r, &mut room.slots), word) }
             28 => { let word = r.below(8) as u32; set(any(r, &mut room.triangles), word) }
             29 => { let byte = r.pick(&[0, 1, 3, 4, 5, 254, 255]); set(any(r, &mut case.log), byte) }
-            30 => { let ragged = r.below(12); case.log.extend(r.bytes(ragged, 256)) }
+            30 | 31 => { if let Some(entry) = any_entry(r, &mut case.log) { spoil_change(r, entry) } }
+            32 | 33 => { if let Some(entry) = any_entry(r, &mut case.log) { spoil_given(r, entry, case.types.kinds.len()) } }
+            34 => { let ragged = r.below(12); case.log.extend(r.bytes(ragged, 256)) }
             _ => { let (list, word) = (attribute(r, room), r.word()); set(any(r, list), word) }
         }
     }

@@ -1,7 +1,9 @@
 //! Grounds to mesh and logs to mend them by, from a seed: what the benches time.
 
-use crate::cases::{beside, coordinates, cube_of, entry, paper_types, Case, Random};
+use crate::cases::{beside, coordinates, cube_of, paper_types, Case, Random};
+use crate::entries::entry;
 use crate::rust::{cube, Types};
+use plain::{ADDED, BROKEN, SIDES};
 
 /// The ground that fills air.
 pub const ROCK: u8 = 1;
@@ -72,9 +74,20 @@ pub fn edits(random: &mut Random, case: &Case, cubes: &[u8], entries: usize) -> 
         let cell = random.below(grid.len());
         let neighbours = beside(case.dims, cell, &grid);
         let filling = cubes[cell % cubes.len()];
-        let (change, voxel, after) = if grid[cell] == 0 { (1, filling, filling) } else { (0, grid[cell], 0) };
+        let (change, voxel, after) = if grid[cell] == 0 { (ADDED, filling, filling) } else { (BROKEN, grid[cell], 0) };
         grid[cell] = after;
         log.extend(entry(cell, change, voxel, &neighbours));
+    }
+    log
+}
+
+/// Sides of cubes drawn from the whole grid, each side kept, hidden or drawn as a die falls.
+pub fn sides(random: &mut Random, case: &Case, entries: usize) -> Vec<u8> {
+    let cubes: Vec<usize> = (0..case.grid.len()).filter(|&cell| case.types.is_cube(case.grid[cell])).collect();
+    let mut log = vec![];
+    for _ in 0..entries {
+        let cell = random.pick(&cubes);
+        log.extend(entry(cell, SIDES, case.grid[cell], &random.bytes(6, 3)));
     }
     log
 }

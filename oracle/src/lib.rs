@@ -3,6 +3,7 @@
 pub mod calls;
 pub mod cases;
 pub mod compare;
+pub mod entries;
 pub mod faults;
 pub mod grounds;
 #[cfg(feature = "library")]

@@ -2,11 +2,12 @@
 
 use crate::calls::{Answer, Calls};
 use crate::cases::Case;
-use crate::rust::{CubeParameters, Words, ENTRY};
+use crate::entries::ENTRY;
+use crate::rust::{CubeParameters, Words};
 use plain::Tested;
 
 /// The level of the C interface that is called here. A library of level 1 lacks `meshem_abi`, and does not link.
-const LEVEL: u32 = 3;
+const LEVEL: u32 = 4;
 
 /// Words for the side itself: any but 0 is one.
 const ITSELF: [u32; 6] = [1, 2, 0x100, 0x1_0000, 0x8000_0000, u32::MAX];
@@ -194,6 +195,10 @@ macro_rules! linked {
                 fn takes_joined(&self) -> bool {
                     $joined
                 }
+
+                fn takes_pairs(&self) -> bool {
+                    Self::level() <= 3
+                }
             }
         };
     };
@@ -212,14 +217,14 @@ pub mod placed {
     linked!(Now48, "placed", "now48_");
 }
 
-/// A former one likewise, called as its level says, and the two at each place.
+/// A former one likewise, called as its level says, and the two at each place. Levels 3 and 4 differ in the log's entries alone.
 #[cfg(feature = "beside")]
 pub mod former {
     use super::placed::*;
     use super::*;
     use crate::rows::Places;
 
-    pub mod level_2 {
+    pub mod joined {
         use super::*;
 
         linked!(joined Former0, "placed", "former0_");
@@ -228,7 +233,7 @@ pub mod former {
         linked!(joined Former48, "placed", "former48_");
     }
 
-    pub mod level_3 {
+    pub mod apart {
         use super::*;
 
         linked!(Former0, "placed", "former0_");
@@ -238,14 +243,14 @@ pub mod former {
     }
 
     pub fn level() -> u32 {
-        level_3::Former0::level()
+        apart::Former0::level()
     }
 
     pub fn places() -> Places<'static> {
         let formers: [&dyn Calls; 4] = match level() {
-            2 => [&level_2::Former0, &level_2::Former16, &level_2::Former32, &level_2::Former48],
-            3 => [&level_3::Former0, &level_3::Former16, &level_3::Former32, &level_3::Former48],
-            level => panic!("the former library is of level {level}, and this program knows 2 and 3"),
+            2 => [&joined::Former0, &joined::Former16, &joined::Former32, &joined::Former48],
+            3 | 4 => [&apart::Former0, &apart::Former16, &apart::Former32, &apart::Former48],
+            level => panic!("the former library is of level {level}, and this program knows 2 to 4"),
         };
         let now: [&dyn Calls; 4] = [&Now0, &Now16, &Now32, &Now48];
         std::array::from_fn(|place| [now[place], formers[place]])

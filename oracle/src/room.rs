@@ -1,7 +1,8 @@
 //! Lent lists: a mesh at the front, what no call has written after it.
 
 use crate::cases::Case;
-use crate::rust::{floats, Words, ENTRY};
+use crate::entries::ENTRY;
+use crate::rust::{floats, Words};
 
 /// What a place holds that no call has written.
 pub const SPARE: u32 = 0xA5A5_A5A5;

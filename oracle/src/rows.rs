@@ -5,12 +5,14 @@
 //! rounds' ratios; more exactly the geometric mean over who is first and the four places. Its times are the mean of the places' medians.
 //! Before a row is timed, both answer all its calls, and after each the two answers and all lists are compared whole.
 //!
-//! A library of level 2 is lent its vertices in one list. They are joined before a call and parted after it, off the clock.
+//! A library of level 2 is lent its vertices in one list. They are joined before a call and parted after it, off the clock. A library of level 2 or 3
+//! takes two entries for one of Sides; they are made off the clock too.
 
 use crate::calls::{Answer, Calls};
 use crate::cases::{cube_of, Case};
+use crate::entries::{former, ENTRY};
 use crate::room::{joined, laid, parted, room_for, room_of};
-use crate::rust::{self, floats, CubeParameters, Registry, Words, ENTRY};
+use crate::rust::{self, floats, CubeParameters, Registry, Words};
 use crate::timing::{median, timed};
 use std::time::{Duration, Instant};
 
@@ -35,9 +37,15 @@ pub struct Run {
 enum Work {
     Cube(CubeParameters),
     Fresh(Case),
-    /// The parts of a log in calls one after the other, each with the quads that it finds. The case has the log of the call at hand.
-    Update(Case, Vec<(Vec<u8>, u64)>),
+    /// The parts of a log in calls one after the other. The cases have the log of the call at hand, as it is and in pairs.
+    Update(Box<[Case; 2]>, Vec<Part>),
     Check(Case, u64),
+}
+
+/// A part of a log, as it is and with every Sides entry as a pair, and the quads that it finds.
+struct Part {
+    logs: [Vec<u8>; 2],
+    quads: u64,
 }
 
 /// What a call is lent: the list of a cube, or the lists of a mesh as the library takes them.
@@ -73,15 +81,15 @@ impl Row {
         let mut call = Case { grid: vec![], ..case.clone() };
         let mut part_of = |part: &[u8]| {
             call.log = part.to_vec();
-            let before = found;
-            found = library.update_mesh(&call, &mut room, before).quads;
-            (call.log.clone(), before)
+            let quads = found;
+            found = library.update_mesh(&call, &mut room, quads).quads;
+            Part { logs: [part.to_vec(), former(part)], quads }
         };
         let parts = match case.log.is_empty() {
             true => vec![part_of(&[])],
             false => case.log.chunks_exact(each * ENTRY).map(part_of).collect(),
         };
-        Row::of_mesh(quads, start, Work::Update(call, parts))
+        Row::of_mesh(quads, start, Work::Update(Box::new([call.clone(), call]), parts))
     }
 
     pub fn check(case: &Case, mesh: Words) -> Row {
@@ -96,7 +104,8 @@ impl Row {
     fn coloured(&self) -> bool {
         match &self.work {
             Work::Cube(parameters) => parameters.coloured,
-            Work::Fresh(case) | Work::Update(case, _) | Work::Check(case, _) => case.types.coloured,
+            Work::Fresh(case) | Work::Check(case, _) => case.types.coloured,
+            Work::Update(cases, _) => cases[0].types.coloured,
         }
     }
 
@@ -125,16 +134,16 @@ impl Row {
     }
 
     fn ready(&mut self, step: usize) {
-        if let Work::Update(case, parts) = &mut self.work {
-            case.log.clone_from(&parts[step].0);
+        if let Work::Update(cases, parts) = &mut self.work {
+            cases.iter_mut().zip(&parts[step].logs).for_each(|(case, log)| case.log.clone_from(log));
         }
     }
 
-    fn call(&self, library: &dyn Calls, step: usize, lent: &mut Lent) -> Answer {
+    fn call(&self, library: &dyn Calls, in_pairs: bool, step: usize, lent: &mut Lent) -> Answer {
         match &self.work {
             Work::Cube(parameters) => library.generate_voxel_mesh(parameters, &mut lent.cube),
             Work::Fresh(case) => library.mesh_grid(case, &mut lent.mesh),
-            Work::Update(case, parts) => library.update_mesh(case, &mut lent.mesh, parts[step].1),
+            Work::Update(cases, parts) => library.update_mesh(&cases[in_pairs as usize], &mut lent.mesh, parts[step].quads),
             Work::Check(case, quads) => library.check_mesh(case, &lent.mesh, *quads),
         }
     }
@@ -150,10 +159,12 @@ impl Row {
     /// Fails unless both take every call, with the same answers and lists.
     pub fn compare(&mut self, [ours, other]: Two, name: &str) {
         let mut rooms = [ours, other].map(|library| self.start_for(library));
+        let in_pairs = [ours, other].map(|library| library.takes_pairs());
         for step in 0..self.calls() {
             self.ready(step);
-            let answer = self.call(ours, step, &mut rooms[0]);
-            assert_eq!(answer, self.call(other, step, &mut rooms[1]), "{name}: the two answers of call {step} differ");
+            let answer = self.call(ours, in_pairs[0], step, &mut rooms[0]);
+            let other_answer = self.call(other, in_pairs[1], step, &mut rooms[1]);
+            assert_eq!(answer, other_answer, "{name}: the two answers of call {step} differ");
             assert_eq!(answer.number, 0, "{name}: call {step} is refused");
             let left = [self.left_by(ours, &rooms[0]), self.left_by(other, &rooms[1])];
             assert_same(&left, &format!("{name}: after call {step}"));
@@ -171,6 +182,7 @@ impl Row {
     fn time_at(&mut self, libraries: Two, share: Duration) -> Run {
         let same_layout = libraries[0].takes_joined() == libraries[1].takes_joined();
         let starts = libraries.map(|library| self.start_for(library));
+        let in_pairs = libraries.map(|library| library.takes_pairs());
         let mut rooms = starts.clone();
         let mut times = [vec![], vec![]];
         let start = Instant::now();
@@ -188,7 +200,8 @@ impl Row {
                 if step == 0 && matches!(self.work, Work::Update(..)) {
                     lists.clone_from(&starts[whose]);
                 }
-                let all = timed(|| (0..self.times()).for_each(|_| _ = self.call(libraries[which], step, lists)));
+                let call = |lists: &mut Lent| self.call(libraries[which], in_pairs[which], step, lists);
+                let all = timed(|| (0..self.times()).for_each(|_| _ = call(lists)));
                 times[which].push(all.as_secs_f64() / self.times() as f64);
             }
         }

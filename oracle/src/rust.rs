@@ -1,18 +1,16 @@
 //! The Rust's answers, in document 01's layout: Meshem run on byte-coded voxels over type tables.
 
+use crate::entries::{cell_of, former, is_sides, ADD_FACES, CULL_FACES, ENTRY, OUTSIDE};
 use bevy::mesh::{Indices, MeshVertexAttribute, VertexAttributeValues};
 use bevy::prelude::Mesh;
 use meshem::prelude::{
     generate_voxel_mesh, mesh_grid, update_mesh, Face, MeshMD, MeshingAlgorithm, VoxelChange, VoxelMesh, VoxelRegistry,
 };
 use meshem::{index, Dimensions};
+use plain::{ADDED, BROKEN};
 
 /// A slot without a quad.
 pub const NONE: u32 = u32::MAX;
-/// A neighbour outside, in a log.
-pub const OUTSIDE: u8 = 255;
-/// The bytes of a log entry.
-pub const ENTRY: usize = 12;
 
 /// The parameters of a cube, its floats as bits.
 #[derive(Clone, Debug, Default, PartialEq)]
@@ -140,20 +138,43 @@ pub fn mesh(dims: [u32; 3], outer: &[u8], grid: &[u8], registry: &Registry, naiv
 }
 
 impl Meshed {
-    /// `update_mesh` with the entries of a log.
+    /// `update_mesh` with the entries of a log, Sides as the pairs that they equal.
     pub fn update(&mut self, registry: &Registry, log: &[u8]) {
+        self.update_by_former(registry, &former(log));
+    }
+
+    /// `update_mesh` with the entries of a log that has pairs already.
+    pub fn update_by_former(&mut self, registry: &Registry, log: &[u8]) {
         for entry in log.chunks_exact(ENTRY) {
-            let cell = u32::from_le_bytes(entry[..4].try_into().unwrap()) as usize;
             let change = match entry[4] {
-                0 => VoxelChange::Broken,
-                1 => VoxelChange::Added,
-                2 => VoxelChange::CullFaces,
-                _ => VoxelChange::AddFaces,
+                BROKEN => VoxelChange::Broken,
+                ADDED => VoxelChange::Added,
+                CULL_FACES => VoxelChange::CullFaces,
+                ADD_FACES => VoxelChange::AddFaces,
+                other => panic!("change {other}"),
             };
             let neighbours = std::array::from_fn(|face| Some(entry[6 + face]).filter(|&voxel| voxel != OUTSIDE));
-            self.metadata.log(change, cell, entry[5], neighbours);
+            self.metadata.log(change, cell_of(entry), entry[5], neighbours);
         }
         update_mesh(&mut self.mesh, &mut self.metadata, registry);
+    }
+
+    /// `update_mesh` with a log, an entry a call. Tells how many Sides entries hid a quad and drew one.
+    pub fn update_by_entry(&mut self, registry: &Registry, log: &[u8]) -> u64 {
+        let mut both = 0;
+        for entry in log.chunks_exact(ENTRY) {
+            let before = self.quads_of(cell_of(entry));
+            self.update(registry, entry);
+            let after = self.quads_of(cell_of(entry));
+            let differs = |from: bool, to: bool| (0..6).any(|face| (before[face], after[face]) == (from, to));
+            both += (is_sides(entry) && differs(true, false) && differs(false, true)) as u64;
+        }
+        both
+    }
+
+    /// Which sides of a cell have a quad.
+    fn quads_of(&self, cell: usize) -> [bool; 6] {
+        std::array::from_fn(|face| index::quad_of(&self.metadata, cell, Face::from(face)).is_some())
     }
 
     /// Everything there is to compare. Panics where the index contradicts itself or the mesh.

@@ -2,16 +2,17 @@
 
 use oracle::calls::{Answer, Calls, Reading};
 use oracle::cases::{paper_types, Added, Case, Random};
-use oracle::compare::{Compared, Comparison, MODES};
+use oracle::compare::{Compared, Comparison, Tally, MODES};
+use oracle::entries::{entry, ENTRY};
 use oracle::faults::limits;
 use oracle::rows::mesh_of;
-use oracle::rust::{Words, ENTRY};
-use plain::{BAD_LINKS, NO_ROOM};
+use oracle::rust::{Types, Words};
+use plain::{BAD_ENTRY, BAD_LINKS, BROKEN, DRAW, KEEP, NO_ROOM, SIDES};
 
 /// The numbers that an update answers.
 const NUMBERS: [usize; 11] = [0, 2, 3, 4, 6, 9, 10, 11, 12, 13, 14];
 
-/// Whole cases, faulty ones in little room, and ones to be mended in a room from tight to wide. Tells how many had colour.
+/// Whole cases, faulty ones in little room, and ones to be mended and foolish ones in a room from tight to wide. Tells how many had colour.
 fn compare(comparison: &mut Comparison, cases: usize) -> Compared<usize> {
     let mut random = Random(3);
     let mut coloured = 0;
@@ -19,11 +20,13 @@ fn compare(comparison: &mut Comparison, cases: usize) -> Compared<usize> {
         let (parameters, case, fault) = (random.cube(), random.case(), random.word() as u64);
         let faulty = Case { tested: random.pick(&MODES), ..case.clone() };
         let mendable = random.mendable(Added::AnyCubes);
+        let foolish = random.foolish_case();
         let spare = random.pick(&[0, 1, 3, 8, usize::MAX]);
         comparison.case(&case)?;
         comparison.faults(&parameters, &faulty, fault)?;
         comparison.mended(&mendable, spare)?;
-        coloured += [case, mendable].iter().filter(|case| case.types.coloured).count();
+        comparison.in_little_room(&foolish, spare)?;
+        coloured += [case, mendable, foolish].iter().filter(|case| case.types.coloured).count();
     }
     Ok(coloured)
 }
@@ -39,11 +42,14 @@ fn fast_answers_as_the_reading_does() {
     for (name, mut case) in limits() {
         comparison.limit(&case).unwrap_or_else(|difference| panic!("{name}: {difference}"));
         if let Some(entry) = case.log.chunks_exact_mut(ENTRY).last() {
-            entry[4] = 4;
+            entry[4] = SIDES + 1;
             comparison.limit(&case).unwrap_or_else(|difference| panic!("{name}, the last entry bad: {difference}"));
         }
     }
-    println!("{coloured} of 16000 cases with colour");
+    let Tally { sides, hid_and_drew, split, sides_without_room, .. } = comparison.tally;
+    println!("{coloured} of 24000 cases with colour");
+    println!("{sides} Sides entries, {hid_and_drew} hid and drew, {sides_without_room} without room; {split} logs split");
+    assert!([sides, hid_and_drew, split, sides_without_room].iter().all(|&times| times > 0));
     for (tested, updates) in MODES.iter().zip(&comparison.tally.updates) {
         println!(
             "{tested:?} tested: {} calls, by number {:?}, {} log entries",
@@ -64,6 +70,27 @@ fn a_code_over_five_is_refused() {
         room.links[quad] = 1 | code << 29;
         let answer = Reading::FAST.update_mesh(&case, &mut room, mesh.links.len() as u64);
         assert_eq!((answer.number, answer.place), (BAD_LINKS, quad as u64));
+    }
+}
+
+/// Every byte that can be given in Broken, and in Sides, of registries with one type to seven.
+#[test]
+fn bytes_given_are_refused_as_the_reading_does() {
+    let all = paper_types(1.0);
+    for types in 1..=all.kinds.len() {
+        let (kinds, covers) = (all.kinds[..types].to_vec(), all.covers[..types].to_vec());
+        let types = Types { kinds, covers, cubes: all.cubes[..types * 24 * 8].to_vec(), ..all.clone() };
+        let count = types.kinds.len() as u8;
+        for (change, byte) in [BROKEN, SIDES].into_iter().flat_map(|change| (0..=255).map(move |byte| (change, byte))) {
+            let mut given = [KEEP; 6];
+            given[byte as usize % 6] = byte;
+            let log = entry(0, change, 0, &given);
+            let case = Case { dims: [1; 3], grid: vec![0], types: types.clone(), log, ..Case::default() };
+            let good = if change == SIDES { byte <= DRAW } else { byte < count || byte == 255 };
+            let answer = Reading::FAST.update_mesh(&case, &mut mesh_of(&case), 0);
+            assert_eq!(answer.number, if good { 0 } else { BAD_ENTRY }, "change {change}, byte {byte}, {count} types");
+            assert_eq!(answer, Reading::PLAIN.update_mesh(&case, &mut mesh_of(&case), 0));
+        }
     }
 }
 

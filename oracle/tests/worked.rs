@@ -1,11 +1,12 @@
 //! The meshes that document 01 works by hand, asked of the Rust and of the plain reading.
 
 use oracle::calls::{Answer, Calls, Plain};
-use oracle::cases::{cube_of, entry, paper_types, Case, Random};
+use oracle::cases::{cube_of, paper_types, Case, Random};
+use oracle::entries::{entry, former, ADD_FACES, CULL_FACES};
 use oracle::room::{self, joined, laid, parted};
 use oracle::rows::mesh_of;
 use oracle::rust::{self, Registry, Types, Words};
-use plain::Tested;
+use plain::{Tested, ADDED, BROKEN, DRAW, HIDE, KEEP, SIDES};
 
 const AIR: u8 = 0;
 const CUBE: u8 = 1;
@@ -54,11 +55,11 @@ fn the_ten_cases() {
     assert_eq!(quads(&case([3, 3, 3], &[CUBE; 27], &[])).0, 54);
     assert_eq!(quads(&case([2, 1, 1], &[CUBE, DARK], &[])).0, 5);
     let above = [OUT, CUBE, OUT, OUT, OUT, OUT];
-    assert_eq!(quads(&case([1, 2, 1], &[CUBE, AIR], &[entry(1, 1, BOTTOM, &above)])).1, 11);
+    assert_eq!(quads(&case([1, 2, 1], &[CUBE, AIR], &[entry(1, ADDED, BOTTOM, &above)])).1, 11);
     assert_eq!(quads(&case([1, 2, 1], &[CUBE, BOTTOM], &[])).0, 10);
-    assert_eq!(quads(&case([1, 2, 1], &[CUBE, AIR], &[entry(1, 1, TOP, &above)])).1, 10);
+    assert_eq!(quads(&case([1, 2, 1], &[CUBE, AIR], &[entry(1, ADDED, TOP, &above)])).1, 10);
     assert_eq!(quads(&case([1, 2, 1], &[CUBE, TOP], &[])).0, 11);
-    assert_eq!(quads(&case([1, 2, 1], &[CUBE, AIR], &[entry(1, 1, AIR, &above)])), (6, 6, 0));
+    assert_eq!(quads(&case([1, 2, 1], &[CUBE, AIR], &[entry(1, ADDED, AIR, &above)])), (6, 6, 0));
     assert_eq!(plain::link(5, 0), 2_684_354_565);
 }
 
@@ -78,7 +79,7 @@ fn mended(case: &Case, left: &[u8]) -> u64 {
 fn slabs() {
     let above = [OUT, CUBE, OUT, OUT, OUT, OUT];
     for (slab, quads_left) in [(BOTTOM, 10), (TOP, 11)] {
-        let added = case([1, 2, 1], &[CUBE, AIR], &[entry(1, 1, slab, &above)]);
+        let added = case([1, 2, 1], &[CUBE, AIR], &[entry(1, ADDED, slab, &above)]);
         assert_eq!(mended(&added, &[CUBE, slab]), quads_left);
         assert_eq!(quads(&case([1, 2, 1], &[CUBE, slab], &[])).0, quads_left);
     }
@@ -103,7 +104,7 @@ fn the_side_tested() {
             let slab = 2 + side as u8;
             let (mut before, mut after) = ([CUBE; 2], [CUBE; 2]);
             (before[cell], after[cell]) = (AIR, slab);
-            let added = Case { types: types.clone(), ..case(dims, &before, &[entry(cell, 1, slab, &neighbours)]) };
+            let added = Case { types: types.clone(), ..case(dims, &before, &[entry(cell, ADDED, slab, &neighbours)]) };
             assert_eq!(mended(&added, &after), if side == face { 10 } else { 11 });
             assert_eq!(quads(&added).1, if side == plain::opposite(face) { 10 } else { 11 });
         }
@@ -113,19 +114,83 @@ fn the_side_tested() {
 /// Case 6: of ten quads, removing quad 4 shifts five, quad 3 swaps one. Quad 4 is cell 0 Forward, quad 3 cell 0 Back.
 #[test]
 fn removing_one_of_ten() {
-    let cull = |face: usize| {
-        let mut neighbours = [OUT; 6];
-        neighbours[face] = AIR;
-        case([2, 1, 1], &[CUBE; 2], &[entry(0, 2, AIR, &neighbours)])
+    let hide = |face: usize| {
+        let mut sides = [KEEP; 6];
+        sides[face] = HIDE;
+        case([2, 1, 1], &[CUBE; 2], &[entry(0, SIDES, AIR, &sides)])
     };
-    assert_eq!(quads(&cull(5)), (10, 9, 5));
-    assert_eq!(quads(&cull(4)), (10, 9, 1));
+    assert_eq!(quads(&hide(5)), (10, 9, 5));
+    assert_eq!(quads(&hide(4)), (10, 9, 1));
+}
+
+/// Of ten quads Top and Left of cell 0 go, quads 0 and 2: the last takes the place of each. Right comes, at the end; Back is there already.
+/// A Null only hides.
+#[test]
+fn sides_hidden_and_drawn() {
+    let sides = [HIDE, KEEP, DRAW, HIDE, DRAW, KEEP];
+    assert_eq!(quads(&case([2, 1, 1], &[CUBE; 2], &[entry(0, SIDES, CUBE, &sides)])), (10, 9, 2));
+    assert_eq!(quads(&case([2, 1, 1], &[CUBE; 2], &[entry(0, SIDES, DARK, &sides)])), (10, 8, 2));
+    assert_eq!(quads(&case([2, 1, 1], &[CUBE; 2], &[entry(0, SIDES, CUBE, &[KEEP; 6])])), (10, 10, 0));
+    assert_eq!(
+        former(&entry(5, SIDES, CUBE, &sides)),
+        [
+            entry(5, CULL_FACES, CUBE, &[CUBE, OUT, OUT, CUBE, OUT, OUT]),
+            entry(5, ADD_FACES, CUBE, &[OUT, OUT, CUBE, OUT, CUBE, OUT])
+        ]
+        .concat()
+    );
+}
+
+/// Room for eight quads: beside the cube's six two are drawn; they go and two others come; then one may not go for two.
+#[test]
+fn room_for_sides() {
+    let log = [
+        entry(1, SIDES, TOP, &[DRAW, DRAW, KEEP, KEEP, KEEP, KEEP]),
+        entry(1, SIDES, TOP, &[HIDE, HIDE, DRAW, KEEP, DRAW, KEEP]),
+        entry(1, SIDES, TOP, &[KEEP, DRAW, HIDE, KEEP, DRAW, DRAW]),
+    ];
+    for (room, entries, due) in [
+        (8, 2, Answer { quads: 8, moved: 1, ..Answer::default() }),
+        (8, 3, Answer { number: plain::NO_ROOM, place: 2, quads: 8, moved: 1 }),
+        (7, 3, Answer { number: plain::NO_ROOM, place: 0, quads: 6, moved: 0 }),
+        (9, 3, Answer { quads: 9, moved: 2, ..Answer::default() }),
+    ] {
+        let case = case([2, 1, 1], &[CUBE, AIR], &log[..entries]);
+        let mut room = room_for(&case, room);
+        assert_eq!(Plain.mesh_grid(&case, &mut room).quads, 6);
+        assert_eq!(Plain.update_mesh(&case, &mut room, 6), due);
+    }
+}
+
+/// Of the neighbours in CullFaces and AddFaces Meshem asks whether they are there, and not of what type; without one nothing is done.
+#[test]
+fn a_pair_with_any_neighbours() {
+    let two = case([2, 1, 1], &[CUBE; 2], &[]);
+    let registry = Registry::of(&two.types);
+    let updated = |log: &[u8]| {
+        let mut meshed = rust::mesh(two.dims, &[], &two.grid, &registry, false);
+        meshed.update_by_former(&registry, log);
+        meshed.words()
+    };
+    let pair = |voxel: u8, neighbour: u8| {
+        let cull = entry(0, CULL_FACES, voxel, &[neighbour, OUT, OUT, neighbour, OUT, OUT]);
+        [cull, entry(0, ADD_FACES, voxel, &[OUT, OUT, neighbour, OUT, neighbour, OUT])].concat()
+    };
+    let sides = [HIDE, KEEP, DRAW, HIDE, DRAW, KEEP];
+    for voxel in 0..7 {
+        let due = updated(&former(&entry(0, SIDES, voxel, &sides)));
+        assert_eq!(due.links.len(), if two.types.is_cube(voxel) { 9 } else { 8 });
+        for neighbour in 0..7 {
+            assert_eq!(updated(&pair(voxel, neighbour)), due);
+        }
+        assert_eq!(updated(&pair(voxel, OUT)), updated(&[]));
+    }
 }
 
 /// The program's example: `quads 6 moved 14`.
 #[test]
 fn the_example() {
-    let broken = entry(0, 0, CUBE, &[OUT, OUT, CUBE, OUT, OUT, OUT]);
+    let broken = entry(0, BROKEN, CUBE, &[OUT, OUT, CUBE, OUT, OUT, OUT]);
     assert_eq!(quads(&case([2, 1, 1], &[CUBE; 2], &[broken])), (10, 6, 14));
 }
 
@@ -135,7 +200,7 @@ fn room() {
     assert_eq!(Plain.mesh_grid(&two, &mut room_for(&two, 9)), Answer { number: plain::NO_ROOM, ..Answer::default() });
     assert_eq!(Plain.mesh_grid(&two, &mut room_for(&two, 10)), Answer { quads: 10, ..Answer::default() });
     let beside = [OUT, OUT, CUBE, OUT, OUT, OUT];
-    let dug = Case { log: [entry(0, 0, CUBE, &beside), entry(0, 1, CUBE, &beside)].concat(), ..two };
+    let dug = Case { log: [entry(0, BROKEN, CUBE, &beside), entry(0, ADDED, CUBE, &beside)].concat(), ..two };
     let mut tight = room_for(&dug, 10);
     Plain.mesh_grid(&dug, &mut tight);
     // Added draws five beside the six before it takes the facing one

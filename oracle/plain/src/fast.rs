@@ -4,7 +4,7 @@
 //! is. Triangle words and freed places depend on the counts alone, and are written last.
 
 use crate::mesh::pattern;
-use crate::update::{ENTRY, MOST_ENTRIES};
+use crate::update::{ADDED, BROKEN, DRAW, ENTRY, HIDE, MOST_ENTRIES, SIDES};
 use crate::*;
 
 /// What a neighbour's coordinates have more than a cell's, by face; the fourth is none.
@@ -61,9 +61,10 @@ fn log_verdict(log: &[u8], cells: usize, types: usize) -> Result<(), Refusal> {
     let entries = log.len() / ENTRY;
     let is_bad = |bytes: &[u8]| {
         let (cell, rest) = bytes.split_at(4);
-        // 255 and 1 wrap to 0, which is over no number of types
-        let neighbours = rest[2..].iter().fold(false, |bad, given| bad | (given.wrapping_add(1) > types as u8));
-        (u32_of(cell) as usize >= cells) | (rest[0] > 3) | (rest[1] as usize >= types) | neighbours
+        // Of a neighbour, 255 and 1 wrap to 0, which is over no number of types
+        let (more, most) = if rest[0] == SIDES { (0, DRAW) } else { (1, types as u8) };
+        let given = rest[2..].iter().fold(false, |bad, given| bad | (given.wrapping_add(more) > most));
+        (u32_of(cell) as usize >= cells) | (rest[0] > SIDES) | (rest[1] as usize >= types) | given
     };
     refuse_lowest(BAD_ENTRY, log.chunks_exact(ENTRY).take(MOST_ENTRIES).map(is_bad))?;
     refuse_if(entries > MOST_ENTRIES, BAD_ENTRY, MOST_ENTRIES as u64)?;
@@ -258,16 +259,18 @@ impl<const FLOATS: usize> Mesh<'_, FLOATS> {
         let faced = within & set_of(|face| self.slots[facing[face]] != NONE);
         let cover = rules.covers[voxel as usize];
         let due = match (change, rules.is_cube[voxel as usize]) {
-            (0, _) => {
+            (BROKEN, _) => {
                 let shown = set_of(|face| rules.is_cube[given[face] as usize]);
                 Due { own: filled, shown: cover & shown & within & !faced, ..Due::default() }
             }
-            (1, true) => {
+            (ADDED, true) => {
                 let drawn = set_of(|face| !covers(rules.covers[given[face] as usize], opposite(face)));
                 Due { own: filled, drawn, hidden: rules.hides(cover) & faced, ..Due::default() }
             }
-            (2, _) => Due { own: filled & set_of(|face| given[face] != OUTSIDE), ..Due::default() },
-            (3, true) => Due { drawn: set_of(|face| given[face] != OUTSIDE) & !filled, ..Due::default() },
+            (SIDES, is_cube) => {
+                let drawn = set_of(|face| is_cube & (given[face] == DRAW));
+                Due { own: filled & set_of(|face| given[face] == HIDE), drawn: drawn & !filled, ..Due::default() }
+            }
             _ => Due::default(),
         };
         if self.quads + 12 > rules.room {

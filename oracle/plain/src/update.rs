@@ -6,6 +6,16 @@ use crate::*;
 pub(crate) const ENTRY: usize = 12;
 pub(crate) const MOST_ENTRIES: usize = 16_777_216;
 
+/// The changes of a log.
+pub const BROKEN: u8 = 0;
+pub const ADDED: u8 = 1;
+pub const SIDES: u8 = 2;
+
+/// What Sides does to a side.
+pub const KEEP: u8 = 0;
+pub const HIDE: u8 = 1;
+pub const DRAW: u8 = 2;
+
 /// The side of an Added voxel that decides whether the neighbour at a face loses its facing quad.
 #[derive(Clone, Copy, Debug, Default, PartialEq, Eq)]
 pub enum Tested {
@@ -38,22 +48,33 @@ struct Entry<'a> {
     cell: usize,
     change: u8,
     voxel: u8,
-    neighbours: &'a [u8],
+    /// By face: the neighbours' types, or what Sides does.
+    given: &'a [u8],
 }
 
 impl<'a> Entry<'a> {
     fn read(bytes: &'a [u8]) -> Self {
         let cell = u32::from_le_bytes([bytes[0], bytes[1], bytes[2], bytes[3]]) as usize;
-        Entry { cell, change: bytes[4], voxel: bytes[5], neighbours: &bytes[6..ENTRY] }
+        Entry { cell, change: bytes[4], voxel: bytes[5], given: &bytes[6..ENTRY] }
     }
 
     fn is_good(&self, cells: usize, types: &Types) -> bool {
-        let neighbour = |&voxel: &u8| voxel == OUTSIDE || types.is_type(voxel);
-        self.cell < cells && self.change <= 3 && types.is_type(self.voxel) && self.neighbours.iter().all(neighbour)
+        let given = |&byte: &u8| match self.change {
+            SIDES => byte <= DRAW,
+            _ => byte == OUTSIDE || types.is_type(byte),
+        };
+        self.cell < cells && self.change <= SIDES && types.is_type(self.voxel) && self.given.iter().all(given)
     }
 
-    fn given(&self, face: usize) -> Option<u8> {
-        Some(self.neighbours[face]).filter(|&voxel| voxel != OUTSIDE)
+    /// The neighbour's type, in Broken and Added.
+    fn neighbour(&self, face: usize) -> Option<u8> {
+        Some(self.given[face]).filter(|&voxel| voxel != OUTSIDE)
+    }
+
+    /// The sides that Sides keeps, hides or draws.
+    fn sides(&self, way: u8) -> impl Iterator<Item = usize> + 'a {
+        let given = self.given;
+        (0..FACES).filter(move |&face| given[face] == way)
     }
 }
 
@@ -118,20 +139,19 @@ impl Update<'_, '_> {
         let faces = 0..FACES;
         let is_cube = self.types.is_cube(voxel);
         match entry.change {
-            0 => faces.clone().map(remove).chain(faces.filter_map(|face| self.uncovered(entry, face))).collect(),
-            1 if is_cube => {
-                let shown = |&face: &usize| entry.given(face).map_or(true, |other| !self.types.covers(other, opposite(face)));
+            BROKEN => faces.clone().map(remove).chain(faces.filter_map(|face| self.uncovered(entry, face))).collect(),
+            ADDED if is_cube => {
+                let shown = |&face: &usize| entry.neighbour(face).map_or(true, |other| !self.types.covers(other, opposite(face)));
                 faces.clone().map(remove).chain(faces.filter(shown).map(draw)).collect()
             }
-            2 => faces.filter(|&face| entry.given(face).is_some()).map(remove).collect(),
-            3 if is_cube => faces.filter(|&face| entry.given(face).is_some()).map(draw).collect(),
+            SIDES => entry.sides(HIDE).map(remove).chain(entry.sides(DRAW).filter(|_| is_cube).map(draw)).collect(),
             _ => vec![],
         }
     }
 
     /// What Broken draws at a side: the neighbour cell's opposite face, from the neighbour's type as given.
     fn uncovered(&self, entry: &Entry, face: usize) -> Option<Step> {
-        let voxel = entry.given(face)?;
+        let voxel = entry.neighbour(face)?;
         let cell = self.sizes.neighbour(entry.cell, face)?;
         let drawn = self.types.covers(entry.voxel, face) && self.types.is_cube(voxel);
         drawn.then_some(Step::Draw { cell, face: opposite(face), voxel })
@@ -139,7 +159,7 @@ impl Update<'_, '_> {
 
     /// What Added removes last: the neighbours' facing quads, where the voxel covers the side tested.
     fn facing_steps(&self, entry: &Entry) -> Vec<Step> {
-        if entry.change != 1 || !self.types.is_cube(entry.voxel) {
+        if entry.change != ADDED || !self.types.is_cube(entry.voxel) {
             return vec![];
         }
         let facing = |face: usize| {
@@ -149,7 +169,7 @@ impl Update<'_, '_> {
         (0..FACES).filter_map(facing).collect()
     }
 
-    /// Q, less the entry's own removed quads, plus the new ones it draws; 0 for an entry that draws nothing.
+    /// Q, less the entry's own removed quads, plus the new ones it draws.
     fn needed(&self, entry: &Entry) -> usize {
         let steps = self.own_steps(entry);
         let removes = |cell: usize, face: usize| {

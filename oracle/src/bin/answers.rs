@@ -7,7 +7,7 @@
 //!
 //! The file is its head, then records one after another:
 //!
-//!     head      0x5348534D, version 2, number of records
+//!     head      0x5348534D, version 3, number of records
 //!     record    tag, number of words that follow, those words
 //!
 //! Tag 1, a cube: `generate_voxel_mesh` and its answer.
@@ -25,6 +25,8 @@
 //!     outer (o bytes), grid (c bytes), log (12·e bytes),
 //!     the mesh after meshing, the mesh after the log
 //!
+//! A Sides entry of the log was two for the Rust: CullFaces with a neighbour given where it hides, then AddFaces with one given where it draws.
+//!
 //! A mesh:
 //!
 //!     quads Q, links (Q), triangle words (6·Q), positions (12·Q), normals (12·Q), uvs (8·Q), colours (16·Q if coloured, else none),
@@ -32,11 +34,13 @@
 //!
 //! Everything is accepted by document 01. `moved` is not in it: the Rust doesn't count.
 
-use oracle::cases::{cube_of, entry, paper_types, Candour, Case, Random};
-use oracle::rust::{cube, mesh, CubeParameters, Registry, Types, Words, ENTRY};
+use oracle::cases::{cube_of, paper_types, Candour, Case, Random};
+use oracle::entries::{entry, sides_in, ENTRY};
+use oracle::rust::{cube, mesh, CubeParameters, Registry, Types, Words};
+use plain::{ADDED, BROKEN, DRAW, HIDE, KEEP, SIDES};
 
 const MAGIC: u32 = u32::from_le_bytes(*b"MSHS");
-const VERSION: u32 = 2;
+const VERSION: u32 = 3;
 const SEED: u64 = 2_026;
 /// The most words of the file: 400,000 bytes.
 const MOST_WORDS: usize = 100_000;
@@ -54,13 +58,16 @@ fn main() {
     other_registries(&mut file, &mut random);
     let bytes = file.bytes();
     println!(
-        "{path}: {} bytes; {} cubes, {} registries, {} grids, {} quads",
+        "{path}: {} bytes; {} cubes, {} registries, {} grids, {} quads; {} Sides entries, of which {} hid a quad and drew one",
         bytes.len(),
         file.cubes,
         file.registries,
         file.grids,
-        file.quads
+        file.quads,
+        file.sides,
+        file.hid_and_drew
     );
+    assert!(file.hid_and_drew > 0, "the list is meant to have Sides");
     assert!(file.words.len() <= MOST_WORDS, "the list is meant to be small");
     std::fs::write(path, bytes).expect("the file to write");
 }
@@ -72,6 +79,8 @@ struct File {
     registries: u32,
     grids: u32,
     quads: usize,
+    sides: usize,
+    hid_and_drew: u64,
 }
 
 impl File {
@@ -121,6 +130,9 @@ impl File {
         self.record(3, words);
         self.grids += 1;
         self.quads += fresh.links.len() + updated.links.len();
+        self.sides += sides_in(&case.log);
+        let mut again = mesh(case.dims, &case.outer, &case.grid, &registry, case.naive);
+        self.hid_and_drew += again.update_by_entry(&registry, &case.log);
         true
     }
 }
@@ -183,34 +195,32 @@ fn worked_grids(file: &mut File) {
     };
     let beside = [OUT, OUT, CUBE, OUT, OUT, OUT];
     put([1, 1, 1], &[], &[CUBE], false, &[]);
-    put([2, 1, 1], &[], &[CUBE, CUBE], false, &[entry(0, 0, CUBE, &beside)]);
-    put([2, 1, 1], &[], &[CUBE, CUBE], false, &[entry(0, 0, CUBE, &beside), entry(0, 1, CUBE, &beside)]);
+    put([2, 1, 1], &[], &[CUBE, CUBE], false, &[entry(0, BROKEN, CUBE, &beside)]);
+    put([2, 1, 1], &[], &[CUBE, CUBE], false, &[entry(0, BROKEN, CUBE, &beside), entry(0, ADDED, CUBE, &beside)]);
     put([2, 1, 1], &[], &[CUBE, CUBE], true, &[]);
     put([2, 1, 1], &[0], &[CUBE, CUBE], false, &[]);
-    put([3, 3, 3], &[], &[CUBE; 27], false, &[entry(13, 0, CUBE, &[CUBE; 6])]);
+    put([3, 3, 3], &[], &[CUBE; 27], false, &[entry(13, BROKEN, CUBE, &[CUBE; 6])]);
     put([2, 1, 1], &[], &[CUBE, DARK], false, &[]);
     let above = [OUT, CUBE, OUT, OUT, OUT, OUT];
-    put([1, 2, 1], &[], &[CUBE, AIR], false, &[entry(1, 1, BOTTOM, &above)]);
+    put([1, 2, 1], &[], &[CUBE, AIR], false, &[entry(1, ADDED, BOTTOM, &above)]);
     put([1, 2, 1], &[], &[CUBE, BOTTOM], false, &[]);
-    put([1, 2, 1], &[], &[CUBE, AIR], false, &[entry(1, 1, TOP, &above)]);
+    put([1, 2, 1], &[], &[CUBE, AIR], false, &[entry(1, ADDED, TOP, &above)]);
     put([1, 2, 1], &[], &[CUBE, TOP], false, &[]);
-    put([1, 2, 1], &[], &[CUBE, AIR], false, &[entry(1, 1, AIR, &above), entry(1, 1, CUSTOM, &above)]);
+    put([1, 2, 1], &[], &[CUBE, AIR], false, &[entry(1, ADDED, AIR, &above), entry(1, ADDED, CUSTOM, &above)]);
     // a cube over a cube; nothing broken, twice; broken as another type; a neighbour given where the grid ends, and the other way
-    put([2, 1, 1], &[], &[CUBE, CUBE], false, &[entry(0, 1, ODD, &beside)]);
-    put([2, 1, 1], &[], &[AIR, CUBE], false, &[entry(0, 0, AIR, &beside), entry(0, 0, CUBE, &beside)]);
-    put([2, 1, 1], &[], &[CUBE, CUBE], false, &[entry(1, 0, DARK, &[OUT, OUT, OUT, ODD, OUT, OUT])]);
-    put([2, 1, 1], &[], &[CUBE, AIR], false, &[entry(1, 1, CUBE, &[CUBE; 6]), entry(1, 0, CUBE, &[CUBE; 6])]);
-    put([2, 1, 1], &[], &[CUBE, AIR], false, &[entry(1, 1, CUBE, &[OUT; 6]), entry(1, 0, CUBE, &[OUT; 6])]);
-    // faces culled and added
-    let sides = [OUT, CUBE, AIR, OUT, DARK, CUSTOM];
-    put([2, 1, 1], &[], &[CUBE, CUBE], true, &[entry(0, 2, AIR, &sides), entry(1, 3, CUBE, &sides), entry(0, 3, BOTTOM, &sides)]);
-    put(
-        [1, 1, 2],
-        &[],
-        &[CUBE, AIR],
-        false,
-        &[entry(1, 3, TOP, &[AIR; 6]), entry(0, 2, ODD, &[AIR; 6]), entry(1, 3, CUSTOM, &[AIR; 6])],
-    );
+    put([2, 1, 1], &[], &[CUBE, CUBE], false, &[entry(0, ADDED, ODD, &beside)]);
+    put([2, 1, 1], &[], &[AIR, CUBE], false, &[entry(0, BROKEN, AIR, &beside), entry(0, BROKEN, CUBE, &beside)]);
+    put([2, 1, 1], &[], &[CUBE, CUBE], false, &[entry(1, BROKEN, DARK, &[OUT, OUT, OUT, ODD, OUT, OUT])]);
+    put([2, 1, 1], &[], &[CUBE, AIR], false, &[entry(1, ADDED, CUBE, &[CUBE; 6]), entry(1, BROKEN, CUBE, &[CUBE; 6])]);
+    put([2, 1, 1], &[], &[CUBE, AIR], false, &[entry(1, ADDED, CUBE, &[OUT; 6]), entry(1, BROKEN, CUBE, &[OUT; 6])]);
+    // sides hidden, then drawn; both in one entry; of no cube, which only hides
+    let [hidden, drawn] = [HIDE, DRAW].map(|way| [KEEP, way, way, KEEP, way, way]);
+    let log = [entry(0, SIDES, AIR, &hidden), entry(1, SIDES, CUBE, &drawn), entry(0, SIDES, BOTTOM, &drawn)];
+    put([2, 1, 1], &[], &[CUBE, CUBE], true, &log);
+    let log = [entry(1, SIDES, TOP, &[DRAW; 6]), entry(0, SIDES, ODD, &[HIDE; 6]), entry(1, SIDES, CUSTOM, &[DRAW; 6])];
+    put([1, 1, 2], &[], &[CUBE, AIR], false, &log);
+    let both = [HIDE, KEEP, DRAW, HIDE, DRAW, KEEP];
+    put([2, 1, 1], &[], &[CUBE, CUBE], false, &[entry(0, SIDES, ODD, &both), entry(1, SIDES, DARK, &both)]);
 }
 
 /// Three times a tenth, which isn't exact, plus a corner: the product is rounded first.
@@ -220,7 +230,7 @@ fn unfused_grids(file: &mut File) {
     for axis in 0..3 {
         let mut dims = [1; 3];
         dims[axis] = 4;
-        let log = [entry(3, 0, CUBE, &[CUBE; 6]), entry(3, 1, ODD, &[CUBE; 6])].concat();
+        let log = [entry(3, BROKEN, CUBE, &[CUBE; 6]), entry(3, ADDED, ODD, &[CUBE; 6])].concat();
         let case = Case { dims, grid: vec![AIR, AIR, BOTTOM, CUBE], types: types.clone(), log, ..Case::default() };
         assert!(file.grid(&case, MOST_WORDS));
     }

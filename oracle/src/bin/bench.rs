@@ -9,16 +9,17 @@
 
 use oracle::calls::Calls;
 use oracle::cases::{cube_of, Case, Random};
-use oracle::grounds::{edits, half_full, terrain, ROCK};
+use oracle::entries::{former, ENTRY};
+use oracle::grounds::{edits, half_full, sides, terrain, ROCK};
 use oracle::library::Library;
 use oracle::room::laid;
-use oracle::rust::{self, cube, Registry, Words, ENTRY};
+use oracle::rust::{self, cube, Registry, Words};
 use oracle::timing::{median, time, timed};
 use plain::Tested;
 use std::hint::black_box;
 use std::time::{Duration, Instant};
 
-const ROWS: u32 = 15;
+const ROWS: u32 = 17;
 const MOST_ROUNDS: usize = 201;
 const RUNS: usize = 4;
 
@@ -37,7 +38,8 @@ fn main() {
 }
 
 const WHAT_IS_DONE: &str = "\
-The Rust: `mesh_grid` into lists that it allocates, and `update_mesh` after the log has been handed to `MeshMD::log`.
+The Rust: `mesh_grid` into lists that it allocates, and `update_mesh` after the log has been handed to `MeshMD::log`. A Sides entry is two for it,
+CullFaces and then AddFaces.
 The library: the C calls on lent lists; each tests its whole input first, an update the whole mesh it is given.
 Those bytes: for a fresh mesh and a cube, setting every byte that the call writes; for an update and the check, summing every word that
 its tests read, once a call. Rust and library start from equal meshes and end with equal ones. Freeing what the Rust allocated is timed
@@ -139,6 +141,10 @@ fn rows(bench: &Bench, random: &mut Random) -> Vec<Row> {
     // The ground covers opposite sides alike, so that the new mode too gives the Rust's mesh
     let itself = Case { tested: Tested::Itself, ..some };
     rows.push(bench.update("200 edits in one log, the side itself tested".into(), &itself, itself.log.len()));
+    for (name, entries) in [("200 Sides", 200), ("5,000 Sides", 5_000)] {
+        let case = Case { log: sides(random, &ground, entries), ..ground.clone() };
+        rows.push(bench.update(format!("{name} in one log"), &case, case.log.len()));
+    }
     rows.push(bench.check("check, 32³ terrain".into(), &ground));
     rows.push(bench.cube());
     assert_eq!(rows.len(), ROWS as usize);
@@ -192,6 +198,7 @@ impl Bench {
         let fresh = meshed.words();
         meshed.update(&registry, &case.log);
         let expected = meshed.words();
+        let parts: Vec<Vec<u8>> = case.log.chunks_exact(step).map(former).collect();
         let most = fresh.links.len() + 6 * case.log.len() / ENTRY;
         let start = laid(&fresh, room_for(most, case));
         let mut call = Case { grid: vec![], log: vec![0; step], ..case.clone() };
@@ -217,7 +224,7 @@ impl Bench {
         let ([rust, library, plain], rounds) = self.interleaved([
             &mut || {
                 let mut meshed = rust_mesh(case, &registry);
-                timed(|| case.log.chunks_exact(step).for_each(|part| meshed.update(&registry, part)))
+                timed(|| parts.iter().for_each(|part| meshed.update_by_former(&registry, part)))
             },
             &mut || {
                 room.clone_from(&start);

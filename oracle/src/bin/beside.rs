@@ -5,12 +5,13 @@
 //! How a row is timed stands in `src/rows.rs`; both libraries' code lies alike at each of the four places. A row that is slower than BOUND is timed
 //! twice more, and the median of its three ratios counts. SECONDS (110) is shared out among the rows.
 //!
-//! The former library may be of level 2: its vertices are then joined and parted off the clock, and compared attribute by attribute.
+//! The former library may be of level 2: its vertices are then joined and parted off the clock, and compared attribute by attribute. One of level 2 or
+//! 3 is given the pair that a Sides entry equals, CullFaces and then AddFaces: 5,000 Sides are 10,000 entries for it.
 //!
 //! The exit status is 0 if no row is slower than BOUND, else 1. The program panics if the two differ in a word.
 
 use oracle::cases::{Case, Random};
-use oracle::grounds::{cubes_of, edits, half_full, noise, terrain};
+use oracle::grounds::{cubes_of, edits, half_full, noise, sides, terrain};
 use oracle::library::former;
 use oracle::library::placed::Now0;
 use oracle::rows::{mesh_of, Places, Row};
@@ -20,7 +21,7 @@ use std::process::ExitCode;
 use std::time::Duration;
 
 const BOUND: f64 = 1.05;
-const ROWS: u32 = 55;
+const ROWS: u32 = 58;
 /// The calls of a log that is done an entry a call.
 const WALK: usize = 200;
 
@@ -55,6 +56,9 @@ fn all_rows(bench: &mut Bench, random: &mut Random) {
     }
     bench.updates("32³ terrain", &terrain(random, [32; 3]), random);
     bench.updates("128×16×64 terrain", &terrain(random, [128, 16, 64]), random);
+    bench.sides("200 Sides, 32³ terrain", &terrain(random, [32; 3]), 200, random);
+    bench.sides("5,000 Sides, 32³ terrain", &terrain(random, [32; 3]), 5000, random);
+    bench.sides("5,000 Sides, 32³ half full", &half_full(random, [32; 3]), 5000, random);
 }
 
 struct Bench {
@@ -86,6 +90,12 @@ impl Bench {
             }
         }
         self.row(format!("check, {name}"), Row::check(ground, mesh));
+    }
+
+    /// Sides entries in one log; the side tested is nothing to them.
+    fn sides(&mut self, name: &str, ground: &Case, entries: usize, random: &mut Random) {
+        let case = Case { log: sides(random, ground, entries), ..ground.clone() };
+        self.row(name.into(), Row::update(&Now0, case, &mesh_of(ground), entries));
     }
 
     fn row(&mut self, name: String, mut row: Row) {

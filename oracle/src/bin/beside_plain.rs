@@ -8,14 +8,14 @@
 
 use oracle::calls::{Calls, Reading};
 use oracle::cases::{Case, Random};
-use oracle::grounds::{cubes_of, edits, half_full, noise, terrain};
+use oracle::grounds::{cubes_of, edits, half_full, noise, sides, terrain};
 use oracle::library::placed::{Now0, Now16, Now32, Now48};
 use oracle::rows::{mesh_of, Places, Row, Run};
 use oracle::timing::time;
 use plain::Tested;
 use std::time::Duration;
 
-const ROWS: u32 = 35;
+const ROWS: u32 = 37;
 const FAST: &dyn Calls = &Reading::FAST;
 const PLACES: Places = [[&Now0, FAST], [&Now16, FAST], [&Now32, FAST], [&Now48, FAST]];
 
@@ -38,6 +38,7 @@ fn all_rows(bench: &mut Bench, random: &mut Random) {
         bench.updates(&format!("{name} terrain"), &terrain(random, dims), random);
     }
     bench.updates("128×16×64 terrain", &terrain(random, [128, 16, 64]), random);
+    bench.sides("another 32³ terrain", &terrain(random, [32; 3]), random);
 }
 
 struct Bench {
@@ -56,6 +57,13 @@ impl Bench {
                 self.row(format!("{what} in one log, {name}, {mode}"), case, Some((&tests, entries)));
             }
         }
+    }
+
+    /// The tests alone, and Sides entries.
+    fn sides(&mut self, name: &str, ground: &Case, random: &mut Random) {
+        let tests = self.row(format!("tests alone (empty log), {name}"), ground.clone(), None);
+        let case = Case { log: sides(random, ground, 5000), ..ground.clone() };
+        self.row(format!("5,000 Sides in one log, {name}"), case, Some((&tests, 5000)));
     }
 
     /// The case's log in one call. What the tests alone took and the number of edits tell the time of one.

@@ -3,17 +3,19 @@
 //!     differential [CASES [SEED]]
 //!
 //! Against the Rust: a cube's floats; a fresh mesh; a mesh that the Rust built after a log, honest or foolish, in the source's mode of
-//! the update. Every quad, float bit, triangle word and index entry is compared, and a panic of the Rust counts as a disagreement.
+//! the update. A Sides entry is a pair for the Rust, CullFaces and then AddFaces. Every quad, float bit, triangle word and index entry is
+//! compared, and a panic of the Rust counts as a disagreement.
 //! Against the plain reading, where the Rust says nothing: `moved`, zeroed and spare places, the new mode of the update, the check, and
-//! refusals, with every buffer whole. And demand 3, tried: the mesh passes the check after an honest log of cubes put into empty cells;
+//! refusals, with every buffer whole. A Sides entry split in two, which hide and draw, has to leave the same. And demand 3, tried: the mesh passes the check after an honest log of cubes put into empty cells;
 //! in the source's mode they have to cover opposite sides alike. A case that fails is shrunk and printed; ten failing cases end the run.
 //! A run of a thousand cases that never met something it is there for has failed too.
 
 use oracle::cases::{simpler, simpler_to_mend, Added, Case, Random};
 use oracle::compare::{Compared, Comparison, Tally, Updates, MODES};
+use oracle::entries::ENTRY;
 use oracle::faults::{limits, Faulty};
 use oracle::library::Library;
-use oracle::rust::{Words, ENTRY};
+use oracle::rust::Words;
 use plain::NO_ROOM;
 use std::panic::{catch_unwind, AssertUnwindSafe};
 use std::time::Instant;
@@ -51,7 +53,7 @@ fn main() {
 
 struct Run {
     random: Random,
-    /// Draws what came with the new mode, so that a seed still gives the cases it gave before.
+    /// Draws what the modes need, so that it changes none of the cases that a seed gives.
     later: Random,
     comparison: Comparison<'static>,
     disagreements: u64,
@@ -84,6 +86,7 @@ impl Run {
         for added in [Added::AnyCubes, Added::AlikeCubes] {
             self.mendable(number, added);
         }
+        self.in_little_room(number);
     }
 
     fn mendable(&mut self, number: u64, added: Added) {
@@ -93,6 +96,15 @@ impl Run {
             self.disagreements += 1;
             println!("case {number}, to be mended in room for {spare} quads more: {difference}");
             print(&shrunk(case, simpler_to_mend, |c| anew(|comparison| comparison.mended(c, spare))));
+        }
+    }
+
+    fn in_little_room(&mut self, number: u64) {
+        let (case, spare) = (self.later.foolish_case(), self.later.below(6));
+        if let Err(difference) = whole(|| self.comparison.in_little_room(&case, spare)) {
+            self.disagreements += 1;
+            println!("case {number}, in little room, for {spare} quads more or at the least: {difference}");
+            print(&shrunk(case, simpler, |c| anew(|comparison| comparison.in_little_room(c, spare))));
         }
     }
 
@@ -108,13 +120,18 @@ impl Run {
 
     /// What never came up in a run is a disagreement: nothing was tried.
     fn met_all(&mut self) {
-        let Tally { updates, same_in_both, left_wrong, .. } = &self.comparison.tally;
+        let Tally { updates, same_in_both, left_wrong, sides, hid_and_drew, split, sides_without_room, .. } =
+            &self.comparison.tally;
         let by_mode = |count: fn(&Updates) -> u64| updates.iter().map(count).min().unwrap();
         let met = [
             ("a log that the source's mode leaves wrong", *left_wrong),
             ("a log that gives the same in both modes", *same_in_both),
             ("a mended mesh in each mode", by_mode(|updates| updates.mended)),
             ("NO_ROOM in each mode", by_mode(|updates| updates.answers[NO_ROOM as usize])),
+            ("a Sides entry beside the Rust's pair", *sides),
+            ("a Sides entry that hid a quad and drew one", *hid_and_drew),
+            ("a log with its Sides entries split", *split),
+            ("NO_ROOM for a Sides entry", *sides_without_room),
         ];
         for (what, _) in met.iter().filter(|(_, times)| *times == 0) {
             self.disagreements += 1;
@@ -187,6 +204,10 @@ fn print(case: &Case) {
 fn print_tally(tally: &Tally) {
     let Tally { cubes, grids, log_entries, quads, index_entries, words, plain_calls, refusals, .. } = tally;
     println!("with the Rust: {cubes} cubes, {grids} grids, {log_entries} log entries; {quads} quads, {index_entries} index entries, {words} words");
+    let Tally { sides, hid_and_drew, split, sides_without_room, .. } = tally;
+    println!(
+        "of them Sides, each a pair for the Rust: {sides} log entries; on small grids {hid_and_drew} hid a quad and drew one"
+    );
     println!("with 01 read plainly: {plain_calls} calls, refusals 2 to 16: {:?}", &refusals[2..]);
     for (tested, updates) in MODES.iter().zip(&tally.updates) {
         let Updates { calls, answers, log_entries, quads, .. } = updates;
@@ -199,4 +220,5 @@ fn print_tally(tally: &Tally) {
     let Tally { same_in_both, not_alike, left_wrong, .. } = tally;
     println!("cubes that cover opposite sides alike: {same_in_both} logs, the same in both modes");
     println!("other cubes: {not_alike} honest logs, {left_wrong} left wrong by the source's mode");
+    println!("Sides entries split in two: {split} logs, the same; NO_ROOM for a Sides entry: {sides_without_room} times");
 }

@@ -6,9 +6,10 @@
 
 use oracle::calls::{Answer, Calls};
 use oracle::cases::Case;
+use oracle::entries::ENTRY;
 use oracle::library::Library;
 use oracle::room::{laid, room_for, SPARE};
-use oracle::rust::{floats, CubeParameters, Types, Words, ENTRY};
+use oracle::rust::{floats, CubeParameters, Types, Words};
 
 fn main() {
     Library::assert_level();
@@ -17,7 +18,7 @@ fn main() {
     assert_eq!(bytes.len() % 4, 0, "whole words");
     let words: Vec<u32> = bytes.chunks(4).map(|four| u32::from_le_bytes(four.try_into().unwrap())).collect();
     let mut file = Reader(&words);
-    assert_eq!(file.many(2), [u32::from_le_bytes(*b"MSHS"), 2], "the head");
+    assert_eq!(file.many(2), [u32::from_le_bytes(*b"MSHS"), 3], "the head");
     let records = file.one();
     let mut types = Types::default();
     let mut counts = [0; 4];
