@@ -14,7 +14,7 @@ mod registry;
 pub use abi::MESHEM_ABI;
 pub use face::{get_neighbor, neighboring_voxels, one_d_cords_safe, three_d_cords_arr_safe, Dimensions, Face, Sides};
 pub use lent::Updated;
-pub use log::{Log, VoxelChange};
+pub use log::{Log, Side, VoxelChange};
 pub use mesh::{check_mesh, mend_mesh, mesh_grid, update_mesh, Mesh, MeshMD, MeshingAlgorithm};
 pub use raw::meshem_abi;
 pub use refusal::{Reason, Refusal};

@@ -2,16 +2,30 @@
 
 /// All the ways a voxel can be changed.
 #[derive(Clone, Copy, Debug, PartialEq, Eq)]
-#[repr(u8)]
 pub enum VoxelChange {
     /// The voxel is gone: its quads go, and its neighbours show what it covered.
     Broken,
     /// The voxel is put: it shows what nothing covers, and hides its neighbours' faces.
     Added,
-    /// The voxel's sides with a neighbour given are hidden.
+    /// The voxel's sides with a neighbour given are hidden. Only whether one is given counts, and not of what type it is.
+    /// [`MeshMD::log_sides`](crate::MeshMD::log_sides) says this and `AddFaces` in one entry, which is done completely or not at all.
     CullFaces,
-    /// The voxel's sides with a neighbour given are drawn.
+    /// The voxel's sides with a neighbour given are drawn, if it is a cube. Only whether one is given counts, and not of what type it is.
+    /// [`MeshMD::log_sides`](crate::MeshMD::log_sides) says this and `CullFaces` in one entry, which is done completely or not at all.
     AddFaces,
+}
+
+/// What [`MeshMD::log_sides`](crate::MeshMD::log_sides) does to a side.
+#[derive(Clone, Copy, Debug, Default, PartialEq, Eq, Hash)]
+#[repr(u8)]
+pub enum Side {
+    /// It stays as it is.
+    #[default]
+    Keep,
+    /// Its quad goes, if it has one.
+    Hide,
+    /// It gets a quad, if it has none.
+    Draw,
 }
 
 /// Changes in the order in which they happened, kept as the twelve bytes an entry that the library reads.
@@ -19,6 +33,11 @@ pub enum VoxelChange {
 pub struct Log {
     bytes: Vec<u8>,
 }
+
+/// The library's changes.
+const BROKEN: u8 = 0;
+const ADDED: u8 = 1;
+const SIDES: u8 = 2;
 
 /// A neighbour outside; no type has this code.
 const OUTSIDE: u8 = 255;
@@ -34,12 +53,38 @@ impl Log {
 
     /// Appends a change: the cell, the voxel that was broken or added there, and what stands around it by face, `None` outside.
     /// Nothing is tested here; an update refuses a log with an entry that names no cell or no type.
+    ///
+    /// Of `CullFaces` and `AddFaces` the entry keeps which neighbours are given, and not their types: it is the one of [`Log::push_sides`]
+    /// that hides these sides, or draws them. A neighbour that is no type is as good as any other there.
     pub fn push(&mut self, change: VoxelChange, cell: usize, voxel: u8, neighboring_voxels: [Option<u8>; 6]) {
+        let sides = |way: Side| neighboring_voxels.map(|beside| beside.map_or(Side::Keep, |_| way));
+        match change {
+            VoxelChange::Broken => self.push_amid(cell, BROKEN, voxel, neighboring_voxels),
+            VoxelChange::Added => self.push_amid(cell, ADDED, voxel, neighboring_voxels),
+            VoxelChange::CullFaces => self.push_sides(cell, voxel, sides(Side::Hide)),
+            VoxelChange::AddFaces => self.push_sides(cell, voxel, sides(Side::Draw)),
+        }
+    }
+
+    /// Appends a change whose neighbours' types count.
+    fn push_amid(&mut self, cell: usize, change: u8, voxel: u8, neighboring_voxels: [Option<u8>; 6]) {
         // 255 is no type, yet as a neighbour's byte it would mean outside: the entry says 255 where it is refused
         let no_type = neighboring_voxels.contains(&Some(OUTSIDE));
+        let voxel = if no_type { OUTSIDE } else { voxel };
+        self.push_bytes(cell, change, voxel, neighboring_voxels.map(|beside| beside.unwrap_or(OUTSIDE)));
+    }
+
+    /// Appends what becomes of a cell's own sides, by face: first the quads of those to hide go, then those to draw get one from the voxel, if
+    /// it is a cube. Nothing is tested here; an update refuses a log with an entry that names no cell or no type. The library refuses a byte
+    /// over 2 for a side too. No [`Side`] has one, so that this can't be met through this crate.
+    pub fn push_sides(&mut self, cell: usize, voxel: u8, sides: [Side; 6]) {
+        self.push_bytes(cell, SIDES, voxel, sides.map(|side| side as u8));
+    }
+
+    fn push_bytes(&mut self, cell: usize, change: u8, voxel: u8, given: [u8; 6]) {
         self.bytes.extend(u32::try_from(cell).unwrap_or(u32::MAX).to_le_bytes());
-        self.bytes.extend([change as u8, if no_type { OUTSIDE } else { voxel }]);
-        self.bytes.extend(neighboring_voxels.map(|beside| beside.unwrap_or(OUTSIDE)));
+        self.bytes.extend([change, voxel]);
+        self.bytes.extend(given);
     }
 
     /// How many entries there are.
@@ -67,13 +112,58 @@ impl Log {
 mod tests {
     use super::*;
 
+    fn bytes_of(push: impl Fn(&mut Log)) -> Vec<u8> {
+        let mut log = Log::new();
+        push(&mut log);
+        log.as_bytes().to_vec()
+    }
+
     #[test]
     fn an_entry_is_twelve_bytes() {
         let mut log = Log::new();
-        log.push(VoxelChange::CullFaces, 0x0102, 3, [None, Some(1), None, None, Some(0), None]);
-        assert_eq!(log.as_bytes(), [2, 1, 0, 0, 2, 3, 255, 1, 255, 255, 0, 255]);
-        assert_eq!(log.len(), 1);
+        log.push(VoxelChange::Broken, 0x0102_0304, 9, [None, Some(1), None, None, Some(0), Some(7)]);
+        assert_eq!(log.as_bytes(), [4, 3, 2, 1, 0, 9, 255, 1, 255, 255, 0, 7]);
+        log.push_sides(5, 6, [Side::Keep; 6]);
+        assert_eq!(log.len(), 2);
         log.clear();
         assert!(log.is_empty());
+    }
+
+    #[test]
+    fn the_bytes_of_each_change() {
+        use Side::*;
+        let beside = [None, Some(1), None, Some(254), Some(0), None];
+        let pushed = |change| bytes_of(|log| log.push(change, 0x0102, 3, beside));
+        assert_eq!(pushed(VoxelChange::Broken), [2, 1, 0, 0, 0, 3, 255, 1, 255, 254, 0, 255]);
+        assert_eq!(pushed(VoxelChange::Added), [2, 1, 0, 0, 1, 3, 255, 1, 255, 254, 0, 255]);
+        assert_eq!(pushed(VoxelChange::CullFaces), [2, 1, 0, 0, 2, 3, 0, 1, 0, 1, 1, 0]);
+        assert_eq!(pushed(VoxelChange::AddFaces), [2, 1, 0, 0, 2, 3, 0, 2, 0, 2, 2, 0]);
+        let sides = bytes_of(|log| log.push_sides(0x0908_0706, 5, [Draw, Hide, Keep, Keep, Hide, Draw]));
+        assert_eq!(sides, [6, 7, 8, 9, 2, 5, 2, 1, 0, 0, 1, 2]);
+    }
+
+    /// The voxel and the neighbour's byte, where the neighbour's code can be a type's, where it can't, and where none is given.
+    #[test]
+    fn a_neighbour_of_code_255_is_no_type_where_types_count() {
+        for (change, due) in [
+            (VoxelChange::Broken, [[3, 254], [255, 255], [3, 255]]),
+            (VoxelChange::Added, [[3, 254], [255, 255], [3, 255]]),
+            (VoxelChange::CullFaces, [[3, 1], [3, 1], [3, 0]]),
+            (VoxelChange::AddFaces, [[3, 2], [3, 2], [3, 0]]),
+        ] {
+            let told = [Some(254), Some(255), None].map(|beside| {
+                let bytes = bytes_of(|log| log.push(change, 0, 3, [None, None, beside, None, None, None]));
+                [bytes[5], bytes[8]]
+            });
+            assert_eq!(told, due);
+        }
+    }
+
+    #[test]
+    fn a_cell_that_is_too_large_is_the_largest_that_can_be_said() {
+        for cell in [usize::MAX, 1 << 32, u32::MAX as usize] {
+            assert_eq!(bytes_of(|log| log.push_sides(cell, 3, [Side::Keep; 6]))[..4], [255; 4]);
+        }
+        assert_eq!(bytes_of(|log| log.push_sides(0xFFFF_FFFE, 3, [Side::Keep; 6]))[..4], [254, 255, 255, 255]);
     }
 }

@@ -2,7 +2,7 @@
 
 use crate::lent::{self, Lists, Room, UpdateError, Updated, NO_QUAD};
 use crate::raw::Tested;
-use crate::{Dimensions, Face, Log, Reason, Refusal, VoxelChange, VoxelRegistry};
+use crate::{Dimensions, Face, Log, Reason, Refusal, Side, VoxelChange, VoxelRegistry};
 
 /// The variants of the meshing algorithm.
 #[derive(Clone, Copy, Debug, PartialEq, Eq)]
@@ -81,6 +81,31 @@ impl MeshMD {
     /// grid is at that moment ([`neighboring_voxels`](crate::neighboring_voxels)). [`update_mesh`] or [`mend_mesh`] does it.
     pub fn log(&mut self, voxel_change: VoxelChange, voxel_index: usize, voxel: u8, neighboring_voxels: [Option<u8>; 6]) {
         self.log.push(voxel_change, voxel_index, voxel, neighboring_voxels);
+    }
+
+    /// Logs what becomes of a cell's own sides, by face. First the quads of those to [`Hide`](Side::Hide) go, then those to [`Draw`](Side::Draw)
+    /// get one from the voxel, if it is a cube; what stands around is not asked. It is `CullFaces` and then `AddFaces`, in one entry, which
+    /// is done completely or not at all.
+    ///
+    /// ```
+    /// # use nalumoce::*;
+    /// # let mut registry = VoxelRegistry::new([1.0; 3], [0.0; 3], false);
+    /// # let texture = Face::ALL.map(|face| (face, [0, 0]));
+    /// # let cube = generate_voxel_mesh([1.0; 3], [1, 1], texture, [0.0; 3], 0.0, None, 1.0)?;
+    /// # registry.add(VoxelMesh::Null, Sides::NONE)?;
+    /// # let rock = registry.add(VoxelMesh::NormalCube(&cube), Sides::ALL)?;
+    /// let (mut mesh, mut metadata) = mesh_grid((2, 1, 1), &[], &[rock, rock], &registry, MeshingAlgorithm::Culling)?;
+    /// let mut sides = [Side::Keep; 6];
+    /// sides[Face::Left as usize] = Side::Hide; // the chunk on the left has come
+    /// sides[Face::Right as usize] = Side::Draw;
+    /// metadata.log_sides(0, rock, sides);
+    /// assert_eq!(update_mesh(&mut mesh, &mut metadata, &registry)?.quads, 10);
+    /// assert_eq!(metadata.get_quad_index(Face::Left, 0), None);
+    /// assert_eq!(metadata.get_quad_index(Face::Right, 0), Some(36)); // the last of ten
+    /// # Ok::<(), Refusal>(())
+    /// ```
+    pub fn log_sides(&mut self, voxel_index: usize, voxel: u8, sides: [Side; 6]) {
+        self.log.push_sides(voxel_index, voxel, sides);
     }
 
     /// The changes logged and not yet done.

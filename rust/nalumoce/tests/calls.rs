@@ -113,6 +113,79 @@ fn an_update_draws_sides_at_the_edge_that_a_fresh_mesh_was_told_to_leave_out() {
     assert_eq!(check_mesh(&mesh, &metadata, &[], &[ROCK], &registry), Ok(()));
 }
 
+/// Whose face each quad is.
+fn links(mesh: &Mesh, metadata: &MeshMD) -> Vec<Option<(usize, Face)>> {
+    (0..mesh.quads()).map(|quad| metadata.cell_and_face(mesh, quad)).collect()
+}
+
+/// Where the quad of each face starts.
+fn starts(metadata: &MeshMD) -> Vec<Option<u32>> {
+    let (width, height, length) = metadata.dims;
+    let of_cell = |cell| Face::ALL.map(|face| metadata.get_quad_index(face, cell));
+    (0..width * height * length).flat_map(of_cell).collect()
+}
+
+/// Of ten quads Top and Left of cell 0 go, each for the last one. Right comes from a cube alone; Back is there already.
+#[test]
+fn sides_in_one_entry_are_cull_faces_and_then_add_faces() {
+    use Side::*;
+    let (registry, dims, grid) = (registry(), (2, 1, 1), [ROCK; 2]);
+    let sides = [Hide, Keep, Draw, Hide, Draw, Keep];
+    let given = |way: Side| sides.map(|side| (side == way).then_some(SLAB));
+    for (voxel, quads) in [(ROCK, 9), (SLAB, 9), (AIR, 8)] {
+        let (mut mesh, mut metadata) = meshed(dims, &grid);
+        metadata.log_sides(0, voxel, sides);
+        assert_eq!(metadata.logged().len(), 1);
+        assert_eq!(update_mesh(&mut mesh, &mut metadata, &registry), Ok(Updated { quads, moved: 2 }));
+        assert_eq!(metadata.get_quad_index(Face::Right, 0).is_some(), voxel != AIR);
+
+        for calls in [1, 2] {
+            let (mut other, mut of_other) = meshed(dims, &grid);
+            let mut moved = 0;
+            for (change, way) in [(VoxelChange::CullFaces, Hide), (VoxelChange::AddFaces, Draw)] {
+                of_other.log(change, 0, voxel, given(way));
+                if calls == 2 || way == Draw {
+                    moved += update_mesh(&mut other, &mut of_other, &registry).unwrap().moved;
+                }
+            }
+            assert_eq!(moved, 2);
+            assert_eq!((attributes(&other), other.indices()), (attributes(&mesh), mesh.indices()));
+            assert_eq!((links(&other, &of_other), starts(&of_other)), (links(&mesh, &metadata), starts(&metadata)));
+        }
+    }
+}
+
+#[test]
+fn sides_that_are_all_kept_change_nothing() {
+    let registry = registry();
+    let (mut mesh, mut metadata) = meshed((2, 1, 1), &[ROCK; 2]);
+    let before = (attributes(&mesh), links(&mesh, &metadata), starts(&metadata));
+    metadata.log_sides(1, ROCK, [Side::Keep; 6]);
+    metadata.log(VoxelChange::CullFaces, 1, ROCK, [None; 6]);
+    metadata.log(VoxelChange::AddFaces, 1, ROCK, [None; 6]);
+    assert_eq!(mend_mesh(&mut mesh, &mut metadata, &registry), Ok(Updated { quads: 10, moved: 0 }));
+    assert_eq!((attributes(&mesh), links(&mesh, &metadata), starts(&metadata)), before);
+}
+
+/// The middle one of three has four quads of fourteen. One that goes makes room for one, and not for two; then it stays.
+#[test]
+fn sides_are_done_completely_or_not_at_all() {
+    use Side::*;
+    let (registry, dims, grid) = (registry(), (3, 1, 1), [ROCK; 3]);
+    let mut kept = Kept::new(14, 3);
+    assert_eq!(lent::mesh_grid(dims, &[], &grid, &registry, MeshingAlgorithm::Culling, &mut kept.room()), Ok(14));
+    let before = kept.clone();
+    let mut log = Log::new();
+    log.push_sides(1, ROCK, [Hide, Keep, Draw, Draw, Keep, Keep]);
+    let full = UpdateError::NoRoom { entry: 0, kept: Updated { quads: 14, moved: 0 } };
+    assert_eq!(lent::update_mesh(&mut kept.room(), 14, dims, &log, &registry), Err(full));
+    assert_eq!(kept, before);
+    log.clear();
+    log.push_sides(1, ROCK, [Hide, Keep, Draw, Keep, Keep, Keep]);
+    let done = Updated { quads: 14, moved: 1 };
+    assert_eq!(lent::update_mesh(&mut kept.room(), 14, dims, &log, &registry), Ok(done));
+}
+
 #[test]
 fn a_mesh_grows_as_it_needs() {
     let (registry, dims) = (registry(), (16, 16, 16));
@@ -172,6 +245,13 @@ fn a_refused_log_is_kept_and_nothing_is_done() {
         (0, 3, [None; 6]),
         (0, ROCK, [None, None, Some(255), None, None, None]),
     ];
+    let kept_sides = |metadata: &mut MeshMD, cell: usize, voxel: u8| metadata.log_sides(cell, voxel, [Side::Keep; 6]);
+    for (cell, voxel) in [(2, ROCK), (usize::MAX, ROCK), (0, 3), (0, 255)] {
+        kept_sides(&mut metadata, 1, SLAB);
+        kept_sides(&mut metadata, cell, voxel);
+        assert_eq!(refused(update_mesh(&mut mesh, &mut metadata, &registry)), (Reason::BadEntry, 1));
+        metadata.clear_log();
+    }
     for (cell, voxel, around) in bad {
         metadata.log(VoxelChange::Broken, 0, ROCK, neighboring_voxels(&grid, 0, (2, 1, 1)));
         metadata.log(VoxelChange::Broken, cell, voxel, around);

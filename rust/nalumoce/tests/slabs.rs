@@ -229,3 +229,37 @@ fn what_covers_opposite_sides_alike_is_updated_alike() {
         assert_eq!(updated(lent::update_mesh), updated(lent::mend_mesh));
     }
 }
+
+/// Of any log: an entry of sides, and the two that Meshem has for it.
+#[test]
+fn sides_do_what_meshems_two_changes_do() {
+    let (registry, dims, mut dice) = (every_set(), (5, 4, 3), Dice(3));
+    let mut moved = 0;
+    for _ in 0..50 {
+        let grid: Vec<u8> = (0..60).map(|_| dice.below(65) as u8).collect();
+        let (mut ours, mut meshems) = (Log::new(), Log::new());
+        for _ in 0..40 {
+            let (cell, voxel) = (dice.below(60), dice.below(65) as u8);
+            if dice.below(3) == 0 {
+                let around = Face::ALL.map(|_| Some(dice.below(66) as u8).filter(|&voxel| voxel < 65));
+                let change = dice.one_of(&[VoxelChange::Broken, VoxelChange::Added]);
+                ours.push(change, cell, voxel, around);
+                meshems.push(change, cell, voxel, around);
+            } else {
+                let sides = Face::ALL.map(|_| dice.one_of(&[Side::Keep, Side::Hide, Side::Draw]));
+                ours.push_sides(cell, voxel, sides);
+                for (change, way) in [(VoxelChange::CullFaces, Side::Hide), (VoxelChange::AddFaces, Side::Draw)] {
+                    meshems.push(change, cell, voxel, sides.map(|side| (side == way).then(|| dice.below(65) as u8)));
+                }
+            }
+        }
+        let updated = |log: &Log| {
+            let mut kept = Kept::new(360, 60);
+            let quads = lent::mesh_grid(dims, &[], &grid, &registry, MeshingAlgorithm::Culling, &mut kept.room()).unwrap();
+            (lent::mend_mesh(&mut kept.room(), quads, dims, log, &registry).unwrap(), kept)
+        };
+        assert_eq!(updated(&ours), updated(&meshems));
+        moved += updated(&ours).0.moved;
+    }
+    assert!(moved > 0);
+}
