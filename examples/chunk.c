@@ -1,7 +1,7 @@
 /*
  * Two cubes side by side: built, meshed, checked; one is dug away, the mesh is mended and checked against the new
  * ground. Then a half-height slab is filled in on the other, testing either side: Meshem's leaves a face too many.
- * At last sides of the rock beneath are hidden and drawn, as a streamer of chunks does, and the mesh is put right again.
+ * Last, sides of the rock beneath are hidden and drawn, as a streamer of chunks does, and the mesh is put right again.
  */
 #include <stdio.h>
 #include "calls.h"

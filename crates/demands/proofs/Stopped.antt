@@ -5,7 +5,7 @@ use mathlib.Core.Bool.{Bool, true, false, cond, not}
 use mathlib.Core.List.{List, [], _∷_, _++_}
 use mathlib.Core.Option.{Option, none, some}
 use native.Mathlib.Omega.{arith}
-use lib.Dec.{eqb, leb}
+use lib.Dec.{eqb, leb, ltb}
 use lib.ListN.{length, getD, take, drop, take-append-drop, length-drop, List·getD-append}
 use lib.Seq.{length-take-le, drop-append-le, take-append-le}
 use borrow.Author.Tests.{leb-false, eq-eqb}
@@ -13,7 +13,7 @@ use Rattle.rules.specs.Lists.{each, table, every, part}
 use Rattle.rules.specs.Cells.{cells}
 use Rattle.rules.specs.Mesh.{Quad, Lists, layout, decode}
 use Rattle.rules.specs.Update.{Entry, Work, Course, Tested, u32At, entryAt, work, ops, run, moves, highest, needed, courseFrom, meshAfter}
-use Rattle.rules.specs.Answers.{fine, refuseLowest, BAD-SIZE, badSide, badSides, badEntry, BAD-ENTRY}
+use Rattle.rules.specs.Answers.{fine, refuseLowest, BAD-SIZE, badNeighbour, badNeighbours, badSides, badBytes, badEntry, BAD-ENTRY}
 use Rattle.rules.specs.Calls.{Scene, answered, world, faces, room, typesVerdict, lentVerdict, updateVerdict, entriesOf, course, updateBy, updateMesh}
 use Rattle.rules.proofs.ListLaws.{each-same, each-split}
 use Rattle.rules.proofs.Checking.{then-fine, fine-then, fine-if, lowest-fine, fine-lowest}
@@ -94,17 +94,21 @@ module _ (k : ℕ) (first rest : List ℕ) (whole : length first ≡ 12 * k) whe
   every-alike zero p q h = refl
   every-alike (suc n) p q h = rw (h n (omega arith), every-alike n p q (λ i l. h i (omega arith)))
 
+  -- one of six bytes is bad, by whatever test
+  six-stay : (p : ℕ → Bool) (at : ℕ) → at + 12 ≤ 12 * k → not (every 6 (λ f. not (p (getD (first ++ rest) (at + (6 + f)) 0)))) ≡ not (every 6 (λ f. not (p (getD first (at + (6 + f)) 0))))
+  six-stay p at h =
+      ap not (every-alike 6 (λ f. not (p (getD (first ++ rest) (at + (6 + f)) 0))) (λ f. not (p (getD first (at + (6 + f)) 0)))
+      (λ f l. ap (λ (t : ℕ). not (p t)) (byte (at + (6 + f)) (omega arith))))
+
   bad-stays : (cells types j : ℕ) → j < k → badEntry cells types (first ++ rest) j ≡ badEntry cells types first j
-  unfolding badEntry badSides
+  unfolding badEntry badBytes badSides badNeighbours
   bad-stays cells types j h =
-      let change = byte (12 * j + 4) (omega arith) in
       rw (
         word j h,
-        change,
+        byte (12 * j + 4) (omega arith),
         byte (12 * j + 5) (omega arith),
-        every-alike 6 (λ f. not (badSide types (getD first (12 * j + 4) 0) (getD (first ++ rest) (12 * j + (6 + f)) 0)))
-            (λ f. not (badSide types (getD first (12 * j + 4) 0) (getD first (12 * j + (6 + f)) 0)))
-            (λ f l. ap (λ (t : ℕ). not (badSide types (getD first (12 * j + 4) 0) t)) (byte (12 * j + (6 + f)) (omega arith))),
+        six-stay (ltb 2) (12 * j) (omega arith),
+        six-stay (badNeighbour types) (12 * j) (omega arith),
       )
 
 -- the entries of the first k are the first k entries

@@ -1,9 +1,9 @@
 -- Which entries of a log find room, and how many an answer tells were done. Definitions only.
-use Prim.Native.Nat.{ℕ, _/_, _≤_, _<_}
+use Prim.Native.Nat.{ℕ, _+_, _-_, _/_, _≤_, _<_}
 use mathlib.Core.List.{List}
 use lib.ListN.{length}
 use Rattle.rules.specs.Mesh.{Quad, Lists, decode}
-use Rattle.rules.specs.Update.{Tested, work, entryAt, needed, meshAfter}
+use Rattle.rules.specs.Update.{Tested, work, entryAt, needed, hiddenThere, drawnMissing, meshAfter}
 use Rattle.rules.specs.Calls.{Scene, world, room}
 use Rattle.answers.specs.declared.Refusal.the-variants.{NoRoom}
 use Rattle.terms.specs.declared.Count.{Count}
@@ -17,6 +17,12 @@ meshBefore tested S log B Q k = meshAfter (λ j. work tested (world S) (entryAt 
 -- what entry k needs: Q, less its own removed quads, plus the new ones it draws, on that mesh
 abbrev pub neededAt : Tested → Scene → List ℕ → Lists → ℕ → ℕ → ℕ
 neededAt tested S log B Q k = needed (work tested (world S) (entryAt log k)) (meshBefore tested S log B Q k)
+
+-- what Sides needs: Q, less the hidden sides that have a quad, plus the drawn ones that have none (02, Q-6)
+abbrev pub sidesNeed : Tested → Scene → List ℕ → Lists → ℕ → ℕ → ℕ
+sidesNeed tested S log B Q k =
+    let m = meshBefore tested S log B Q k in
+    length m - hiddenThere (entryAt log k) m + drawnMissing (world S) (entryAt log k) m
 
 abbrev pub FindsRoom : Tested → Scene → List ℕ → Lists → ℕ → ℕ → Type 0
 FindsRoom tested S log B Q k = neededAt tested S log B Q k ≤ room S B

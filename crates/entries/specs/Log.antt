@@ -32,6 +32,6 @@ entryIn e =
 abbrev pub neighbourOf : ℕ → Neighbour
 neighbourOf t = cond (outside t) Outside (Voxel t)
 
--- 0 keep, 1 hide, 2 draw
+-- 1 hide, 2 draw, any other keep: one over 2 is refused before
 abbrev pub sideOf : ℕ → Side
 sideOf byte = cond (eqb byte 1) Hide (cond (eqb byte 2) Draw Keep)

@@ -3,13 +3,12 @@ use face::Cell;
 use face::Face;
 use std::num::wrapping_add_u8;
 ghost use mathlib.Core.Path.{_≡_};
-ghost use mathlib.Core.Bool.{cond};
 ghost use Prim.Native.Nat.{_+_, _-_, _*_, _/_, _≤_, _<_, min};
 ghost use lib.ListN.{length};
 ghost use lib.Dec.{ltb};
 ghost use Rattle.rules.specs.Lists.{lowest};
 ghost use Rattle.rules.specs.Update.{u32At, changeOf, entryAt, givenAt};
-ghost use Rattle.rules.specs.Answers.{badNeighbour, badSides, badEntry};
+ghost use Rattle.rules.specs.Answers.{badNeighbour, badNeighbours, badSides, badBytes, badEntry};
 ghost use Rattle.face.specs.Face.{number};
 ghost use Rattle.entries.specs.Log.{changeIn, entryIn, neighbourOf, sideOf};
 
@@ -131,29 +130,56 @@ fn byte_of(types: u32) -> u8
     if types < 255 { types as u8 } else { 255 }
 }
 
-// One test of a byte, so that the six go at once. Of a neighbour: 255 and 1 wrap to 0, which is over no number of types.
-fn bad_side(byte: u8, sides: bool, types: u32) -> bool
-    ensures { λ r. ⌜ r ≡ cond sides (ltb 2 byte) (badNeighbour types byte) ⌝ }
+// One test of bytes, so that the six go at once: 255 and 1 wrap to 0, which is over no number of types.
+fn bad_neighbour(given: u8, types: u32) -> bool
+    ensures { λ r. ⌜ r ≡ badNeighbour types given ⌝ }
 {
-    if sides {
-        return 2 < byte;
-    }
-    byte_of(types) < wrapping_add_u8(byte, 1)
+    byte_of(types) < wrapping_add_u8(given, 1)
 }
 
-// Whether one of the six bytes of the entry that starts at `at` is none that its change takes.
-fn bad_sides(log: &[u8], at: usize, types: u32) -> bool
+// Whether one of the six bytes of the entry that starts at `at` is no type and not outside.
+fn bad_neighbours(log: &[u8], at: usize, types: u32) -> bool
     requires { ⌜ at + 12 ≤ length (now log) ⌝ }
-    ensures { λ r. ⌜ r ≡ badSides types (now (log .entry)) at ⌝ }
+    ensures { λ r. ⌜ r ≡ badNeighbours types (now (log .entry)) at ⌝ }
 {
-    let sides = log[at + 4] == 2;
     let mut good = true;
     let mut f = 0;
     while f < 6 {
-        good = good & !bad_side(log[at + (6 + f)], sides, types);
+        good = good & !bad_neighbour(log[at + (6 + f)], types);
         f += 1;
     }
     !good
+}
+
+fn bad_side(byte: u8) -> bool
+    ensures { λ r. ⌜ r ≡ ltb 2 byte ⌝ }
+{
+    2 < byte
+}
+
+// Whether one of them is no side byte.
+fn bad_sides(log: &[u8], at: usize) -> bool
+    requires { ⌜ at + 12 ≤ length (now log) ⌝ }
+    ensures { λ r. ⌜ r ≡ badSides (now (log .entry)) at ⌝ }
+{
+    let mut good = true;
+    let mut f = 0;
+    while f < 6 {
+        good = good & !bad_side(log[at + (6 + f)]);
+        f += 1;
+    }
+    !good
+}
+
+// Whether one of them is none that the entry's change takes.
+fn bad_bytes(log: &[u8], at: usize, types: u32) -> bool
+    requires { ⌜ at + 12 ≤ length (now log) ⌝ }
+    ensures { λ r. ⌜ r ≡ badBytes types (now (log .entry)) at ⌝ }
+{
+    if log[at + 4] == 2 {
+        return bad_sides(log, at);
+    }
+    bad_neighbours(log, at, types)
 }
 
 fn bad_entry(log: &[u8], k: usize, cells: u32, types: u32) -> bool
@@ -165,7 +191,7 @@ fn bad_entry(log: &[u8], k: usize, cells: u32, types: u32) -> bool
         | (cells <= u32_at(log, at))
         | (2 < log[at + 4])
         | (types <= wide_byte(log[at + 5]))
-        | bad_sides(log, at, types)
+        | bad_bytes(log, at, types)
 }
 
 // The lowest entry with a bad field or past the limit, or the number of whole entries.

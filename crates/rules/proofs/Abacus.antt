@@ -163,7 +163,7 @@ pub slab-cases : mended itself 3 ∷ mended itself 4 ∷ []
     ≡ (10 ∷ 10 ∷ [])
     ∷ (11 ∷ 11 ∷ [])
     ∷ []
-unfolding mended answers._then_ answers.refuseIf answers.badLimits answers.BAD-TYPES answers.badCounts lowestFrom answers.badType answers.BAD-NUMBER answers.notACube types.isCube every types.classed types.classOf types.classAt types.classOn ieee.eq ieee.ofBits ieee.lt answers.roomOf meshBy each neighbour count laid attributeIn slotted answers.badLink answers.BAD-LINKS same answers.badSides answers.badEntry answers.BAD-ENTRY courseFrom entryAt needed ops remove removeAt types.quadWords
+unfolding mended answers._then_ answers.refuseIf answers.badLimits answers.BAD-TYPES answers.badCounts lowestFrom answers.badType answers.BAD-NUMBER answers.notACube types.isCube every types.classed types.classOf types.classAt types.classOn ieee.eq ieee.ofBits ieee.lt answers.roomOf meshBy each neighbour count laid attributeIn slotted answers.badLink answers.BAD-LINKS same answers.badNeighbours answers.badSides answers.badBytes answers.badEntry answers.BAD-ENTRY courseFrom entryAt needed ops remove removeAt types.quadWords
 slab-cases = refl
 
 fresh-are : freshCases ≡ (6 ∷ []) ∷ (10 ∷ 12 ∷ []) ∷ (8 ∷ []) ∷ (54 ∷ []) ∷ (5 ∷ []) ∷ []
@@ -175,20 +175,20 @@ unfolding removalCases removeAt each
 removals-are = refl
 
 mended-bottom : mended source 3 ≡ 11 ∷ 10 ∷ []
-unfolding mended answers._then_ answers.refuseIf answers.badLimits answers.BAD-TYPES answers.badCounts lowestFrom answers.badType answers.BAD-NUMBER answers.notACube types.isCube every types.classed types.classOf types.classAt types.classOn ieee.eq ieee.ofBits ieee.lt answers.roomOf meshBy each neighbour count laid attributeIn slotted answers.badLink answers.BAD-LINKS same answers.badSides answers.badEntry answers.BAD-ENTRY courseFrom entryAt needed ops remove removeAt types.quadWords
+unfolding mended answers._then_ answers.refuseIf answers.badLimits answers.BAD-TYPES answers.badCounts lowestFrom answers.badType answers.BAD-NUMBER answers.notACube types.isCube every types.classed types.classOf types.classAt types.classOn ieee.eq ieee.ofBits ieee.lt answers.roomOf meshBy each neighbour count laid attributeIn slotted answers.badLink answers.BAD-LINKS same answers.badNeighbours answers.badSides answers.badBytes answers.badEntry answers.BAD-ENTRY courseFrom entryAt needed ops remove removeAt types.quadWords
 mended-bottom = refl
 
 mended-top : mended source 4 ≡ 10 ∷ 11 ∷ []
-unfolding mended answers._then_ answers.refuseIf answers.badLimits answers.BAD-TYPES answers.badCounts lowestFrom answers.badType answers.BAD-NUMBER answers.notACube types.isCube every types.classed types.classOf types.classAt types.classOn ieee.eq ieee.ofBits ieee.lt answers.roomOf meshBy each neighbour count laid attributeIn slotted answers.badLink answers.BAD-LINKS same answers.badSides answers.badEntry answers.BAD-ENTRY courseFrom entryAt needed ops remove removeAt types.quadWords
+unfolding mended answers._then_ answers.refuseIf answers.badLimits answers.BAD-TYPES answers.badCounts lowestFrom answers.badType answers.BAD-NUMBER answers.notACube types.isCube every types.classed types.classOf types.classAt types.classOn ieee.eq ieee.ofBits ieee.lt answers.roomOf meshBy each neighbour count laid attributeIn slotted answers.badLink answers.BAD-LINKS same answers.badNeighbours answers.badSides answers.badBytes answers.badEntry answers.BAD-ENTRY courseFrom entryAt needed ops remove removeAt types.quadWords
 mended-top = refl
 
 null-is : added 0 ≡ 6 ∷ []
-unfolding added answers._then_ answers.refuseIf answers.badLimits answers.BAD-TYPES answers.badCounts lowestFrom answers.badType answers.BAD-NUMBER answers.notACube types.isCube every types.classed types.classOf types.classAt types.classOn ieee.eq ieee.ofBits ieee.lt answers.roomOf meshBy each neighbour count laid attributeIn slotted answers.badLink answers.BAD-LINKS same answers.badSides answers.badEntry answers.BAD-ENTRY courseFrom entryAt needed ops remove removeAt types.quadWords
+unfolding added answers._then_ answers.refuseIf answers.badLimits answers.BAD-TYPES answers.badCounts lowestFrom answers.badType answers.BAD-NUMBER answers.notACube types.isCube every types.classed types.classOf types.classAt types.classOn ieee.eq ieee.ofBits ieee.lt answers.roomOf meshBy each neighbour count laid attributeIn slotted answers.badLink answers.BAD-LINKS same answers.badNeighbours answers.badSides answers.badBytes answers.badEntry answers.BAD-ENTRY courseFrom entryAt needed ops remove removeAt types.quadWords
 null-is = refl
 
 -- the ninth is not refused, and its entry does nothing
 pub null-unrefused : updateVerdict (scene 1 2 1) (above 0) (below .lists) (quadsIn below) ≡ fine
-unfolding answers._then_ answers.refuseIf answers.badLimits answers.BAD-TYPES answers.badCounts lowestFrom answers.badType answers.BAD-NUMBER answers.notACube types.isCube every types.classed types.classOf types.classAt types.classOn ieee.eq ieee.ofBits ieee.lt answers.roomOf meshBy each neighbour count laid attributeIn slotted answers.badLink answers.BAD-LINKS same answers.badSides answers.badEntry answers.BAD-ENTRY courseFrom entryAt needed ops remove removeAt types.quadWords
+unfolding answers._then_ answers.refuseIf answers.badLimits answers.BAD-TYPES answers.badCounts lowestFrom answers.badType answers.BAD-NUMBER answers.notACube types.isCube every types.classed types.classOf types.classAt types.classOn ieee.eq ieee.ofBits ieee.lt answers.roomOf meshBy each neighbour count laid attributeIn slotted answers.badLink answers.BAD-LINKS same answers.badNeighbours answers.badSides answers.badBytes answers.badEntry answers.BAD-ENTRY courseFrom entryAt needed ops remove removeAt types.quadWords
 null-unrefused = refl
 
 pub null-idle : (k : ℕ) → k < 1 → work source (world (scene 1 2 1)) (entryAt (above 0) k) ≡ nothing
@@ -257,15 +257,15 @@ broken-example = refl
 -- ---- Sides (02, Q-6) on quads of the faces 0, 2, .., 18. Of cell 1 Top, 6, goes, and the last quad takes its place; Bottom, 7, comes; Right, 8, is there; Left, 9, and
 -- Back, 10, are kept; Forward, 11, is not there. A Null hides, and draws nothing
 
-abbrev told-sides : ℕ → Entry
-told-sides t = record { cell = 1; change = Sides; type = t; given = 1 ∷ 2 ∷ 2 ∷ 0 ∷ 0 ∷ 1 ∷ [] }
+abbrev hideAndDraw : ℕ → Entry
+hideAndDraw t = record { cell = 1; change = Sides; type = t; given = 1 ∷ 2 ∷ 2 ∷ 0 ∷ 0 ∷ 1 ∷ [] }
 
 abbrev even : List Quad
 even = table 10 (λ k. record { key = 2 * k; words = [] })
 
 -- the faces after it, how many have moved, and the room that it asks for
 abbrev sidesCase : ℕ → List (List ℕ)
-sidesCase t = let w = work source told (told-sides t) in keys (run (ops w) even) ∷ (moves (ops w) even ∷ needed w even ∷ []) ∷ []
+sidesCase t = let w = work source told (hideAndDraw t) in keys (run (ops w) even) ∷ (moves (ops w) even ∷ needed w even ∷ []) ∷ []
 
 pub sides-cases : sidesCase 1 ++ sidesCase 0
     ≡ (0 ∷ 2 ∷ 4 ∷ 18 ∷ 8 ∷ 10 ∷ 12 ∷ 14 ∷ 16 ∷ 7 ∷ []) ∷ (1 ∷ 10 ∷ [])
@@ -288,17 +288,17 @@ digAndFill =
     ∷ 0 ∷ 0 ∷ 0 ∷ 0 ∷ 1 ∷ 1 ∷ 255 ∷ 255 ∷ 1 ∷ 255 ∷ 255 ∷ 255 ∷ []
 
 pub no-room-case : tightly digAndFill ≡ record { number = 14; place = 1; quads = 6; moved = 14 }
-unfolding answers._then_ answers.refuseIf answers.badLimits answers.BAD-TYPES answers.badCounts lowestFrom answers.badType answers.BAD-NUMBER answers.notACube types.isCube every types.classed types.classOf types.classAt types.classOn ieee.eq ieee.ofBits ieee.lt answers.roomOf meshBy each neighbour count laid attributeIn slotted answers.badLink answers.BAD-LINKS same answers.badSides answers.badEntry answers.BAD-ENTRY courseFrom entryAt needed ops remove removeAt types.quadWords
+unfolding answers._then_ answers.refuseIf answers.badLimits answers.BAD-TYPES answers.badCounts lowestFrom answers.badType answers.BAD-NUMBER answers.notACube types.isCube every types.classed types.classOf types.classAt types.classOn ieee.eq ieee.ofBits ieee.lt answers.roomOf meshBy each neighbour count laid attributeIn slotted answers.badLink answers.BAD-LINKS same answers.badNeighbours answers.badSides answers.badBytes answers.badEntry answers.BAD-ENTRY courseFrom entryAt needed ops remove removeAt types.quadWords
 no-room-case = refl
 
 -- ---- Sides of cell 0 in the same room: Top goes and Right comes; Right alone finds no room; a byte of 3 and a code 3 are refused
 
-abbrev said : ℕ → ℕ → ℕ → List ℕ
-said change top right = 0 ∷ 0 ∷ 0 ∷ 0 ∷ change ∷ 1 ∷ top ∷ 0 ∷ right ∷ 0 ∷ 0 ∷ 0 ∷ []
+abbrev topAndRight : ℕ → ℕ → ℕ → List ℕ
+topAndRight change top right = 0 ∷ 0 ∷ 0 ∷ 0 ∷ change ∷ 1 ∷ top ∷ 0 ∷ right ∷ 0 ∷ 0 ∷ 0 ∷ []
 
-pub sides-answers : tightly (said 2 1 2) ∷ tightly (said 2 0 2) ∷ tightly (said 2 0 3) ∷ tightly (said 3 0 2) ∷ []
+pub sides-answers : tightly (topAndRight 2 1 2) ∷ tightly (topAndRight 2 0 2) ∷ tightly (topAndRight 2 0 3) ∷ tightly (topAndRight 3 0 2) ∷ []
     ≡ answered 10 1 ∷ record { number = 14; place = 0; quads = 10; moved = 0 } ∷ refused 13 0 ∷ refused 13 0 ∷ []
-unfolding answers._then_ answers.refuseIf answers.badLimits answers.BAD-TYPES answers.badCounts lowestFrom answers.badType answers.BAD-NUMBER answers.notACube types.isCube every types.classed types.classOf types.classAt types.classOn ieee.eq ieee.ofBits ieee.lt answers.roomOf meshBy each neighbour count laid attributeIn slotted answers.badLink answers.BAD-LINKS same answers.badSides answers.badEntry answers.BAD-ENTRY courseFrom entryAt needed ops remove removeAt types.quadWords
+unfolding answers._then_ answers.refuseIf answers.badLimits answers.BAD-TYPES answers.badCounts lowestFrom answers.badType answers.BAD-NUMBER answers.notACube types.isCube every types.classed types.classOf types.classAt types.classOn ieee.eq ieee.ofBits ieee.lt answers.roomOf meshBy each neighbour count laid attributeIn slotted answers.badLink answers.BAD-LINKS same answers.badNeighbours answers.badSides answers.badBytes answers.badEntry answers.BAD-ENTRY courseFrom entryAt needed ops remove removeAt types.quadWords
 sides-answers = refl
 
 -- ---- the program's example
@@ -330,5 +330,5 @@ output =
     ++ line 0 1 5 ++ line 1 1 4 ++ line 2 1 0 ++ line 3 1 1 ++ line 4 1 2 ++ line 5 1 3
 
 pub program-example : printed file ≡ output
-unfolding file answers._then_ answers.refuseIf printed badFile digits buildFrom cubeWords cube.cubeWord cube.cornerWord cube.uvWord cube.uvOf cube.uvIn cube.lastNaming cube.corners cube.uvEnds cube.axes ieee.toBits ieee.sub ieee.div ieee.mul ieee.ofInt answers.badAtlas answers.BAD-TEXTURE types.quadWords types.quadWord types.order types.movedWord answers.badLimits answers.BAD-TYPES answers.badCounts lowestFrom answers.badType answers.BAD-NUMBER answers.notACube types.isCube every count types.classed types.classOf types.classAt types.classOn ieee.eq ieee.ofBits ieee.lt answers.roomOf meshBy each neighbour laid attributeIn slotted answers.badLink answers.BAD-LINKS same answers.badSides answers.badEntry answers.BAD-ENTRY courseFrom entryAt needed ops remove removeAt
+unfolding file answers._then_ answers.refuseIf printed badFile digits buildFrom cubeWords cube.cubeWord cube.cornerWord cube.uvWord cube.uvOf cube.uvIn cube.lastNaming cube.corners cube.uvEnds cube.axes ieee.toBits ieee.sub ieee.div ieee.mul ieee.ofInt answers.badAtlas answers.BAD-TEXTURE types.quadWords types.quadWord types.order types.movedWord answers.badLimits answers.BAD-TYPES answers.badCounts lowestFrom answers.badType answers.BAD-NUMBER answers.notACube types.isCube every count types.classed types.classOf types.classAt types.classOn ieee.eq ieee.ofBits ieee.lt answers.roomOf meshBy each neighbour laid attributeIn slotted answers.badLink answers.BAD-LINKS same answers.badNeighbours answers.badSides answers.badBytes answers.badEntry answers.BAD-ENTRY courseFrom entryAt needed ops remove removeAt
 program-example = refl

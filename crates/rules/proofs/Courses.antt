@@ -13,7 +13,7 @@ use borrow.Author.Tests.{leb-true}
 use Rattle.rules.specs.Lists.{each, only}
 use Rattle.rules.specs.Cells.{cells, opposite, neighbour, keyOf}
 use Rattle.rules.specs.Mesh.{Quad, World, isNormalCube, covering, meshBy, quadsBy, typeAt, there, placeOf, quadOf}
-use Rattle.rules.specs.Update.{Change, Broken, Added, Sides, Entry, givenAt, blank, draw, shifts, removeAt, remove, moved, Op, put, cut, step, run, moves, highest, Work, Tested, quads, hide, reveal, all, isOpen, toHide, toDraw, nothing, added, workBy, work, cuts, puts, ops, needed, Course, courseFrom, meshAfter, emptyType, gridBy, gridAfter, gridLog, Honest, Mends, AddsAlike}
+use Rattle.rules.specs.Update.{Change, Broken, Added, Sides, Entry, givenAt, blank, draw, shifts, removeAt, remove, moved, Op, put, cut, step, run, moves, highest, Work, Tested, quads, hide, reveal, all, isOpen, toHide, draws, nothing, added, workBy, work, cuts, puts, ops, needed, Course, courseFrom, meshAfter, emptyType, gridBy, gridAfter, gridLog, Honest, Mends, AddsAlike}
 use Rattle.rules.proofs.ListLaws.{All, all-append, all-take, all-drop, all-at, all-each, all-only, split, each-few}
 use Rattle.rules.proofs.Neighbours.{beside, opposite-lt}
 use Rattle.rules.proofs.Quads.{Once, placed, moved-le, length-removeAt, run-append, run-once}
@@ -185,7 +185,7 @@ module _ (W : World) (snd : Sound W) (s : ℕ) (sized : (t f c : ℕ) → length
   fits-new tested e h Added =
       split (λ t. All (Fits (6 * cells (W .size)) s) ((cond t (added tested W e) nothing) .new)) (isNormalCube W (e .type))
       (λ x. fits-quads (e .type) (e .cell) (isOpen W e) h) (λ x. tt)
-  fits-new tested e h Sides = fits-quads (e .type) (e .cell) (λ f. isNormalCube W (e .type) && toDraw e f) h
+  fits-new tested e h Sides = fits-quads (e .type) (e .cell) (draws W e) h
 
 -- ---- a log
 

@@ -11,7 +11,7 @@ use borrow.Author.Tests.{eqb-true, le-leb, leb-true}
 use Rattle.rules.specs.Lists.{each, only, isNil, count}
 use Rattle.rules.specs.Cells.{keyOf}
 use Rattle.rules.specs.Mesh.{Quad, World, Lists, isNormalCube, at, there, quadOf, decode}
-use Rattle.rules.specs.Update.{Change, Broken, Added, Sides, Entry, givenAt, entryAt, outside, toHide, toDraw, Op, put, cut, run, moves, highest, Work, Tested, sides, quads, nothing, sided, workBy, work, cuts, puts, ops, needed, hiddenThere, drawnMissing, Course, courseFrom}
+use Rattle.rules.specs.Update.{Change, Broken, Added, Sides, Entry, givenAt, entryAt, outside, toHide, toDraw, Op, put, cut, run, moves, highest, Work, Tested, quads, nothing, draws, sided, workBy, work, cuts, puts, ops, needed, hiddenThere, drawnMissing, Course, courseFrom}
 use Rattle.rules.specs.Answers.{fine}
 use Rattle.rules.specs.Calls.{Scene, world, room, entriesOf, updateBy, updateMesh}
 use Rattle.rules.specs.Former.{Former, stayed, cullFaces, addFaces, withGiven, formerWork, giving, pairBy, pairs, formerWorks, formerUpdate, sidesOf, asSides}
@@ -61,12 +61,12 @@ as-sides tested W (stayed e) = refl
 as-sides tested W (cullFaces e) =
     let gone = picked (keyOf (e .cell)) (toHide (sidesOf 1 e)) (withGiven e) (said 1 1 e refl) in
     let come =
-    none-picked (quadOf W (e .type) (e .cell)) (λ f. isNormalCube W (e .type) && toDraw (sidesOf 1 e) f)
+    none-picked (quadOf W (e .type) (e .cell)) (draws W (sidesOf 1 e))
     (λ f l. ap (λ (b : Bool). isNormalCube W (e .type) && b) (said 1 2 e refl f l) ∙ and-false (isNormalCube W (e .type))) in
     λ i. record { own = gone i; new = come i; facing = [] }
 as-sides tested W (addFaces e) =
     let gone = none-picked (keyOf (e .cell)) (toHide (sidesOf 2 e)) (said 2 1 e refl) in
-    (λ i. record { own = gone i; new = quads W (e .type) (e .cell) (λ f. isNormalCube W (e .type) && toDraw (sidesOf 2 e) f); facing = [] })
+    (λ i. record { own = gone i; new = quads W (e .type) (e .cell) (draws W (sidesOf 2 e)); facing = [] })
     ∙ sym (drawn-by tested W e (toDraw (sidesOf 2 e)) (λ f l. sym (said 2 2 e refl f l)))
 
 -- ---- one after the other
@@ -249,8 +249,8 @@ pub sides-room : (W : World) (e : Entry) (m : List Quad) → Once m → needed (
 unfolding needed
 sides-room W e m once =
     let hid = own-count cut (keyOf (e .cell)) true (λ f l. omega arith) (λ f. refl) (toHide e) m once in
-    let drew = own-count put (quadOf W (e .type) (e .cell)) false (λ f l. omega arith) (λ f. refl) (λ f. isNormalCube W (e .type) && toDraw e f) left (run-once (cuts ((sided W e) .own)) m once) in
-    omega (arith, hid, drew, count-same 6 (λ f. isNormalCube W (e .type) && toDraw e f && not (there (keyOf (e .cell) f) left)) (λ f. isNormalCube W (e .type) && toDraw e f && not (there (keyOf (e .cell) f) m)) (λ f l. still f l (toDraw e f) refl))
+    let drew = own-count put (quadOf W (e .type) (e .cell)) false (λ f l. omega arith) (λ f. refl) (draws W e) left (run-once (cuts ((sided W e) .own)) m once) in
+    omega (arith, hid, drew, count-same 6 (λ f. draws W e f && not (there (keyOf (e .cell) f) left)) (λ f. draws W e f && not (there (keyOf (e .cell) f) m)) (λ f l. still f l (toDraw e f) refl))
   where
     left : List Quad
     left = run (cuts ((sided W e) .own)) m

@@ -1,4 +1,4 @@
--- What 01 works by hand, by computing; then the laws, leaves first.
+-- What is worked by hand, by computing; then the laws, leaves first.
 pub mod Abacus
 pub mod ListLaws
 pub mod Rows

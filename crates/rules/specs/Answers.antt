@@ -1,4 +1,4 @@
--- 01, "Limits and answers": the refusals, each with its condition and its place. Definitions only.
+-- 01, "Limits and answers"; 02, Q-6 and Q-8: the refusals, each with its condition and its place. Definitions only.
 use Prim.Native.Nat.{ℕ, _+_, _-_, _*_, _/_, _%_, min}
 use mathlib.Core.Bool.{Bool, cond, not, _&&_, _||_}
 use mathlib.Core.List.{List}
@@ -148,16 +148,19 @@ BAD-TRIANGLES B Q = refuseLowest 12 Q (λ q. not (same (row 6 (B .triangles) q) 
 abbrev pub badNeighbour : ℕ → ℕ → Bool
 badNeighbour types t = leb types t && not (eqb t 255)
 
-abbrev pub badSide : ℕ → ℕ → ℕ → Bool
-badSide types change byte = cond (eqb change 2) (ltb 2 byte) (badNeighbour types byte)
+-- of the six bytes of the entry that starts at `at` one is bad: as neighbours, or in Sides as side bytes
+unfoldable pub badNeighbours : ℕ → List ℕ → ℕ → Bool
+badNeighbours types log at = not (every 6 (λ f. not (badNeighbour types (getD log (at + (6 + f)) 0))))
 
--- one of the six bytes of the entry that starts at `at`
-unfoldable pub badSides : ℕ → List ℕ → ℕ → Bool
-badSides types log at = not (every 6 (λ f. not (badSide types (getD log (at + 4) 0) (getD log (at + (6 + f)) 0))))
+unfoldable pub badSides : List ℕ → ℕ → Bool
+badSides log at = not (every 6 (λ f. not (ltb 2 (getD log (at + (6 + f)) 0))))
+
+unfoldable pub badBytes : ℕ → List ℕ → ℕ → Bool
+badBytes types log at = cond (eqb (getD log (at + 4) 0) 2) (badSides log at) (badNeighbours types log at)
 
 unfoldable pub badEntry : ℕ → ℕ → List ℕ → ℕ → Bool
 badEntry cells types log k =
-    leb 16777216 k || leb cells (u32At log (12 * k)) || ltb 2 (getD log (12 * k + 4) 0) || leb types (getD log (12 * k + 5) 0) || badSides types log (12 * k)
+    leb 16777216 k || leb cells (u32At log (12 * k)) || ltb 2 (getD log (12 * k + 4) 0) || leb types (getD log (12 * k + 5) 0) || badBytes types log (12 * k)
 
 unfoldable pub BAD-ENTRY : ℕ → ℕ → List ℕ → Verdict
 BAD-ENTRY cells types log =

@@ -9,7 +9,7 @@ use Rattle.rules.specs.Update.{Change, Broken, Added, Sides, Entry, give
 use Rattle.rules.specs.Answers.{fine}
 use Rattle.rules.specs.Calls.{Scene, Outcome, world, room, updateBy}
 
--- a former entry: one that has stayed as it was, or one of the two that have gone
+-- a former entry: Broken or Added, which have stayed, or one of the two that have gone, whose `change` is not looked at
 pub data Former : Type 0 where
   stayed : Entry → Former
   cullFaces addFaces : Entry → Former

@@ -39,14 +39,14 @@ entryAt log k =
       given = part (12 * k + 6) 6 log;
     }
 
--- a neighbour is either outside (255) or a voxel of a type
+-- a neighbour is either outside (255) or a voxel of a type; in Sides the six bytes are none (02, Q-6)
 abbrev pub givenAt : Entry → ℕ → ℕ
 givenAt e f = getD (e .given) f 255
 
 abbrev pub outside : ℕ → Bool
 outside t = eqb t 255
 
--- the six neighbour bytes of Sides say 0 keep, 1 hide, 2 draw (02, Q-6)
+-- the six neighbour bytes of Sides say 0 keep, 1 hide, 2 draw
 abbrev pub toHide : Entry → ℕ → Bool
 toHide e f = eqb (givenAt e f) 1
 
@@ -170,9 +170,13 @@ broken W e =
       facing = [];
     }
 
--- hiding comes first, then drawing, both in face order (02, Q-6); what is no NormalCube draws nothing
+-- a NormalCube draws the sides that are to be drawn, another type none
+abbrev pub draws : World → Entry → ℕ → Bool
+draws W e f = isNormalCube W (e .type) && toDraw e f
+
+-- hiding comes first, then drawing, both in face order (02, Q-6)
 abbrev pub sided : World → Entry → Work
-sided W e = record { own = sides (e .cell) (toHide e); new = quads W (e .type) (e .cell) (λ f. isNormalCube W (e .type) && toDraw e f); facing = [] }
+sided W e = record { own = sides (e .cell) (toHide e); new = quads W (e .type) (e .cell) (draws W e); facing = [] }
 
 abbrev pub workBy : Tested → World → Entry → Change → Work
 workBy tested W e Broken = broken W e
@@ -200,7 +204,7 @@ abbrev pub hiddenThere : Entry → List Quad → ℕ
 hiddenThere e m = count 6 (λ f. toHide e f && there (keyOf (e .cell) f) m)
 
 abbrev pub drawnMissing : World → Entry → List Quad → ℕ
-drawnMissing W e m = count 6 (λ f. isNormalCube W (e .type) && toDraw e f && not (there (keyOf (e .cell) f) m))
+drawnMissing W e m = count 6 (λ f. draws W e f && not (there (keyOf (e .cell) f) m))
 
 -- ---- a log, in order, until an entry finds no room
 

@@ -10,7 +10,7 @@ use Rattle.rules.specs.Lists.{each, only}
 use Rattle.rules.specs.Cells.{Size, opposite, neighbour, keyOf, has, setOf}
 use Rattle.rules.specs.Mesh.{Quad, World, isNormalCube, covering, quadOf}
 use Rattle.rules.specs.Update as rule
-use Rattle.rules.specs.Update.{Entry, Change, Tested, Broken, Added, Sides, Op, put, cut, run, cuts, puts, ops, needed, givenAt, sides, quads, all, isOpen, toHide, toDraw, reveal, nothing, added, workBy, work}
+use Rattle.rules.specs.Update.{Entry, Change, Tested, Broken, Added, Sides, Op, put, cut, run, cuts, puts, ops, needed, givenAt, sides, quads, all, isOpen, toHide, toDraw, draws, reveal, nothing, added, workBy, work}
 use Rattle.rules.proofs.Sets.{zero-has, has-setOf}
 use Rattle.rules.proofs.Neighbours.{opposite-lt}
 use Rattle.rules.proofs.ListLaws.{split, and-true, map-each, each-same}
@@ -104,7 +104,7 @@ module _ (W : World) (e : Entry) where
   by-change tested Sides =
       record {
         own = own-cut _ (toHide e) (has-setOf (toHide e));
-        new = λ i. idle 1 i ++ own-put (λ f. isNormalCube W (e .type) && toDraw e f) i;
+        new = λ i. idle 1 i ++ own-put (draws W e) i;
         facing = idle 3;
       }
 
@@ -148,5 +148,5 @@ module _ (W : World) (e : Entry) where
       go Sides =
           record {
             shown = λ i l h. nothing-in i h;
-            drawn = λ i l h. and-true (isNormalCube W (e .type)) (toDraw e i) (sym (has-setOf (λ f. isNormalCube W (e .type) && toDraw e f) i l) ∙ h) .0;
+            drawn = λ i l h. and-true (isNormalCube W (e .type)) (toDraw e i) (sym (has-setOf (draws W e) i l) ∙ h) .0;
           }

@@ -41,16 +41,16 @@ module _ (e : Entry) (f : ℕ) (W : World) where
   pub open-voxel : {v k c : ℕ} {b : Bool} → neighbourOf (givenAt e f) ≡ Voxel v → b ≡ has c k → c ≡ getD (W .covers) v 0 → k ≡ opposite f → not b ≡ isOpen W e f
   open-voxel {v} n b c k = rw (given-voxel (givenAt e f) v n .0, given-voxel (givenAt e f) v n .1, b, c, k)
 
--- what is told of a side, by its byte
-abbrev pub tellsOf : Bool → Side → Bool
-tellsOf draws Keep = false
-tellsOf draws Hide = not draws
-tellsOf draws Draw = draws
+-- whether a side is to be drawn; or to be hidden
+abbrev pub wants : Bool → Side → Bool
+wants draws Keep = false
+wants draws Hide = not draws
+wants draws Draw = draws
 
-pub tells-is : (draws : Bool) (n : ℕ) → tellsOf draws (sideOf n) ≡ cond draws (eqb n 2) (eqb n 1)
-tells-is draws n = go (eqb n 1) (eqb n 2) draws (λ e. ap (λ (k : ℕ). eqb k 2) (eqb-true n 1 e))
+pub wants-is : (draws : Bool) (n : ℕ) → wants draws (sideOf n) ≡ cond draws (eqb n 2) (eqb n 1)
+wants-is draws n = go (eqb n 1) (eqb n 2) draws (λ e. ap (λ (k : ℕ). eqb k 2) (eqb-true n 1 e))
   where
-    go : (a b d : Bool) → (a ≡ true → b ≡ false) → tellsOf d (cond a Hide (cond b Draw Keep)) ≡ cond d b a
+    go : (a b d : Bool) → (a ≡ true → b ≡ false) → wants d (cond a Hide (cond b Draw Keep)) ≡ cond d b a
     go true true d z = absurd (true≢false (z refl))
     go true false true z = refl
     go true false false z = refl

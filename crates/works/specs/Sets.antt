@@ -9,7 +9,7 @@ use lib.Dec.{eqb, ltb}
 use Rattle.rules.specs.Lists.{each, only, table}
 use Rattle.rules.specs.Cells.{Size, opposite, neighbour, keyOf, has, setOf}
 use Rattle.rules.specs.Mesh.{Quad, World, NONE, isNormalCube, covering}
-use Rattle.rules.specs.Update.{Entry, Change, Broken, Added, Sides, Tested, givenAt, toHide, toDraw, isOpen}
+use Rattle.rules.specs.Update.{Entry, Change, Broken, Added, Sides, Tested, givenAt, toHide, draws, isOpen}
 use Rattle.steps.specs.Steps.{Deed, show, hide, quadBy}
 use Rattle.works.specs.declared.Work.{Work}
 
@@ -27,15 +27,11 @@ noWork = sets 0 0 0 0
 abbrev pub isShown : List ℕ → ℕ → Entry → ℕ → Bool
 isShown kinds cover e i = has cover i && eqb (getD kinds (givenAt e i) 0) 1
 
--- Sides draws side f, or hides it
-abbrev pub isTold : Bool → Entry → ℕ → Bool
-isTold draws e f = cond draws (toDraw e f) (toHide e f)
-
 -- ---- the four sets of each change
 abbrev pub meantBy : Tested → World → Entry → Change → Work
 meantBy tested W e Broken = sets 63 (setOf (isShown (W .kinds) (getD (W .covers) (e .type) 0) e)) 0 0
 meantBy tested W e Added = cond (isNormalCube W (e .type)) (sets 63 0 (setOf (isOpen W e)) (setOf (λ i. covering W (e .type) (tested i)))) noWork
-meantBy tested W e Sides = sets (setOf (toHide e)) 0 (setOf (λ f. isNormalCube W (e .type) && toDraw e f)) 0
+meantBy tested W e Sides = sets (setOf (toHide e)) 0 (setOf (draws W e)) 0
 
 -- the types alone decide it
 abbrev pub meant : Tested → World → Entry → Work

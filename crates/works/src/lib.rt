@@ -23,17 +23,18 @@ ghost use Prim.Native.Nat.{ℕ, _+_, _*_, _/_, _%_, _<_};
 ghost use lib.ListN.{getD};
 ghost use Rattle.rules.specs.Cells as rule;
 ghost use Rattle.rules.specs.Cells.{cells, coordinates, neighbour, setOf};
-ghost use Rattle.rules.specs.Update.{givenAt, isOpen};
+ghost use Rattle.rules.specs.Update.{givenAt, toHide, toDraw, isOpen};
 ghost use Rattle.face.specs.Face.{number};
 ghost use Rattle.util.specs.Grid.{sizeOf, tripleOf, Within, Inverts};
 ghost use Rattle.entries.specs.Log.{entryIn};
 ghost use Rattle.terms.specs.Modes.{testedBy};
-ghost use Rattle.works.specs.Sets.{typesBy, isShown, isTold, sets, noWork, meant, setIn, packed, keyOr, keysAround, cutting, typeDrawn};
+ghost use Rattle.works.specs.Sets.{typesBy, isShown, sets, noWork, meant, setIn, packed, keyOr, keysAround, cutting, typeDrawn};
 
 // All six sides.
 const ALL_SIDES: u8 = 63;
 
-// Side sets, done in this order: own sides cut, neighbours' facing sides drawn, own sides drawn, neighbours' facing sides cut.
+// Side sets, done in this order: own sides cut, neighbours' facing sides drawn, own sides drawn, neighbours' facing sides cut. What Sides hides is cut
+// as own.
 pub struct Work {
     pub own: u8,
     pub shown: u8,
@@ -77,28 +78,49 @@ fn is_shown(kinds: &[u8], cover: u8, entry: Entry, face: Face) -> bool
     has(cover, face) & (code_of(kinds, given(entry, face.number())) == 1)
 }
 
-// Whether Sides draws this side; or whether it hides it.
-fn is_told(entry: Entry, draws: bool, face: Face) -> bool
-    ensures { λ r. ⌜ r ≡ isTold draws (entryIn entry) (number face) ⌝ }
+fn to_hide(entry: Entry, face: Face) -> bool
+    ensures { λ r. ⌜ r ≡ toHide (entryIn entry) (number face) ⌝ }
 {
     match entry.side(face) {
         Side::Keep => false,
-        Side::Hide => !draws,
-        Side::Draw => draws,
+        Side::Hide => true,
+        Side::Draw => false,
     }
 }
 
-// The sides that Sides draws or hides, where `on`.
-fn told_sides(entry: Entry, on: bool, draws: bool) -> u8
-    ensures { λ r. ⌜ r ≡ setOf (λ f. on && isTold draws (entryIn entry) f) ⌝ }
+fn to_draw(entry: Entry, face: Face) -> bool
+    ensures { λ r. ⌜ r ≡ toDraw (entryIn entry) (number face) ⌝ }
+{
+    match entry.side(face) {
+        Side::Keep => false,
+        Side::Hide => false,
+        Side::Draw => true,
+    }
+}
+
+fn sides_to_hide(entry: Entry) -> u8
+    ensures { λ r. ⌜ r ≡ setOf (toHide (entryIn entry)) ⌝ }
 {
     side_set(
-        on & is_told(entry, draws, Face::Top),
-        on & is_told(entry, draws, Face::Bottom),
-        on & is_told(entry, draws, Face::Right),
-        on & is_told(entry, draws, Face::Left),
-        on & is_told(entry, draws, Face::Back),
-        on & is_told(entry, draws, Face::Forward),
+        to_hide(entry, Face::Top),
+        to_hide(entry, Face::Bottom),
+        to_hide(entry, Face::Right),
+        to_hide(entry, Face::Left),
+        to_hide(entry, Face::Back),
+        to_hide(entry, Face::Forward),
+    )
+}
+
+fn sides_to_draw(cube: bool, entry: Entry) -> u8
+    ensures { λ r. ⌜ r ≡ setOf (λ f. cube && toDraw (entryIn entry) f) ⌝ }
+{
+    side_set(
+        cube & to_draw(entry, Face::Top),
+        cube & to_draw(entry, Face::Bottom),
+        cube & to_draw(entry, Face::Right),
+        cube & to_draw(entry, Face::Left),
+        cube & to_draw(entry, Face::Back),
+        cube & to_draw(entry, Face::Forward),
     )
 }
 
@@ -181,8 +203,8 @@ pub fn work_of(kinds: &[u8], covers: &[u8], tested: Tested, entry: Entry) -> Wor
             work_if(cube, ALL_SIDES, 0, open, hidden_sides(tested, cover))
         }
         VoxelChange::Sides => {
-            let drawn = told_sides(entry, cube, true);
-            work_if(true, told_sides(entry, true, false), 0, drawn, 0)
+            let drawn = sides_to_draw(cube, entry);
+            work_if(true, sides_to_hide(entry), 0, drawn, 0)
         }
     }
 }

@@ -1,24 +1,25 @@
-use mathlib.Core.Path.{_≡_, refl, ap, _∙_}
-use mathlib.Core.Bool.{Bool, not, _&&_}
+use mathlib.Core.Path.{_≡_, refl, ap}
+use mathlib.Core.Bool.{Bool, not}
 use mathlib.Core.List.{List}
 use Prim.Native.Nat.{ℕ, _+_, _-_, _≤_}
 use lib.ListN.{getD}
+use lib.Dec.{ltb}
 use Rattle.rules.specs.Lists.{every}
-use Rattle.rules.specs.Answers.{badSide, badSides}
+use Rattle.rules.specs.Answers.{badSides}
 use Rattle.entries.proofs.Entries.{every-more}
 use native.Mathlib.Omega.{arith}
 use borrow.Author.Needs.{needs}
 use Rattle.entries.proofs.bad_sides.Statement.{statement}
 use Rattle.entries.proofs.bad_sides.Tie as tie
 
-abbrev isGood : List ℕ → ℕ → ℕ → ℕ → Bool
-isGood log at types f = not (badSide types (getD log (at + 4) 0) (getD log (at + (6 + f)) 0))
+abbrev isGood : List ℕ → ℕ → ℕ → Bool
+isGood log at f = not (ltb 2 (getD log (at + (6 + f)) 0))
 
 abbrev Inv-loop : tie.InvT-loop
-Inv-loop log at types sides good₀ f₀ good f = (f ≤ 6) × (good ≡ every f (isGood log at types))
+Inv-loop log at good₀ f₀ good f = (f ≤ 6) × (good ≡ every f (isGood log at))
 
 abbrev μ-loop : tie.MeasureT-loop
-μ-loop log at types sides good₀ f₀ good f = 6 - f
+μ-loop log at good₀ f₀ good f = 6 - f
 
 loop-holds : tie.Need-loop-holds Inv-loop μ-loop
 unfolding every
@@ -27,9 +28,9 @@ loop-holds c = (omega arith, refl)
 loop-again : tie.Need-loop-again Inv-loop μ-loop
 loop-again c =
     let l = c .before .before .before .loop in
-    let a = c .before .before .before .before .before .before .args in
-    let b = c .bad-side .ensures in
-    (omega arith, (λ i. l .inv .1 i && not (b i)) ∙ every-more (l .f) (isGood (a .log .now) (a .at) (a .types)))
+    let a = c .before .before .before .before .before .args in
+    let p = isGood (a .log .now) (a .at) in
+    (omega arith, cc (every-more (l .f) p))
 
 returns : tie.Need-returns Inv-loop μ-loop
 unfolding badSides
@@ -40,5 +41,5 @@ returns c =
 pub bad-sides-spec : {M : Type 1} → statement M
 bad-sides-spec =
     tie.close
-    (tie.spec Inv-loop μ-loop (λ c. search needs) (λ c. search needs) loop-holds (λ c. search needs) (λ c. search needs) (λ c. search needs) (λ c κs. search needs) (λ c. search needs)
+    (tie.spec Inv-loop μ-loop loop-holds (λ c. search needs) (λ c. search needs) (λ c. search needs) (λ c κs. search needs) (λ c. search needs)
     (λ c. search needs) loop-again returns)

@@ -49,9 +49,8 @@ returns-3 c =
     let cube = told .before .before .before in
     let t = cube .before .before .before in
     let on = ap (λ (n : ℕ). eqb n 1) (cube .code-of .ensures) in
-    c .work-if3 .ensures
-    ∙ (λ i. sets (hidden .told-sides2 .ensures i) 0 ((drawn .told-sides .ensures ∙ (λ j. setOf (λ f. on j && toDraw (entryIn (t .args .entry)) f))) i) 0)
-    ∙ by t (ap changeIn (told .enum-told3 .given .1))
+    let new = drawn .sides-to-draw .ensures ∙ (λ i. setOf (λ f. on i && toDraw (entryIn (t .args .entry)) f)) in
+    c .work-if3 .ensures ∙ (λ i. sets (hidden .sides-to-hide .ensures i) 0 (new i) 0) ∙ by t (ap changeIn (told .enum-told3 .given .1))
 
 pub work-of-spec : {M : Type 1} → statement M
 work-of-spec =
