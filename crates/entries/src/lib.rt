@@ -34,10 +34,14 @@ pub struct Entry {
     pub cell: Cell,
     pub change: VoxelChange,
     pub voxel: u8,
+    // By face; in Sides what becomes of the cell's own sides.
     pub neighbours: [u8; 6],
 }
 
 impl VoxelChange {
+    // Its code, which is the highest.
+    pub const SIDES: u8 = 2;
+
     pub fn from_u8(code: u8) -> VoxelChange
         ensures { λ r. ⌜ changeIn r ≡ changeOf code ⌝ }
     {
@@ -176,7 +180,7 @@ fn bad_bytes(log: &[u8], at: usize, types: u32) -> bool
     requires { ⌜ at + 12 ≤ length (now log) ⌝ }
     ensures { λ r. ⌜ r ≡ badBytes types (now (log .entry)) at ⌝ }
 {
-    if log[at + 4] == 2 {
+    if log[at + 4] == VoxelChange::SIDES {
         return bad_sides(log, at);
     }
     bad_neighbours(log, at, types)
@@ -189,7 +193,7 @@ fn bad_entry(log: &[u8], k: usize, cells: u32, types: u32) -> bool
     let at = Entry::BYTES * k;
     (Entry::MOST <= k)
         | (cells <= u32_at(log, at))
-        | (2 < log[at + 4])
+        | (VoxelChange::SIDES < log[at + 4])
         | (types <= wide_byte(log[at + 5]))
         | bad_bytes(log, at, types)
 }
