@@ -1,5 +1,5 @@
 -- Laws of log entries. Assumes nothing.
-use mathlib.Core.Path.{_≡_, refl, sym, ap}
+use mathlib.Core.Path.{_≡_, refl, sym, ap, _∙_}
 use mathlib.Core.Logic.{_≢_}
 use mathlib.Core.Bool.{Bool, true, false, not, _&&_}
 use mathlib.Core.List.{List, [], _∷_}
@@ -58,6 +58,10 @@ six at xs h =
 -- the neighbour given at a face
 pub given-is : (e : Entry) (f : ℕ) → f < 6 → rule.givenAt (entryIn e) f ≡ getD (e .neighbours) f 0
 given-is e f l = getD-table (λ k. getD (e .neighbours) k 0) 6 f 255 l
+
+-- read at a number that is the face's
+pub read-is : (e : Entry) {n f : ℕ} → n ≡ f → f < 6 → rule.givenAt (entryIn e) f ≡ getD (e .neighbours) n 0
+read-is e {n} {f} same l = given-is e f l ∙ sym (ap (λ (k : ℕ). getD (e .neighbours) k 0) same)
 
 -- ---- a search: the next one is bad, or not
 pub lowest-here : (i n : ℕ) (bad : ℕ → Bool) → i < n → bad i ≡ true → lowestFrom i (n - i) bad ≡ i

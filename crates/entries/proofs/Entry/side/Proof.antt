@@ -6,7 +6,7 @@ use Rattle.rules.specs.Update.{givenAt}
 use Rattle.face.specs.Face.{number}
 use Rattle.face.proofs.Laws.{number-below}
 use Rattle.entries.specs.Log.{entryIn, sideOf}
-use Rattle.entries.proofs.Entries.{given-is, side-kept}
+use Rattle.entries.proofs.Entries.{read-is, side-kept}
 use borrow.Author.Needs.{needs}
 use Rattle.entries.proofs.Entry.side.Statement.{statement}
 use Rattle.entries.proofs.Entry.side.Tie as tie
@@ -19,7 +19,7 @@ abbrev byte : tie.After-number → ℕ
 byte c = getD (c .before .args .t1 .neighbours) (c .number .result) 0
 
 is-given : (c : tie.After-number) → givenAt (entryIn (c .before .args .t1)) (number (c .before .args .face)) ≡ byte c
-is-given c = let a = c .before .args in given-is (a .t1) (number (a .face)) (number-below (a .face)) ∙ sym (ap (λ (f : ℕ). getD (a .t1 .neighbours) f 0) (c .number .ensures))
+is-given c = let a = c .before .args in read-is (a .t1) (c .number .ensures) (number-below (a .face))
 
 returns : tie.Need-returns
 returns c = let r = c .before .before in let k : byte r ≡ 1 = c .match .keys1 in sym (ap sideOf (is-given r ∙ k))
