@@ -1,4 +1,4 @@
--- 01, "Meshes worked by hand": the ten cases as one table, the two of them that the new mode of 02, Q-2, puts right as another, Sides of Q-6, rooms that are short, and the
+-- 01, "Meshes worked by hand": the ten cases as one table, the two of them that the new mode of 02, Q-2, puts right as another, Sides of Q-6, Replaced of Q-7, rooms that are short, and the
 -- program's example. Proved by computing. By its name it is the first file to be checked, so that a wrong rule is refused at a wrong number. Assumes nothing.
 use mathlib.Core.Path.{_≡_, refl}
 use mathlib.Core.Bool.{Bool, true, false}
@@ -12,8 +12,8 @@ use Rattle.rules.specs.Cells.{Triple, neighbour, linkWord}
 use Rattle.rules.specs.Types as types
 use Rattle.rules.specs.Cube as cube
 use Rattle.rules.specs.Cube.{Shape, cubeWords}
-use Rattle.rules.specs.Mesh.{Quad, World, attributeIn, Lists, meshBy, laid, slotted}
-use Rattle.rules.specs.Update.{Entry, Broken, Sides, removeAt, remove, entryAt, Tested, source, itself, work, nothing, ops, run, moves, needed, courseFrom}
+use Rattle.rules.specs.Mesh.{Quad, World, attributeIn, Lists, meshBy, culled, laid, slotted}
+use Rattle.rules.specs.Update.{Entry, Broken, Sides, Replaced, removeAt, remove, entryAt, Tested, source, itself, work, nothing, ops, run, moves, needed, courseFrom}
 use Rattle.rules.specs.Answers as answers
 use Rattle.rules.specs.Answers.{fine}
 use Rattle.rules.specs.Calls.{Scene, Outcome, Answer, answered, refused, world, wordsIn, meshGrid, updateVerdict, updateMesh}
@@ -112,7 +112,7 @@ quadsIn o = o .answer .quads
 
 -- Added above a cube, h = 2: cell 1, a type, beside a voxel of type 1 below
 abbrev pub above : ℕ → List ℕ
-above t = 1 ∷ 0 ∷ 0 ∷ 0 ∷ 1 ∷ t ∷ 255 ∷ 1 ∷ 255 ∷ 255 ∷ 255 ∷ 255 ∷ []
+above t = 1 ∷ 0 ∷ 0 ∷ 0 ∷ 1 ∷ t ∷ 255 ∷ 1 ∷ 255 ∷ 255 ∷ 255 ∷ 255 ∷ 255 ∷ 0 ∷ 0 ∷ 0 ∷ []
 
 abbrev pub below : Outcome
 below = meshGrid (scene 1 2 1) [] (1 ∷ 0 ∷ []) true (lent 12 2)
@@ -163,7 +163,7 @@ pub slab-cases : mended itself 3 ∷ mended itself 4 ∷ []
     ≡ (10 ∷ 10 ∷ [])
     ∷ (11 ∷ 11 ∷ [])
     ∷ []
-unfolding mended answers._then_ answers.refuseIf answers.badLimits answers.BAD-TYPES answers.badCounts lowestFrom answers.badType answers.BAD-NUMBER answers.notACube types.isCube every types.classed types.classOf types.classAt types.classOn ieee.eq ieee.ofBits ieee.lt answers.roomOf meshBy each neighbour count laid attributeIn slotted answers.badLink answers.BAD-LINKS same answers.badNeighbours answers.badSides answers.badBytes answers.badEntry answers.BAD-ENTRY courseFrom entryAt needed ops remove removeAt types.quadWords
+unfolding mended answers._then_ answers.refuseIf answers.badLimits answers.BAD-TYPES answers.badCounts lowestFrom answers.badType answers.BAD-NUMBER answers.notACube types.isCube every types.classed types.classOf types.classAt types.classOn ieee.eq ieee.ofBits ieee.lt answers.roomOf meshBy each neighbour count laid attributeIn slotted answers.badLink answers.BAD-LINKS same answers.badNeighbours answers.badSides answers.badBytes answers.badFormer answers.badSpare answers.badEntry answers.BAD-ENTRY courseFrom entryAt needed ops remove removeAt types.quadWords
 slab-cases = refl
 
 fresh-are : freshCases ≡ (6 ∷ []) ∷ (10 ∷ 12 ∷ []) ∷ (8 ∷ []) ∷ (54 ∷ []) ∷ (5 ∷ []) ∷ []
@@ -175,20 +175,20 @@ unfolding removalCases removeAt each
 removals-are = refl
 
 mended-bottom : mended source 3 ≡ 11 ∷ 10 ∷ []
-unfolding mended answers._then_ answers.refuseIf answers.badLimits answers.BAD-TYPES answers.badCounts lowestFrom answers.badType answers.BAD-NUMBER answers.notACube types.isCube every types.classed types.classOf types.classAt types.classOn ieee.eq ieee.ofBits ieee.lt answers.roomOf meshBy each neighbour count laid attributeIn slotted answers.badLink answers.BAD-LINKS same answers.badNeighbours answers.badSides answers.badBytes answers.badEntry answers.BAD-ENTRY courseFrom entryAt needed ops remove removeAt types.quadWords
+unfolding mended answers._then_ answers.refuseIf answers.badLimits answers.BAD-TYPES answers.badCounts lowestFrom answers.badType answers.BAD-NUMBER answers.notACube types.isCube every types.classed types.classOf types.classAt types.classOn ieee.eq ieee.ofBits ieee.lt answers.roomOf meshBy each neighbour count laid attributeIn slotted answers.badLink answers.BAD-LINKS same answers.badNeighbours answers.badSides answers.badBytes answers.badFormer answers.badSpare answers.badEntry answers.BAD-ENTRY courseFrom entryAt needed ops remove removeAt types.quadWords
 mended-bottom = refl
 
 mended-top : mended source 4 ≡ 10 ∷ 11 ∷ []
-unfolding mended answers._then_ answers.refuseIf answers.badLimits answers.BAD-TYPES answers.badCounts lowestFrom answers.badType answers.BAD-NUMBER answers.notACube types.isCube every types.classed types.classOf types.classAt types.classOn ieee.eq ieee.ofBits ieee.lt answers.roomOf meshBy each neighbour count laid attributeIn slotted answers.badLink answers.BAD-LINKS same answers.badNeighbours answers.badSides answers.badBytes answers.badEntry answers.BAD-ENTRY courseFrom entryAt needed ops remove removeAt types.quadWords
+unfolding mended answers._then_ answers.refuseIf answers.badLimits answers.BAD-TYPES answers.badCounts lowestFrom answers.badType answers.BAD-NUMBER answers.notACube types.isCube every types.classed types.classOf types.classAt types.classOn ieee.eq ieee.ofBits ieee.lt answers.roomOf meshBy each neighbour count laid attributeIn slotted answers.badLink answers.BAD-LINKS same answers.badNeighbours answers.badSides answers.badBytes answers.badFormer answers.badSpare answers.badEntry answers.BAD-ENTRY courseFrom entryAt needed ops remove removeAt types.quadWords
 mended-top = refl
 
 null-is : added 0 ≡ 6 ∷ []
-unfolding added answers._then_ answers.refuseIf answers.badLimits answers.BAD-TYPES answers.badCounts lowestFrom answers.badType answers.BAD-NUMBER answers.notACube types.isCube every types.classed types.classOf types.classAt types.classOn ieee.eq ieee.ofBits ieee.lt answers.roomOf meshBy each neighbour count laid attributeIn slotted answers.badLink answers.BAD-LINKS same answers.badNeighbours answers.badSides answers.badBytes answers.badEntry answers.BAD-ENTRY courseFrom entryAt needed ops remove removeAt types.quadWords
+unfolding added answers._then_ answers.refuseIf answers.badLimits answers.BAD-TYPES answers.badCounts lowestFrom answers.badType answers.BAD-NUMBER answers.notACube types.isCube every types.classed types.classOf types.classAt types.classOn ieee.eq ieee.ofBits ieee.lt answers.roomOf meshBy each neighbour count laid attributeIn slotted answers.badLink answers.BAD-LINKS same answers.badNeighbours answers.badSides answers.badBytes answers.badFormer answers.badSpare answers.badEntry answers.BAD-ENTRY courseFrom entryAt needed ops remove removeAt types.quadWords
 null-is = refl
 
 -- the ninth is not refused, and its entry does nothing
 pub null-unrefused : updateVerdict (scene 1 2 1) (above 0) (below .lists) (quadsIn below) ≡ fine
-unfolding answers._then_ answers.refuseIf answers.badLimits answers.BAD-TYPES answers.badCounts lowestFrom answers.badType answers.BAD-NUMBER answers.notACube types.isCube every types.classed types.classOf types.classAt types.classOn ieee.eq ieee.ofBits ieee.lt answers.roomOf meshBy each neighbour count laid attributeIn slotted answers.badLink answers.BAD-LINKS same answers.badNeighbours answers.badSides answers.badBytes answers.badEntry answers.BAD-ENTRY courseFrom entryAt needed ops remove removeAt types.quadWords
+unfolding answers._then_ answers.refuseIf answers.badLimits answers.BAD-TYPES answers.badCounts lowestFrom answers.badType answers.BAD-NUMBER answers.notACube types.isCube every types.classed types.classOf types.classAt types.classOn ieee.eq ieee.ofBits ieee.lt answers.roomOf meshBy each neighbour count laid attributeIn slotted answers.badLink answers.BAD-LINKS same answers.badNeighbours answers.badSides answers.badBytes answers.badFormer answers.badSpare answers.badEntry answers.BAD-ENTRY courseFrom entryAt needed ops remove removeAt types.quadWords
 null-unrefused = refl
 
 pub null-idle : (k : ℕ) → k < 1 → work source (world (scene 1 2 1)) (entryAt (above 0) k) ≡ nothing
@@ -244,7 +244,7 @@ told =
     }
 
 abbrev dug : Entry
-dug = record { cell = 0; change = Broken; type = 1; given = 255 ∷ 255 ∷ 3 ∷ 255 ∷ 255 ∷ 255 ∷ [] }
+dug = record { cell = 0; change = Broken; type = 1; given = 255 ∷ 255 ∷ 3 ∷ 255 ∷ 255 ∷ 255 ∷ []; former = 1 }
 
 abbrev wordLists : List Quad → List (List ℕ)
 wordLists [] = []
@@ -258,7 +258,7 @@ broken-example = refl
 -- Back, 10, are kept; Forward, 11, is not there. A Null hides, and draws nothing
 
 abbrev hideAndDraw : ℕ → Entry
-hideAndDraw t = record { cell = 1; change = Sides; type = t; given = 1 ∷ 2 ∷ 2 ∷ 0 ∷ 0 ∷ 1 ∷ [] }
+hideAndDraw t = record { cell = 1; change = Sides; type = t; given = 1 ∷ 2 ∷ 2 ∷ 0 ∷ 0 ∷ 1 ∷ []; former = 255 }
 
 abbrev even : List Quad
 even = table 10 (λ k. record { key = 2 * k; words = [] })
@@ -274,6 +274,37 @@ pub sides-cases : sidesCase 1 ++ sidesCase 0
 unfolding ops needed remove removeAt each
 sides-cases = refl
 
+-- ---- Replaced (02, Q-7) on the fresh quads of grid 0,1, where type 0 is a cube that covers Right, 1 a cube that covers Left, 2 a Null that covers all. Cell 0 becomes a 1: its
+-- five quads go; Left of cell 1, which 0 covered, comes; five are drawn of type 1; the source, which tests Left, takes that of cell 1 again, the new mode, which tests Right, does not.
+-- If cell 0 becomes a 2, the second half does nothing
+
+abbrev swap : World
+swap =
+    record {
+      size = record { w = 2; h = 1; l = 1 };
+      kinds = 1 ∷ 1 ∷ 0 ∷ [];
+      covers = 4 ∷ 8 ∷ 63 ∷ [];
+      wordsOf = λ t f c. t ∷ f ∷ c ∷ [];
+    }
+
+abbrev swapped : ℕ → Entry
+swapped t = record { cell = 0; change = Replaced; type = t; given = 255 ∷ 255 ∷ 1 ∷ 255 ∷ 255 ∷ 255 ∷ []; former = 0 }
+
+-- the words after it, how many have moved, and the room that it asks for
+abbrev replacedCase : Tested → ℕ → List (List ℕ) × List ℕ
+replacedCase tested t =
+    let w = work tested swap (swapped t) in
+    let before = culled swap [] (0 ∷ 1 ∷ []) in
+    (wordLists (run (ops w) before), moves (ops w) before ∷ needed w before ∷ [])
+
+pub replaced-cases : replacedCase source 1 ∷ replacedCase itself 1 ∷ replacedCase source 2 ∷ []
+    ≡ ((1 ∷ 5 ∷ 1 ∷ []) ∷ (1 ∷ 4 ∷ 1 ∷ []) ∷ (1 ∷ 0 ∷ 1 ∷ []) ∷ (1 ∷ 1 ∷ 1 ∷ []) ∷ (1 ∷ 2 ∷ 1 ∷ []) ∷ (1 ∷ 0 ∷ 0 ∷ []) ∷ (1 ∷ 1 ∷ 0 ∷ []) ∷ (1 ∷ 3 ∷ 0 ∷ []) ∷ (1 ∷ 4 ∷ 0 ∷ []) ∷ (1 ∷ 5 ∷ 0 ∷ []) ∷ [], 19 ∷ 11 ∷ [])
+    ∷ ((1 ∷ 5 ∷ 1 ∷ []) ∷ (1 ∷ 4 ∷ 1 ∷ []) ∷ (1 ∷ 0 ∷ 1 ∷ []) ∷ (1 ∷ 1 ∷ 1 ∷ []) ∷ (1 ∷ 2 ∷ 1 ∷ []) ∷ (1 ∷ 3 ∷ 1 ∷ []) ∷ (1 ∷ 0 ∷ 0 ∷ []) ∷ (1 ∷ 1 ∷ 0 ∷ []) ∷ (1 ∷ 3 ∷ 0 ∷ []) ∷ (1 ∷ 4 ∷ 0 ∷ []) ∷ (1 ∷ 5 ∷ 0 ∷ []) ∷ [], 14 ∷ 11 ∷ [])
+    ∷ ((1 ∷ 5 ∷ 1 ∷ []) ∷ (1 ∷ 4 ∷ 1 ∷ []) ∷ (1 ∷ 0 ∷ 1 ∷ []) ∷ (1 ∷ 1 ∷ 1 ∷ []) ∷ (1 ∷ 2 ∷ 1 ∷ []) ∷ (1 ∷ 3 ∷ 1 ∷ []) ∷ [], 14 ∷ 6 ∷ [])
+    ∷ []
+unfolding ops needed remove removeAt each neighbour meshBy
+replaced-cases = refl
+
 -- ---- out of room: grid 1,1, cell 0 is dug, then filled again. Where there is room for ten quads the second entry, which asks for eleven before the facing quad goes, finds none
 
 abbrev tight : Outcome
@@ -284,22 +315,38 @@ tightly log = (updateMesh source (scene 2 1 1) log (tight .lists) (tight .answer
 
 abbrev pub digAndFill : List ℕ
 digAndFill =
-    0 ∷ 0 ∷ 0 ∷ 0 ∷ 0 ∷ 1 ∷ 255 ∷ 255 ∷ 1 ∷ 255 ∷ 255 ∷ 255
-    ∷ 0 ∷ 0 ∷ 0 ∷ 0 ∷ 1 ∷ 1 ∷ 255 ∷ 255 ∷ 1 ∷ 255 ∷ 255 ∷ 255 ∷ []
+    0 ∷ 0 ∷ 0 ∷ 0 ∷ 0 ∷ 1 ∷ 255 ∷ 255 ∷ 1 ∷ 255 ∷ 255 ∷ 255 ∷ 1 ∷ 0 ∷ 0 ∷ 0
+    ∷ 0 ∷ 0 ∷ 0 ∷ 0 ∷ 1 ∷ 1 ∷ 255 ∷ 255 ∷ 1 ∷ 255 ∷ 255 ∷ 255 ∷ 255 ∷ 0 ∷ 0 ∷ 0 ∷ []
 
 pub no-room-case : tightly digAndFill ≡ record { number = 14; place = 1; quads = 6; moved = 14 }
-unfolding answers._then_ answers.refuseIf answers.badLimits answers.BAD-TYPES answers.badCounts lowestFrom answers.badType answers.BAD-NUMBER answers.notACube types.isCube every types.classed types.classOf types.classAt types.classOn ieee.eq ieee.ofBits ieee.lt answers.roomOf meshBy each neighbour count laid attributeIn slotted answers.badLink answers.BAD-LINKS same answers.badNeighbours answers.badSides answers.badBytes answers.badEntry answers.BAD-ENTRY courseFrom entryAt needed ops remove removeAt types.quadWords
+unfolding answers._then_ answers.refuseIf answers.badLimits answers.BAD-TYPES answers.badCounts lowestFrom answers.badType answers.BAD-NUMBER answers.notACube types.isCube every types.classed types.classOf types.classAt types.classOn ieee.eq ieee.ofBits ieee.lt answers.roomOf meshBy each neighbour count laid attributeIn slotted answers.badLink answers.BAD-LINKS same answers.badNeighbours answers.badSides answers.badBytes answers.badFormer answers.badSpare answers.badEntry answers.BAD-ENTRY courseFrom entryAt needed ops remove removeAt types.quadWords
 no-room-case = refl
 
--- ---- Sides of cell 0 in the same room: Top goes and Right comes; Right alone finds no room; a byte of 3 and a code 3 are refused
+-- ---- Sides of cell 0 in the same room: Top goes and Right comes; Right alone finds no room; a byte of 3 and a former type are refused
 
 abbrev topAndRight : ℕ → ℕ → ℕ → List ℕ
-topAndRight change top right = 0 ∷ 0 ∷ 0 ∷ 0 ∷ change ∷ 1 ∷ top ∷ 0 ∷ right ∷ 0 ∷ 0 ∷ 0 ∷ []
+topAndRight top right former = 0 ∷ 0 ∷ 0 ∷ 0 ∷ 2 ∷ 1 ∷ top ∷ 0 ∷ right ∷ 0 ∷ 0 ∷ 0 ∷ former ∷ 0 ∷ 0 ∷ 0 ∷ []
 
-pub sides-answers : tightly (topAndRight 2 1 2) ∷ tightly (topAndRight 2 0 2) ∷ tightly (topAndRight 2 0 3) ∷ tightly (topAndRight 3 0 2) ∷ []
+pub sides-answers : tightly (topAndRight 1 2 255) ∷ tightly (topAndRight 0 2 255) ∷ tightly (topAndRight 0 3 255) ∷ tightly (topAndRight 1 2 1) ∷ []
     ≡ answered 10 1 ∷ record { number = 14; place = 0; quads = 10; moved = 0 } ∷ refused 13 0 ∷ refused 13 0 ∷ []
-unfolding answers._then_ answers.refuseIf answers.badLimits answers.BAD-TYPES answers.badCounts lowestFrom answers.badType answers.BAD-NUMBER answers.notACube types.isCube every types.classed types.classOf types.classAt types.classOn ieee.eq ieee.ofBits ieee.lt answers.roomOf meshBy each neighbour count laid attributeIn slotted answers.badLink answers.BAD-LINKS same answers.badNeighbours answers.badSides answers.badBytes answers.badEntry answers.BAD-ENTRY courseFrom entryAt needed ops remove removeAt types.quadWords
+unfolding answers._then_ answers.refuseIf answers.badLimits answers.BAD-TYPES answers.badCounts lowestFrom answers.badType answers.BAD-NUMBER answers.notACube types.isCube every types.classed types.classOf types.classAt types.classOn ieee.eq ieee.ofBits ieee.lt answers.roomOf meshBy each neighbour count laid attributeIn slotted answers.badLink answers.BAD-LINKS same answers.badNeighbours answers.badSides answers.badBytes answers.badFormer answers.badSpare answers.badEntry answers.BAD-ENTRY courseFrom entryAt needed ops remove removeAt types.quadWords
 sides-answers = refl
+
+-- ---- Replaced in the same room: the first half leaves six quads, the second asks for eleven, and nothing is done; for a Null it asks for none
+
+abbrev beside : ℕ → ℕ → ℕ → ℕ → List ℕ
+beside change type former spare = 0 ∷ 0 ∷ 0 ∷ 0 ∷ change ∷ type ∷ 255 ∷ 255 ∷ 1 ∷ 255 ∷ 255 ∷ 255 ∷ former ∷ 0 ∷ spare ∷ 0 ∷ []
+
+pub replaced-answers : tightly (beside 3 1 1 0) ∷ tightly (beside 3 0 1 0) ∷ []
+    ≡ record { number = 14; place = 0; quads = 10; moved = 0 } ∷ answered 6 14 ∷ []
+unfolding answers._then_ answers.refuseIf answers.badLimits answers.BAD-TYPES answers.badCounts lowestFrom answers.badType answers.BAD-NUMBER answers.notACube types.isCube every types.classed types.classOf types.classAt types.classOn ieee.eq ieee.ofBits ieee.lt answers.roomOf meshBy each neighbour count laid attributeIn slotted answers.badLink answers.BAD-LINKS same answers.badNeighbours answers.badSides answers.badBytes answers.badFormer answers.badSpare answers.badEntry answers.BAD-ENTRY courseFrom entryAt needed ops remove removeAt types.quadWords
+replaced-answers = refl
+
+-- a former type that is none, one that Broken does not repeat, one in Added, a spare byte, a code 4
+pub former-refused : tightly (beside 3 0 5 0) ∷ tightly (beside 3 0 255 0) ∷ tightly (beside 0 1 3 0) ∷ tightly (beside 1 1 1 0) ∷ tightly (beside 0 1 1 1) ∷ tightly (beside 4 0 1 0) ∷ []
+    ≡ refused 13 0 ∷ refused 13 0 ∷ refused 13 0 ∷ refused 13 0 ∷ refused 13 0 ∷ refused 13 0 ∷ []
+unfolding answers._then_ answers.refuseIf answers.badLimits answers.BAD-TYPES answers.badCounts lowestFrom answers.badType answers.BAD-NUMBER answers.notACube types.isCube every types.classed types.classOf types.classAt types.classOn ieee.eq ieee.ofBits ieee.lt answers.roomOf meshBy each neighbour count laid attributeIn slotted answers.badLink answers.BAD-LINKS same answers.badNeighbours answers.badSides answers.badBytes answers.badFormer answers.badSpare answers.badEntry answers.BAD-ENTRY courseFrom entryAt needed ops remove removeAt types.quadWords
+former-refused = refl
 
 -- ---- the program's example
 
@@ -316,8 +363,8 @@ texture = each 6 0 (λ f. u32 f ++ u32 0 ++ u32 0)
 -- types, grid, log, trailer
 unfoldable pub file : List ℕ
 file =
-    ((0 ∷ 0 ∷ texture) ++ (1 ∷ 63 ∷ texture)) ++ (1 ∷ 1 ∷ []) ++ (0 ∷ 0 ∷ 0 ∷ 0 ∷ 0 ∷ 1 ∷ 255 ∷ 255 ∷ 1 ∷ 255 ∷ 255 ∷ 255 ∷ [])
-    ++ u32 162 ++ u32 14 ++ u32 12 ++ u32 2 ++ u32 1 ++ u32 2 ++ u32 1 ++ u32 1 ++ u32 0 ++ u32 1
+    ((0 ∷ 0 ∷ texture) ++ (1 ∷ 63 ∷ texture)) ++ (1 ∷ 1 ∷ []) ++ (0 ∷ 0 ∷ 0 ∷ 0 ∷ 0 ∷ 1 ∷ 255 ∷ 255 ∷ 1 ∷ 255 ∷ 255 ∷ 255 ∷ 1 ∷ 0 ∷ 0 ∷ 0 ∷ [])
+    ++ u32 166 ++ u32 18 ++ u32 16 ++ u32 2 ++ u32 1 ++ u32 2 ++ u32 1 ++ u32 1 ++ u32 0 ++ u32 1
     ++ ONE-BYTES ++ ONE-BYTES ++ ONE-BYTES ++ u32 0 ++ u32 0 ++ u32 0 ++ u32 1 ++ u32 1 ++ u32 0 ++ u32 0 ++ u32 0 ++ u32 0 ++ u32 92
 
 abbrev line : ℕ → ℕ → ℕ → List ℕ
@@ -330,5 +377,5 @@ output =
     ++ line 0 1 5 ++ line 1 1 4 ++ line 2 1 0 ++ line 3 1 1 ++ line 4 1 2 ++ line 5 1 3
 
 pub program-example : printed file ≡ output
-unfolding file answers._then_ answers.refuseIf printed badFile digits buildFrom cubeWords cube.cubeWord cube.cornerWord cube.uvWord cube.uvOf cube.uvIn cube.lastNaming cube.corners cube.uvEnds cube.axes ieee.toBits ieee.sub ieee.div ieee.mul ieee.ofInt answers.badAtlas answers.BAD-TEXTURE types.quadWords types.quadWord types.order types.movedWord answers.badLimits answers.BAD-TYPES answers.badCounts lowestFrom answers.badType answers.BAD-NUMBER answers.notACube types.isCube every count types.classed types.classOf types.classAt types.classOn ieee.eq ieee.ofBits ieee.lt answers.roomOf meshBy each neighbour laid attributeIn slotted answers.badLink answers.BAD-LINKS same answers.badNeighbours answers.badSides answers.badBytes answers.badEntry answers.BAD-ENTRY courseFrom entryAt needed ops remove removeAt
+unfolding file answers._then_ answers.refuseIf printed badFile digits buildFrom cubeWords cube.cubeWord cube.cornerWord cube.uvWord cube.uvOf cube.uvIn cube.lastNaming cube.corners cube.uvEnds cube.axes ieee.toBits ieee.sub ieee.div ieee.mul ieee.ofInt answers.badAtlas answers.BAD-TEXTURE types.quadWords types.quadWord types.order types.movedWord answers.badLimits answers.BAD-TYPES answers.badCounts lowestFrom answers.badType answers.BAD-NUMBER answers.notACube types.isCube every count types.classed types.classOf types.classAt types.classOn ieee.eq ieee.ofBits ieee.lt answers.roomOf meshBy each neighbour laid attributeIn slotted answers.badLink answers.BAD-LINKS same answers.badNeighbours answers.badSides answers.badBytes answers.badFormer answers.badSpare answers.badEntry answers.BAD-ENTRY courseFrom entryAt needed ops remove removeAt
 program-example = refl

@@ -37,7 +37,7 @@ abbrev pub Acts : List Op → List Quad → Type 0
 Acts [] m = Unit {0}
 Acts (o ∷ os) m = (acts o m ≡ true) × Acts os (step o m)
 
-idle-step : (o : Op) (m : List Quad) → acts o m ≡ false → (step o m ≡ m) × (movedIn o m ≡ 0)
+pub idle-step : (o : Op) (m : List Quad) → acts o m ≡ false → (step o m ≡ m) × (movedIn o m ≡ 0)
 unfolding remove
 idle-step (put x) m e = (rw (not-true (there (x .key) m) e), refl)
 idle-step (cut k) m e = (rw e, rw e)

@@ -20,7 +20,8 @@ use Rattle.rules.proofs.ListLaws.{All, all-at, both-ways, or-false, not
 use Rattle.rules.proofs.Quads.{Once, placed, absent}
 use Rattle.rules.proofs.Laying.{Fits, keyAt, Distinct, link-inside, keys-at, links-at, vertices-at, triangles-at, length-slots, slots-at, is-there, at-there, place-is, distinct-of-once, once-of-distinct}
 use Rattle.rules.proofs.Index.{Named, no-other, no-more}
-use Rattle.rules.proofs.Mending.{Shows, Sound, not-drawn}
+use Rattle.rules.proofs.Views.{Sound}
+use Rattle.rules.proofs.Mending.{Shows, not-drawn}
 
 -- ---- verdicts
 pub then-fine : (a b : Verdict) → (a then b) ≡ fine → (a ≡ fine) × (b ≡ fine)

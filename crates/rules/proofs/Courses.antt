@@ -13,12 +13,13 @@ use borrow.Author.Tests.{leb-true}
 use Rattle.rules.specs.Lists.{each, only}
 use Rattle.rules.specs.Cells.{cells, opposite, neighbour, keyOf}
 use Rattle.rules.specs.Mesh.{Quad, World, isNormalCube, covering, meshBy, quadsBy, typeAt, there, placeOf, quadOf}
-use Rattle.rules.specs.Update.{Change, Broken, Added, Sides, Entry, givenAt, blank, draw, shifts, removeAt, remove, moved, Op, put, cut, step, run, moves, highest, Work, Tested, quads, hide, reveal, all, isOpen, toHide, draws, nothing, added, workBy, work, cuts, puts, ops, needed, Course, courseFrom, meshAfter, emptyType, gridBy, gridAfter, gridLog, Honest, Mends, AddsAlike}
+use Rattle.rules.specs.Update.{Change, Broken, Added, Sides, Replaced, Entry, givenAt, blank, draw, shifts, removeAt, remove, moved, Op, put, cut, step, run, moves, highest, Work, Tested, sides, quads, hide, reveal, all, isOpen, toHide, draws, nothing, added, filled, broken, firstHalf, secondHalf, workBy, work, cuts, puts, ops, needed, Course, courseFrom, meshAfter, emptyType, gridBy, gridAfter, gridLog, Honest, Mends, AddsAlike}
 use Rattle.rules.proofs.ListLaws.{All, all-append, all-take, all-drop, all-at, all-each, all-only, split, each-few}
 use Rattle.rules.proofs.Neighbours.{beside, opposite-lt}
 use Rattle.rules.proofs.Quads.{Once, placed, moved-le, length-removeAt, run-append, run-once}
 use Rattle.rules.proofs.Laying.{Fits}
-use Rattle.rules.proofs.Mending.{Shows, Sound, mends-entry}
+use Rattle.rules.proofs.Views.{Sound}
+use Rattle.rules.proofs.Mending.{Shows, mends-entry}
 
 -- ---- moves: at most five a removal, sixty an entry
 pub moves-append : (a b : List Op) (m : List Quad) → moves (a ++ b) m ≡ moves a m + moves b (run a m)
@@ -47,23 +48,30 @@ only-few {ℓ} : {A : Type ℓ} (b : Bool) (x : A) → length (only b x) ≤ 1
 only-few true x = omega arith
 only-few false x = omega arith
 
-pub few-own : (tested : Tested) (W : World) (e : Entry) (k : Change) → length ((workBy tested W e k) .own) ≤ 6
-few-own tested W e Broken = each-few 1 6 0 (λ f. only (all f) (keyOf (e .cell) f)) (λ f. only-few (all f) (keyOf (e .cell) f))
-few-own tested W e Added =
-    split (λ t. length ((cond t (added tested W e) nothing) .own) ≤ 6) (isNormalCube W (e .type))
-    (λ s. each-few 1 6 0 (λ f. only (all f) (keyOf (e .cell) f)) (λ f. only-few (all f) (keyOf (e .cell) f))) (λ s. omega arith)
-few-own tested W e Sides = each-few 1 6 0 (λ f. only (toHide e f) (keyOf (e .cell) f)) (λ f. only-few (toHide e f) (keyOf (e .cell) f))
+few-sides : (c : ℕ) (p : ℕ → Bool) → length (sides c p) ≤ 6
+few-sides c p = each-few 1 6 0 (λ f. only (p f) (keyOf c f)) (λ f. only-few (p f) (keyOf c f))
 
-pub few-facing : (tested : Tested) (W : World) (e : Entry) (k : Change) → length ((workBy tested W e k) .facing) ≤ 6
-few-facing tested W e Broken = omega arith
-few-facing tested W e Added =
+pub few-own : (tested : Tested) (W : World) (e : Entry) (k : Change) → length ((workBy tested W e k) .own) ≤ 6
+few-own tested W e Broken = few-sides (e .cell) all
+few-own tested W e Added =
+    split (λ t. length ((cond t (added tested W e) nothing) .own) ≤ 6) (isNormalCube W (e .type)) (λ s. few-sides (e .cell) all) (λ s. omega arith)
+few-own tested W e Sides = few-sides (e .cell) (toHide e)
+few-own tested W e Replaced = few-sides (e .cell) all
+
+few-hidden : (tested : Tested) (W : World) (e : Entry) → length ((filled tested W e) .facing) ≤ 6
+few-hidden tested W e =
     split (λ t. length ((cond t (added tested W e) nothing) .facing) ≤ 6) (isNormalCube W (e .type))
     (λ s. each-few 1 6 0 (λ i. hide tested W (e .type) i (neighbour (W .size) (e .cell) i)) (λ i. one i (neighbour (W .size) (e .cell) i))) (λ s. omega arith)
   where
     one : (i : ℕ) (o : Option ℕ) → length (hide tested W (e .type) i o) ≤ 1
     one i none = omega arith
     one i (some n) = only-few (covering W (e .type) (tested i)) (keyOf n (opposite i))
+
+pub few-facing : (tested : Tested) (W : World) (e : Entry) (k : Change) → length ((workBy tested W e k) .facing) ≤ 6
+few-facing tested W e Broken = omega arith
+few-facing tested W e Added = few-hidden tested W e
 few-facing tested W e Sides = omega arith
+few-facing tested W e Replaced = few-hidden tested W (secondHalf e)
 
 -- LAW: an entry moves at most sixty quads
 pub entry-moves : (tested : Tested) (W : World) (e : Entry) (m : List Quad) → moves (ops (work tested W e)) m ≤ 60
@@ -85,7 +93,7 @@ pub cuts-shrink : (ks : List ℕ) (m : List Quad) → length (run (cuts ks) m) �
 cuts-shrink [] m = omega arith
 cuts-shrink (k ∷ ks) m = omega (arith, remove-shrinks k m, cuts-shrink ks (remove k m))
 
-puts-grow : (qs m : List Quad) → length m ≤ length (run (puts qs) m)
+pub puts-grow : (qs m : List Quad) → length m ≤ length (run (puts qs) m)
 puts-grow [] m = omega arith
 puts-grow (q ∷ qs) m = omega (arith, draw-grows q m, puts-grow qs (draw q m))
 
@@ -171,8 +179,8 @@ module _ (W : World) (snd : Sound W) (s : ℕ) (sized : (t f c : ℕ) → length
   unfolding meshBy
   fits-fresh test g = all-each (Fits (6 * cells (W .size)) s) (cells (W .size)) 0 (quadsBy W test g) (λ c a b. fits-quads (typeAt g c) c (test c) (omega arith))
 
-  pub fits-new : (tested : Tested) (e : Entry) → e .cell < cells (W .size) → (k : Change) → All (Fits (6 * cells (W .size)) s) ((workBy tested W e k) .new)
-  fits-new tested e h Broken =
+  fits-revealed : (e : Entry) → e .cell < cells (W .size) → All (Fits (6 * cells (W .size)) s) ((broken W e) .new)
+  fits-revealed e h =
       all-each (Fits (6 * cells (W .size)) s) 6 0 (λ i. reveal W (e .type) (givenAt e i) i (neighbour (W .size) (e .cell) i))
       (λ i a b. one i (omega arith) (neighbour (W .size) (e .cell) i) refl)
     where
@@ -182,10 +190,18 @@ module _ (W : World) (snd : Sound W) (s : ℕ) (sized : (t f c : ℕ) → length
           let b = beside (W .size) (snd .wide) (snd .long) (e .cell) h i k q .inside in let l = opposite-lt i hi in
           all-only (Fits (6 * cells (W .size)) s) (covering W (e .type) i && isNormalCube W (givenAt e i)) (quadOf W (givenAt e i) k (opposite i))
           (omega arith, sized (givenAt e i) (opposite i) k)
-  fits-new tested e h Added =
+
+  fits-filled : (tested : Tested) (e : Entry) → e .cell < cells (W .size) → All (Fits (6 * cells (W .size)) s) ((filled tested W e) .new)
+  fits-filled tested e h =
       split (λ t. All (Fits (6 * cells (W .size)) s) ((cond t (added tested W e) nothing) .new)) (isNormalCube W (e .type))
       (λ x. fits-quads (e .type) (e .cell) (isOpen W e) h) (λ x. tt)
+
+  pub fits-new : (tested : Tested) (e : Entry) → e .cell < cells (W .size) → (k : Change) → All (Fits (6 * cells (W .size)) s) ((workBy tested W e k) .new)
+  fits-new tested e h Broken = fits-revealed e h
+  fits-new tested e h Added = fits-filled tested e h
   fits-new tested e h Sides = fits-quads (e .type) (e .cell) (draws W e) h
+  fits-new tested e h Replaced =
+      all-append (Fits (6 * cells (W .size)) s) ((broken W (firstHalf e)) .new) ((filled tested W (secondHalf e)) .new) (fits-revealed (firstHalf e) h) (fits-filled tested (secondHalf e) h)
 
 -- ---- a log
 
@@ -312,6 +328,7 @@ pub length-after : (W : World) (g : List ℕ) (e : Entry) (k : Change) → lengt
 length-after W g e Broken = length-set g (e .cell) (emptyType W)
 length-after W g e Added = length-set g (e .cell) (e .type)
 length-after W g e Sides = refl
+length-after W g e Replaced = length-set g (e .cell) (e .type)
 
 pub length-log : (W : World) (g : List ℕ) (es : List Entry) → length (gridLog W es g) ≡ length g
 length-log W g [] = refl

@@ -15,15 +15,16 @@ use Rattle.rules.specs.Lists.{only, member}
 use Rattle.rules.specs.Cells.{cells, keyOf}
 use Rattle.rules.specs.Types.{floats, quadWord, quadWords, cubeOf}
 use Rattle.rules.specs.Mesh.{Quad, Attribute, position, normal, uv, colour, Vertices, HasList, of-positions, of-normals, of-uvs, of-colours, eachList, attributeLaid, Lists, listsOf, typeAt, drawn, allSides, culled, at, decode, layout, meshBy}
-use Rattle.rules.specs.Update.{Change, Broken, Added, Sides, Entry, entryAt, Tested, work, Course, blank, u32At, emptyType, gridBy, gridAfter, gridLog, TrueBy, Honest, Mends, AddsAlike}
-use Rattle.rules.specs.Answers.{Verdict, fine, refuse, _then_, refuseIf, refuseLowest, outOf, badLimits, BAD-SIZE, BAD-GRID, badCounts, badType, BAD-TYPES, BAD-NUMBER, NOT-A-CUBE, BAD-OUTER, BAD-CELL, SHORT-SLOTS, roomOf, BAD-COUNT, badEntry, BAD-ENTRY, NO-ROOM}
+use Rattle.rules.specs.Update.{BYTES, Change, Broken, Added, Sides, Replaced, Entry, entryAt, Tested, work, Course, blank, u32At, emptyType, gridBy, gridAfter, gridLog, TrueBy, Honest, Mends, AddsAlike}
+use Rattle.rules.specs.Answers.{Verdict, fine, refuse, _then_, refuseIf, refuseLowest, outOf, badLimits, BAD-SIZE, BAD-GRID, badCounts, badType, BAD-TYPES, BAD-NUMBER, NOT-A-CUBE, BAD-OUTER, BAD-CELL, SHORT-SLOTS, roomOf, BAD-COUNT, badBytes, badFormer, badEntry, BAD-ENTRY, NO-ROOM}
 use Rattle.rules.specs.Check.{linked, Holds, Right}
 use Rattle.rules.specs.Calls.{Answer, answered, Scene, wordsIn, world, span, faces, room, typesVerdict, freshMesh, inputVerdict, meshVerdict, meshedBy, meshGrid, lentVerdict, updateVerdict, entriesOf, course, courseAnswer, updateBy, updateMesh, openVerdict, bookVerdict, faceVerdict, checkVerdict, checkBy, checkMesh}
 use Rattle.rules.proofs.ListLaws.{All, all-of, all-each, split, both-ways, or-false, not-true, length-table, length-each}
 use Rattle.rules.proofs.Attributes.{lies, length-quad}
 use Rattle.rules.proofs.Laying.{Fits, length-attributes, length-triangles, length-links, length-slots, once-of-distinct, decode-layout}
 use Rattle.rules.proofs.Checking.{then-fine, fine-then, if-fine, fine-if, lowest-fine, fine-lowest, Book, book-of-fine, fine-of-book, book-of-laid, length-decode, key-decode, words-decode, distinct-decode, right-of-fine, fine-of-right, shows-of-right, right-of-shows}
-use Rattle.rules.proofs.Mending.{Sound, Shows, sides-once, no-side, not-drawn, fresh-sides, fresh-shows}
+use Rattle.rules.proofs.Views.{Sound}
+use Rattle.rules.proofs.Mending.{Shows, sides-once, no-side, not-drawn, fresh-sides, fresh-shows}
 use Rattle.rules.proofs.Ordered.{fresh-order}
 use Rattle.rules.proofs.Courses.{fits-fresh, fits-new, Sane, course-sane, mends-log, length-log}
 use Rattle.rules.proofs.Refusals.{Within, given, MESH, UPDATE-FIRST, CHECK, mesh-numbers, update-numbers, check-numbers, zero-fine}
@@ -303,6 +304,7 @@ codes-after S g e k listed h codes c l = go k h l
     go Broken h l = on (emptyType (world S)) (h .1) l
     go Added h l = on (e .type) listed l
     go Sides h l = absurd h
+    go Replaced h l = on (e .type) listed l
 
 codes-log : (S : Scene) (g : List ℕ) (es : List Entry) → All (λ e. e .type < length (S .types .kinds)) es → Honest (world S) g es
     → ((c : ℕ) → c < length g → getD g c 0 < length (S .types .kinds))
@@ -345,23 +347,25 @@ module _ (S : Scene) (B : Lists) (Q : ℕ) (size-fine : BAD-SIZE (S .size) ≡ f
           )
 
 -- the entries of an accepted log: the grid has their cells, and the table their types
-entry-known : (n types : ℕ) (log : List ℕ) → BAD-ENTRY n types log ≡ fine → (k : ℕ) → k < length log / 12
+entry-known : (n types : ℕ) (log : List ℕ) → BAD-ENTRY n types log ≡ fine → (k : ℕ) → k < length log / BYTES
     → ((entryAt log k) .cell < n) × ((entryAt log k) .type < types)
 unfolding BAD-ENTRY badEntry entryAt
 entry-known n types log e k h =
-    let a = then-fine (refuseLowest 13 (length log / 12) (badEntry n types log)) _ e .0 in
-    let b = lowest-fine 13 (length log / 12) (badEntry n types log) a k h in
-    let c = or-false (leb 16777216 k || leb n (u32At log (12 * k)) || ltb 2 (getD log (12 * k + 4) 0) || leb types (getD log (12 * k + 5) 0)) _ b .0 in
-    let d = or-false (leb 16777216 k || leb n (u32At log (12 * k)) || ltb 2 (getD log (12 * k + 4) 0)) (leb types (getD log (12 * k + 5) 0)) c in
-    let f = or-false (leb 16777216 k || leb n (u32At log (12 * k))) (ltb 2 (getD log (12 * k + 4) 0)) (d .0) .0 in
-    (leb-false n (u32At log (12 * k)) (or-false (leb 16777216 k) (leb n (u32At log (12 * k))) f .1), leb-false types (getD log (12 * k + 5) 0) (d .1))
+    let a = then-fine (refuseLowest 13 (length log / BYTES) (badEntry n types log)) _ e .0 in
+    let b = lowest-fine 13 (length log / BYTES) (badEntry n types log) a k h in
+    let at = BYTES * k in
+    let named = leb 16777216 k || leb n (u32At log at) || ltb 3 (getD log (at + 4) 0) || leb types (getD log (at + 5) 0) in
+    let c = or-false named _ (or-false (named || badBytes types log at) _ (or-false (named || badBytes types log at || badFormer types log at) _ b .0) .0) .0 in
+    let d = or-false (leb 16777216 k || leb n (u32At log at) || ltb 3 (getD log (at + 4) 0)) (leb types (getD log (at + 5) 0)) c in
+    let f = or-false (leb 16777216 k || leb n (u32At log at)) (ltb 3 (getD log (at + 4) 0)) (d .0) .0 in
+    (leb-false n (u32At log at) (or-false (leb 16777216 k) (leb n (u32At log at)) f .1), leb-false types (getD log (at + 5) 0) (d .1))
 
-pub entry-inside : (n types : ℕ) (log : List ℕ) → BAD-ENTRY n types log ≡ fine → (k : ℕ) → k < length log / 12 → (entryAt log k) .cell < n
+pub entry-inside : (n types : ℕ) (log : List ℕ) → BAD-ENTRY n types log ≡ fine → (k : ℕ) → k < length log / BYTES → (entryAt log k) .cell < n
 entry-inside n types log e k h = entry-known n types log e k h .0
 
 entries-listed : (n types : ℕ) (log : List ℕ) → BAD-ENTRY n types log ≡ fine → All (λ e. e .type < types) (entriesOf log)
 entries-listed n types log e =
-    all-each (λ (x : Entry). x .type < types) (length log / 12) 0 (λ k. entryAt log k ∷ []) (λ k a b. (entry-known n types log e k (omega arith) .1, tt))
+    all-each (λ (x : Entry). x .type < types) (length log / BYTES) 0 (λ k. entryAt log k ∷ []) (λ k a b. (entry-known n types log e k (omega arith) .1, tt))
 
 -- ---- what a log leaves
 module _ (tested : Tested) (S : Scene) (log : List ℕ) (B : Lists) (Q : ℕ) (accepted : updateVerdict S log B Q ≡ fine) where
@@ -389,7 +393,7 @@ module _ (tested : Tested) (S : Scene) (log : List ℕ) (B : Lists) (Q : ℕ) (a
   pub ran-sane : Sane (faces S) (span S) (room S B) ((course tested S log B Q) .quads) ((course tested S log B Q) .highest)
   ran-sane =
       let a = asked-of in
-      course-sane (faces S) (span S) (room S B) (λ k. work tested (world S) (entryAt log k)) 0 (length log / 12) (decode (S .types .coloured) Q B) 0 Q
+      course-sane (faces S) (span S) (room S B) (λ k. work tested (world S) (entryAt log k)) 0 (length log / BYTES) (decode (S .types .coloured) Q B) 0 Q
       (λ j x y. fits-new (world S) (sound S (a .size) (a .types)) (span S) (words-sized S) tested (entryAt log j)
       (entry-inside (cells (S .size)) (length (S .types .kinds)) log (a .entries) j (omega arith)) ((entryAt log j) .change))
       (lent-sane S B Q (a .size) (a .slots) (a .count) (a .book))
@@ -477,11 +481,11 @@ module _ (tested : Tested) (S : Scene) (g log : List ℕ) (B : Lists) (Q : ℕ) 
       (fine-lowest 8 (length grid) (λ k. leb types (getD grid k 0))
       (λ k l. lt-leb types (getD grid k 0)
       (codes-log S g (entriesOf log) (entries-listed (cells (S .size)) types log (u .entries)) ho codes k l)))
-      (mends-log (world S) snd tested (room S B) (entryAt log) 0 (length log / 12) g (decode (S .types .coloured) Q B) 0 Q hg sh
+      (mends-log (world S) snd tested (room S B) (entryAt log) 0 (length log / BYTES) g (decode (S .types .coloured) Q B) 0 Q hg sh
       (λ j x y. entry-inside (cells (S .size)) types log (u .entries) j (omega arith)) ho me al fu)
 
-  -- if a mesh passes with no outer face named, it passes for the new grid after any unrefused, honest log of Added and Broken alone
-  -- that fills only empty cells, and with cubes that cover the side tested as the side itself: in the new mode with any (`itself-alike`)
+  -- if a mesh passes with no outer face named, it passes for the new grid after any unrefused, honest log of Added, Broken and Replaced alone
+  -- that adds only to empty cells, and with cubes that cover the side tested as the side itself: in the new mode with any (`itself-alike`)
   pub mended-accepted : (checkMesh S [] g B Q) .number ≡ 0 → Honest (world S) g (entriesOf log) → Mends (world S) g (entriesOf log)
       → AddsAlike tested (world S) (entriesOf log) → (updateMesh tested S log B Q) .answer .number ≡ 0
       → checkMesh S [] (gridLog (world S) (entriesOf log) g) ((updateMesh tested S log B Q) .lists) ((updateMesh tested S log B Q) .answer .quads)

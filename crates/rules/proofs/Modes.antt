@@ -1,7 +1,7 @@
 -- The two modes of an update: the side that Added tests is the opposite (source) or the side itself (02, Q-2). Assumes nothing.
 use mathlib.Core.Path.{_≡_, refl, ap, _∙_}
 use mathlib.Core.Bool.{true, cond}
-use mathlib.Core.List.{List, [], _∷_}
+use mathlib.Core.List.{List, [], _∷_, _++_}
 use mathlib.Core.Option.{Option, none, some}
 use Prim.Native.Nat.{ℕ, zero, suc, _+_, _/_, _≤_, _<_}
 use native.Mathlib.Omega.{arith}
@@ -10,7 +10,7 @@ use lib.ListN.{length}
 use Rattle.rules.specs.Lists.{each}
 use Rattle.rules.specs.Cells.{Size, neighbour}
 use Rattle.rules.specs.Mesh.{World, Lists, isNormalCube, covering, decode}
-use Rattle.rules.specs.Update.{Change, Broken, Added, Sides, Entry, entryAt, Tested, itself, hide, nothing, added, workBy, work, Course, Alike, AlikeBy, AddsAlike}
+use Rattle.rules.specs.Update.{BYTES, Change, Broken, Added, Sides, Replaced, Entry, entryAt, Tested, itself, hide, nothing, added, broken, filled, firstHalf, secondHalf, Work, workBy, work, Course, Alike, AlikeBy, AddsAlike}
 use Rattle.rules.specs.Calls.{Scene, world, room, entriesOf, updateVerdict, updateBy, updateMesh}
 use Rattle.rules.proofs.ListLaws.{split, each-same}
 use Rattle.rules.proofs.Courses.{course-alike}
@@ -22,6 +22,7 @@ alike-by : (tested : Tested) (W : World) → ((t : ℕ) → isNormalCube W t ≡
 alike-by tested W cubes e Broken = tt
 alike-by tested W cubes e Added = cubes (e .type)
 alike-by tested W cubes e Sides = tt
+alike-by tested W cubes e Replaced = cubes (e .type)
 
 -- LAW: where every cube of the table covers alike, those that a log adds do
 pub table-alike : (tested : Tested) (W : World) → ((t : ℕ) → isNormalCube W t ≡ true → Alike tested W t) → (es : List Entry) → AddsAlike tested W es
@@ -59,19 +60,25 @@ hides-same a b U W t c covered size =
 added-alike : (tested : Tested) (W : World) (e : Entry) → Alike tested W (e .type) → added tested W e ≡ added itself W e
 added-alike tested W e alike = rw (hides-same tested itself W W (e .type) (e .cell) alike refl)
 
-work-alike : (tested : Tested) (W : World) (e : Entry) (k : Change) → AlikeBy tested W e k → workBy tested W e k ≡ workBy itself W e k
-work-alike tested W e Broken h = refl
-work-alike tested W e Added h =
+filled-alike : (tested : Tested) (W : World) (e : Entry) → (isNormalCube W (e .type) ≡ true → Alike tested W (e .type)) → filled tested W e ≡ filled itself W e
+filled-alike tested W e h =
     split (λ t. isNormalCube W (e .type) ≡ t → cond t (added tested W e) nothing ≡ cond t (added itself W e) nothing) (isNormalCube W (e .type))
     (λ x c. added-alike tested W e (h c)) (λ x c. refl) refl
+
+work-alike : (tested : Tested) (W : World) (e : Entry) (k : Change) → AlikeBy tested W e k → workBy tested W e k ≡ workBy itself W e k
+work-alike tested W e Broken h = refl
+work-alike tested W e Added h = filled-alike tested W e h
 work-alike tested W e Sides h = refl
+work-alike tested W e Replaced h =
+    let gone = broken W (firstHalf e) in
+    ap (λ (come : Work). record { own = gone .own; new = gone .new ++ come .new; facing = come .facing }) (filled-alike tested W (secondHalf e) h)
 
 -- LAW: for cubes that cover the side that is tested as the side itself, both modes give the same answer and the same lists, after any log
 pub modes-agree : (tested : Tested) (S : Scene) (log : List ℕ) (B : Lists) (Q : ℕ) → AddsAlike tested (world S) (entriesOf log)
     → updateMesh tested S log B Q ≡ updateMesh itself S log B Q
 modes-agree tested S log B Q h =
     ap (λ (c : Course). updateBy (updateVerdict S log B Q) S c B)
-    (course-alike (room S B) (λ k. work tested (world S) (entryAt log k)) (λ k. work itself (world S) (entryAt log k)) 0 (length log / 12)
+    (course-alike (room S B) (λ k. work tested (world S) (entryAt log k)) (λ k. work itself (world S) (entryAt log k)) 0 (length log / BYTES)
     (decode (S .types .coloured) Q B) 0 Q
     (λ j l. work-alike tested (world S) (entryAt log j) ((entryAt log j) .change)
-    (alike-at tested (world S) (entryAt log) 0 (length log / 12) h j (omega arith) l)))
+    (alike-at tested (world S) (entryAt log) 0 (length log / BYTES) h j (omega arith) l)))

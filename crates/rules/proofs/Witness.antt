@@ -66,7 +66,7 @@ unfolding answers._then_ answers.refuseIf answers.badLimits answers.BAD-TYPES an
 meshed = refl
 
 unrefused : after .answer .number ≡ 0
-unfolding answers._then_ answers.refuseIf answers.badLimits answers.BAD-TYPES answers.badCounts lowestFrom answers.badType answers.BAD-NUMBER answers.notACube types.isCube every types.classed types.classOf types.classAt types.classOn ieee.eq ieee.ofBits ieee.lt answers.roomOf meshBy each neighbour count laid attributeIn slotted answers.badLink answers.BAD-LINKS same answers.badNeighbours answers.badSides answers.badBytes answers.badEntry answers.BAD-ENTRY courseFrom entryAt needed ops remove removeAt types.quadWords
+unfolding answers._then_ answers.refuseIf answers.badLimits answers.BAD-TYPES answers.badCounts lowestFrom answers.badType answers.BAD-NUMBER answers.notACube types.isCube every types.classed types.classOf types.classAt types.classOn ieee.eq ieee.ofBits ieee.lt answers.roomOf meshBy each neighbour count laid attributeIn slotted answers.badLink answers.BAD-LINKS same answers.badNeighbours answers.badSides answers.badBytes answers.badFormer answers.badSpare answers.badEntry answers.BAD-ENTRY courseFrom entryAt needed ops remove removeAt types.quadWords
 unrefused = refl
 
 -- the fresh mesh passes, the log is honest and not refused, and so the mended mesh passes
@@ -83,8 +83,8 @@ G = scene 1 2 1
 
 abbrev slabLog : List ℕ
 slabLog =
-    1 ∷ 0 ∷ 0 ∷ 0 ∷ 1 ∷ 3 ∷ 255 ∷ 1 ∷ 255 ∷ 255 ∷ 255 ∷ 255
-    ∷ 0 ∷ 0 ∷ 0 ∷ 0 ∷ 0 ∷ 1 ∷ 3 ∷ 255 ∷ 255 ∷ 255 ∷ 255 ∷ 255 ∷ []
+    1 ∷ 0 ∷ 0 ∷ 0 ∷ 1 ∷ 3 ∷ 255 ∷ 1 ∷ 255 ∷ 255 ∷ 255 ∷ 255 ∷ 255 ∷ 0 ∷ 0 ∷ 0
+    ∷ 0 ∷ 0 ∷ 0 ∷ 0 ∷ 0 ∷ 1 ∷ 3 ∷ 255 ∷ 255 ∷ 255 ∷ 255 ∷ 255 ∷ 1 ∷ 0 ∷ 0 ∷ 0 ∷ []
 
 abbrev bare : Outcome
 bare = meshGrid G [] ground true (lent 12 2)
@@ -109,7 +109,7 @@ unfolding answers._then_ answers.refuseIf answers.badLimits answers.BAD-TYPES an
 bare-meshed = refl
 
 slab-unrefused : laidOn .answer .number ≡ 0
-unfolding answers._then_ answers.refuseIf answers.badLimits answers.BAD-TYPES answers.badCounts lowestFrom answers.badType answers.BAD-NUMBER answers.notACube types.isCube every types.classed types.classOf types.classAt types.classOn ieee.eq ieee.ofBits ieee.lt answers.roomOf meshBy each neighbour count laid attributeIn slotted answers.badLink answers.BAD-LINKS same answers.badNeighbours answers.badSides answers.badBytes answers.badEntry answers.BAD-ENTRY courseFrom entryAt needed ops remove removeAt types.quadWords
+unfolding answers._then_ answers.refuseIf answers.badLimits answers.BAD-TYPES answers.badCounts lowestFrom answers.badType answers.BAD-NUMBER answers.notACube types.isCube every types.classed types.classOf types.classAt types.classOn ieee.eq ieee.ofBits ieee.lt answers.roomOf meshBy each neighbour count laid attributeIn slotted answers.badLink answers.BAD-LINKS same answers.badNeighbours answers.badSides answers.badBytes answers.badFormer answers.badSpare answers.badEntry answers.BAD-ENTRY courseFrom entryAt needed ops remove removeAt types.quadWords
 slab-unrefused = refl
 
 pub slab-witness : checkMesh G [] (gridLog (world G) (entriesOf slabLog) ground) (laidOn .lists) (laidOn .answer .quads) ≡ answered 0 0

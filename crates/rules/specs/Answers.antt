@@ -1,4 +1,4 @@
--- 01, "Limits and answers"; 02, Q-6 and Q-8: the refusals, each with its condition and its place. Definitions only.
+-- 01, "Limits and answers"; 02, Q-6, Q-7 and Q-8: the refusals, each with its condition and its place. Definitions only.
 use Prim.Native.Nat.{ℕ, _+_, _-_, _*_, _/_, _%_, min}
 use mathlib.Core.Bool.{Bool, cond, not, _&&_, _||_}
 use mathlib.Core.List.{List}
@@ -10,7 +10,7 @@ use Rattle.rules.specs.Floats.{finite, finite3}
 use Rattle.rules.specs.Types.{Types, floats, cubeOf, isCube}
 use Rattle.rules.specs.Cube.{Shape, floatsOf}
 use Rattle.rules.specs.Mesh.{Quad, World, Lists, NONE, drawn, there, pattern, typeAt}
-use Rattle.rules.specs.Update.{u32At}
+use Rattle.rules.specs.Update.{Change, Broken, Added, Sides, Replaced, changeOf, BYTES, u32At}
 
 -- nothing to refuse, or a refusal with its number and its place
 pub data Verdict : Type 0 where
@@ -143,7 +143,8 @@ BAD-LINKS cells B Q = refuseLowest 11 Q (badLink cells B) then refuseIf (ltb Q (
 abbrev pub BAD-TRIANGLES : Lists → ℕ → Verdict
 BAD-TRIANGLES B Q = refuseLowest 12 Q (λ q. not (same (row 6 (B .triangles) q) (pattern q)))
 
--- ---- 13: cell, change, type, neighbour, a side byte over 2 in Sides (02, Q-6); an entry past the limit; the lowest entry. A ragged end is tried last
+-- ---- 13: cell, change, type, neighbour, a side byte over 2 in Sides (02, Q-6), a wrong former type or a nonzero spare byte (02, Q-7); an entry past the limit; the lowest
+-- entry. A ragged end is tried last
 
 abbrev pub badNeighbour : ℕ → ℕ → Bool
 badNeighbour types t = leb types t && not (eqb t 255)
@@ -158,13 +159,29 @@ badSides log at = not (every 6 (λ f. not (ltb 2 (getD log (at + (6 + f)) 0))))
 unfoldable pub badBytes : ℕ → List ℕ → ℕ → Bool
 badBytes types log at = cond (eqb (getD log (at + 4) 0) 2) (badSides log at) (badNeighbours types log at)
 
+-- for Broken the former type must repeat the type, for Added and Sides it is 255, for Replaced it is a type
+abbrev pub badFormerBy : ℕ → ℕ → ℕ → Change → Bool
+badFormerBy types type former Broken = not (eqb former type)
+badFormerBy types type former Added = not (eqb former 255)
+badFormerBy types type former Sides = not (eqb former 255)
+badFormerBy types type former Replaced = leb types former
+
+unfoldable pub badFormer : ℕ → List ℕ → ℕ → Bool
+badFormer types log at = badFormerBy types (getD log (at + 5) 0) (getD log (at + 12) 0) (changeOf (getD log (at + 4) 0))
+
+-- the three spare bytes are zero
+unfoldable pub badSpare : List ℕ → ℕ → Bool
+badSpare log at = not (every 3 (λ i. eqb (getD log (at + (13 + i)) 0) 0))
+
 unfoldable pub badEntry : ℕ → ℕ → List ℕ → ℕ → Bool
 badEntry cells types log k =
-    leb 16777216 k || leb cells (u32At log (12 * k)) || ltb 2 (getD log (12 * k + 4) 0) || leb types (getD log (12 * k + 5) 0) || badBytes types log (12 * k)
+    let at = BYTES * k in
+    leb 16777216 k || leb cells (u32At log at) || ltb 3 (getD log (at + 4) 0) || leb types (getD log (at + 5) 0) || badBytes types log at
+    || badFormer types log at || badSpare log at
 
 unfoldable pub BAD-ENTRY : ℕ → ℕ → List ℕ → Verdict
 BAD-ENTRY cells types log =
-    refuseLowest 13 (length log / 12) (badEntry cells types log) then refuseIf (not (eqb (length log % 12) 0)) 13 (length log / 12)
+    refuseLowest 13 (length log / BYTES) (badEntry cells types log) then refuseIf (not (eqb (length log % BYTES) 0)) 13 (length log / BYTES)
 
 -- ---- 14: the quads needed exceed the room
 

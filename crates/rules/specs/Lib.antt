@@ -10,5 +10,5 @@ pub mod Answers
 pub mod Check
 pub mod Calls
 pub mod Together
-pub mod Former
+pub mod Pairs
 pub mod Program

@@ -1,4 +1,4 @@
--- 01, "An update"; 02, Q-2 and Q-6. Definitions only.
+-- 01, "An update"; 02, Q-2, Q-6 and Q-7. Definitions only.
 use Prim.Native.Nat.{ℕ, zero, suc, _+_, _-_, _*_, _<_, max}
 use mathlib.Core.Path.{_≡_}
 use mathlib.Core.Bool.{Bool, true, cond, not, _&&_, _||_}
@@ -10,33 +10,39 @@ use Rattle.rules.specs.Lists.{each, only, part, count, lowest}
 use Rattle.rules.specs.Cells.{opposite, neighbour, keyOf}
 use Rattle.rules.specs.Mesh.{Quad, World, typeAt, isNormalCube, covering, there, placeOf, quadOf}
 
--- ---- a log entry, 12 bytes
+-- ---- a log entry, 16 bytes: after the neighbours comes the former type, then three zero bytes (02, Q-7)
 
 pub data Change : Type 0 where
-  Broken Added Sides : Change
+  Broken Added Sides Replaced : Change
 
 pub record Entry : Type 0 where
   pub cell : ℕ
   pub change : Change
   pub type : ℕ
   pub given : List ℕ
+  pub former : ℕ
 
 abbrev pub changeOf : ℕ → Change
 changeOf zero = Broken
 changeOf (suc zero) = Added
-changeOf (suc (suc n)) = Sides
+changeOf (suc (suc zero)) = Sides
+changeOf (suc (suc (suc n))) = Replaced
 
 -- u32, little-endian
 abbrev pub u32At : List ℕ → ℕ → ℕ
 u32At xs i = getD xs i 0 + 256 * getD xs (i + 1) 0 + 65536 * getD xs (i + 2) 0 + 16777216 * getD xs (i + 3) 0
 
+abbrev pub BYTES : ℕ
+BYTES = 16
+
 unfoldable pub entryAt : List ℕ → ℕ → Entry
 entryAt log k =
     record {
-      cell = u32At log (12 * k);
-      change = changeOf (getD log (12 * k + 4) 0);
-      type = getD log (12 * k + 5) 0;
-      given = part (12 * k + 6) 6 log;
+      cell = u32At log (BYTES * k);
+      change = changeOf (getD log (BYTES * k + 4) 0);
+      type = getD log (BYTES * k + 5) 0;
+      given = part (BYTES * k + 6) 6 log;
+      former = getD log (BYTES * k + 12) 0;
     }
 
 -- a neighbour is either outside (255) or a voxel of a type; in Sides the six bytes are none (02, Q-6)
@@ -178,10 +184,29 @@ draws W e f = isNormalCube W (e .type) && toDraw e f
 abbrev pub sided : World → Entry → Work
 sided W e = record { own = sides (e .cell) (toHide e); new = quads W (e .type) (e .cell) (draws W e); facing = [] }
 
+-- a type that is no NormalCube adds nothing
+abbrev pub filled : Tested → World → Entry → Work
+filled tested W e = cond (isNormalCube W (e .type)) (added tested W e) nothing
+
+-- Broken with the former type, then Added with the new, amid the same neighbours (02, Q-7)
+abbrev pub firstHalf : Entry → Entry
+firstHalf e = record { cell = e .cell; change = Broken; type = e .former; given = e .given; former = e .former }
+
+abbrev pub secondHalf : Entry → Entry
+secondHalf e = record { cell = e .cell; change = Added; type = e .type; given = e .given; former = 255 }
+
+-- both in one stroke: the second has no own quads left to remove, and the first removes no facing ones
+abbrev pub replaced : Tested → World → Entry → Work
+replaced tested W e =
+    let gone = broken W (firstHalf e) in
+    let come = filled tested W (secondHalf e) in
+    record { own = gone .own; new = gone .new ++ come .new; facing = come .facing }
+
 abbrev pub workBy : Tested → World → Entry → Change → Work
 workBy tested W e Broken = broken W e
-workBy tested W e Added = cond (isNormalCube W (e .type)) (added tested W e) nothing
+workBy tested W e Added = filled tested W e
 workBy tested W e Sides = sided W e
+workBy tested W e Replaced = replaced tested W e
 
 abbrev pub work : Tested → World → Entry → Work
 work tested W e = workBy tested W e (e .change)
@@ -241,6 +266,7 @@ abbrev pub gridBy : World → List ℕ → Entry → Change → List ℕ
 gridBy W g e Broken = set g (e .cell) (emptyType W)
 gridBy W g e Added = set g (e .cell) (e .type)
 gridBy W g e Sides = g
+gridBy W g e Replaced = set g (e .cell) (e .type)
 
 abbrev pub gridAfter : World → List ℕ → Entry → List ℕ
 gridAfter W g e = gridBy W g e (e .change)
@@ -258,18 +284,19 @@ standing g (some n) = typeAt g n
 abbrev pub Told : World → List ℕ → Entry → Type 0
 Told W g e = (f : ℕ) → f < 6 → givenAt e f ≡ standing g (neighbour (W .size) (e .cell) f)
 
--- Broken names the type in its cell, and there is an empty type to leave; Sides is never honest
+-- Broken names the type in its cell, and there is an empty type to leave; Replaced names it as the former one (02, Q-7); Sides is never honest
 abbrev pub TrueBy : World → List ℕ → Entry → Change → Type 0
 TrueBy W g e Broken = (e .type ≡ typeAt g (e .cell)) × (emptyType W < length (W .kinds))
 TrueBy W g e Added = Unit {0}
 TrueBy W g e Sides = ⊥
+TrueBy W g e Replaced = e .former ≡ typeAt g (e .cell)
 
--- only Added and Broken entries, each true of the grid as the entries before it left it
+-- only Added, Broken and Replaced entries, each true of the grid as the entries before it left it
 abbrev pub Honest : World → List ℕ → List Entry → Type 0
 Honest W g [] = Unit {0}
 Honest W g (e ∷ es) = Told W g e × TrueBy W g e (e .change) × Honest W (gridAfter W g e) es
 
--- demand 3's logs: an Added entry puts a cube into an empty cell
+-- demand 3's logs: an Added entry puts a cube into an empty cell, a Replaced one in the place of what was there
 pub record Fills (W : World) (g : List ℕ) (e : Entry) : Type 0 where
   pub cube : isNormalCube W (e .type) ≡ true
   pub wasEmpty : isEmpty W (typeAt g (e .cell)) ≡ true
@@ -278,6 +305,7 @@ abbrev pub MendsBy : World → List ℕ → Entry → Change → Type 0
 MendsBy W g e Broken = Unit {0}
 MendsBy W g e Added = Fills W g e
 MendsBy W g e Sides = ⊥
+MendsBy W g e Replaced = isNormalCube W (e .type) ≡ true
 
 abbrev pub Mends : World → List ℕ → List Entry → Type 0
 Mends W g [] = Unit {0}
@@ -291,8 +319,9 @@ abbrev pub AlikeBy : Tested → World → Entry → Change → Type 0
 AlikeBy tested W e Broken = Unit {0}
 AlikeBy tested W e Added = isNormalCube W (e .type) ≡ true → Alike tested W (e .type)
 AlikeBy tested W e Sides = Unit {0}
+AlikeBy tested W e Replaced = isNormalCube W (e .type) ≡ true → Alike tested W (e .type)
 
--- what the source's mode asks besides: each cube that is Added does
+-- what the source's mode asks besides: each cube that is Added does, or that is put by Replaced
 abbrev pub AddsAlike : Tested → World → List Entry → Type 0
 AddsAlike tested W [] = Unit {0}
 AddsAlike tested W (e ∷ es) = AlikeBy tested W e (e .change) × AddsAlike tested W es

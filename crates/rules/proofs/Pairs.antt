@@ -1,27 +1,28 @@
--- 02, Q-6: Sides does what CullFaces and AddFaces did, one after the other; and the room that it asks for. Assumes nothing.
+-- 02, Q-6 and Q-7: Sides does what CullFaces and AddFaces did, one after the other, and Replaced what Broken and Added do; and the room that they ask for. Assumes nothing.
 use mathlib.Core.Path.{_≡_, refl, sym, ap, _∙_, subst}
 use mathlib.Core.Bool.{Bool, true, false, cond, not, _&&_}
-use mathlib.Core.List.{List, [], _∷_, _++_, map, append-nil}
+use mathlib.Core.List.{List, [], _∷_, _++_, map, append-nil, map-append}
 use mathlib.Core.Option.{none, some}
-use Prim.Native.Nat.{ℕ, zero, suc, _+_, _-_, _%_, _/_, _≤_, _<_}
+use Prim.Native.Nat.{ℕ, zero, suc, _+_, _-_, _%_, _/_, _≤_, _<_, max}
 use native.Mathlib.Omega.{arith}
 use lib.Dec.{eqb, leb}
 use lib.ListN.{length, getD}
 use borrow.Author.Tests.{eqb-true, le-leb, leb-true}
 use Rattle.rules.specs.Lists.{each, only, isNil, count}
-use Rattle.rules.specs.Cells.{keyOf}
+use Rattle.rules.specs.Cells.{cells, keyOf}
 use Rattle.rules.specs.Mesh.{Quad, World, Lists, isNormalCube, at, there, quadOf, decode}
-use Rattle.rules.specs.Update.{Change, Broken, Added, Sides, Entry, givenAt, entryAt, outside, toHide, toDraw, Op, put, cut, run, moves, highest, Work, Tested, quads, nothing, draws, sided, workBy, work, cuts, puts, ops, needed, hiddenThere, drawnMissing, Course, courseFrom}
+use Rattle.rules.specs.Update.{BYTES, Change, Broken, Added, Sides, Replaced, Entry, givenAt, entryAt, outside, toHide, toDraw, Op, put, cut, run, moves, highest, Work, Tested, quads, nothing, draws, sided, broken, filled, firstHalf, secondHalf, replaced, workBy, work, cuts, puts, ops, needed, hiddenThere, drawnMissing, Course, courseFrom}
 use Rattle.rules.specs.Answers.{fine}
 use Rattle.rules.specs.Calls.{Scene, world, room, entriesOf, updateBy, updateMesh}
-use Rattle.rules.specs.Former.{Former, stayed, cullFaces, addFaces, withGiven, formerWork, giving, pairBy, pairs, formerWorks, formerUpdate, sidesOf, asSides}
+use Rattle.rules.specs.Pairs.{Single, stayed, cullFaces, addFaces, withGiven, singleWork, giving, pairBy, pairs, singleWorks, singleUpdate, sidesOf, asSides}
 use Rattle.rules.proofs.ListLaws.{and-false, and-with, split, each-same, none-each, map-each, count-each, getD-table, all-each, all-only, all-map}
 use Rattle.rules.proofs.Quads.{Once, at-cuts, run-append, run-once}
 use Rattle.rules.proofs.Index.{count-same}
-use Rattle.rules.proofs.Acting.{faceOf, isCut, acts, acting, acting-same, acting-acts, acting-all, acting-count, acting-sides}
-use Rattle.rules.proofs.Mending.{sides-own}
-use Rattle.rules.proofs.Demands.{lent-sane, asked-of, through}
-use Rattle.rules.proofs.Courses.{moves-append, cuts-shrink, highest-append, run-le}
+use Rattle.rules.proofs.Acting.{faceOf, isCut, acts, acting, after, acting-same, acting-acts, acting-all, acting-count, acting-sides}
+use Rattle.rules.proofs.Views.{Sound, sides-own}
+use Rattle.rules.proofs.Replacing.{second-idle, replaced-after}
+use Rattle.rules.proofs.Demands.{sound, lent-sane, asked-of, entry-inside, through}
+use Rattle.rules.proofs.Courses.{moves-append, cuts-shrink, puts-grow, highest-append, highest-needed, run-le}
 
 -- ---- own sides that a test picks, as keys or as quads
 module _ {A : Type 0} (x : ℕ → A) where
@@ -40,7 +41,7 @@ drawing new = record { own = []; new = new; facing = [] }
 
 -- AddFaces draws of a NormalCube what Sides does
 drawn-by : (tested : Tested) (W : World) (e : Entry) (p : ℕ → Bool) → ((f : ℕ) → f < 6 → withGiven e f ≡ p f)
-    → formerWork tested W (addFaces e) ≡ drawing (quads W (e .type) (e .cell) (λ f. isNormalCube W (e .type) && p f))
+    → singleWork tested W (addFaces e) ≡ drawing (quads W (e .type) (e .cell) (λ f. isNormalCube W (e .type) && p f))
 drawn-by tested W e p h = go (isNormalCube W (e .type))
   where
     go : (b : Bool) → cond b (drawing (quads W (e .type) (e .cell) (withGiven e))) nothing ≡ drawing (quads W (e .type) (e .cell) (λ f. b && p f))
@@ -56,7 +57,7 @@ said byte n e z f l =
     ∙ split (λ b. eqb (cond b byte 0) n ≡ (eqb byte n && b)) (withGiven e f) (λ _. sym (and-with (eqb byte n))) (λ _. z ∙ sym (and-false (eqb byte n)))
 
 -- LAW: CullFaces is Sides that hides where a neighbour was given, AddFaces Sides that draws there
-pub as-sides : (tested : Tested) (W : World) (x : Former) → work tested W (asSides x) ≡ formerWork tested W x
+pub as-sides : (tested : Tested) (W : World) (x : Single) → work tested W (asSides x) ≡ singleWork tested W x
 as-sides tested W (stayed e) = refl
 as-sides tested W (cullFaces e) =
     let gone = picked (keyOf (e .cell)) (toHide (sidesOf 1 e)) (withGiven e) (said 1 1 e refl) in
@@ -89,10 +90,10 @@ hiding-needed own m = cuts-shrink own m
 
 module _ (tested : Tested) (W : World) (e : Entry) where
   abbrev first : Work
-  first = formerWork tested W (cullFaces (giving (toHide e) e))
+  first = singleWork tested W (cullFaces (giving (toHide e) e))
 
   abbrev second : Work
-  second = formerWork tested W (addFaces (giving (toDraw e) e))
+  second = singleWork tested W (addFaces (giving (toDraw e) e))
 
   first-is : first ≡ hiding ((sided W e) .own)
   first-is = ap hiding (picked (keyOf (e .cell)) (withGiven (giving (toHide e) e)) (toHide e) (given-where (toHide e) e))
@@ -111,6 +112,19 @@ module _ (tested : Tested) (W : World) (e : Entry) where
   pub first-needed : (m : List Quad) → needed first m ≤ length m
   first-needed m = subst (λ w. needed w m ≤ length m) (sym first-is) (hiding-needed ((sided W e) .own) m)
 
+module _ (tested : Tested) (W : World) (s : Sound W) (e : Entry) (inGrid : e .cell < cells (W .size)) (m : List Quad) (once : Once m) where
+  -- LAW: Replaced asks for the larger of the pair's two needs
+  pub replaced-needed : needed (replaced tested W e) m ≡ max (needed (broken W (firstHalf e)) m) (needed (filled tested W (secondHalf e)) (run (ops (broken W (firstHalf e))) m))
+  unfolding ops needed
+  replaced-needed =
+      let gone = broken W (firstHalf e) in
+      let come = filled tested W (secondHalf e) in
+      let between = run (cuts (gone .own)) m in
+      let left = run-append (cuts (gone .own)) (puts (gone .new) ++ []) m ∙ ap (λ (os : List Op). run os between) (append-nil (puts (gone .new))) in
+      let both = ap (λ (os : List Op). run os between) (map-append put (gone .new) (come .new)) ∙ run-append (puts (gone .new)) (puts (come .new)) between in
+      let idle = second-idle tested W s e inGrid m once .1 ∙ left in
+      omega (arith, ap length both, ap (λ (x : List Quad). length (run (puts (come .new)) x)) idle, puts-grow (come .new) (run (puts (gone .new)) between))
+
 -- ---- a log
 
 -- an entry that finds its room
@@ -119,8 +133,8 @@ course-one : (room : ℕ) (works : ℕ → Work) (w : Work) (i n : ℕ) (m : Lis
 unfolding courseFrom
 course-one room works w i n m v p e l = rw (e, le-leb (needed w m) room l)
 
--- two that are one
-course-two : (room : ℕ) (works : ℕ → Work) (a b w : Work) (i n : ℕ) (m : List Quad) (v p : ℕ) → works i ≡ a → works (suc i) ≡ b → ops w ≡ ops a ++ ops b
+-- two that are one: it leaves what they leave
+course-two : (room : ℕ) (works : ℕ → Work) (a b w : Work) (i n : ℕ) (m : List Quad) (v p : ℕ) → works i ≡ a → works (suc i) ≡ b → after p m (ops w) ≡ after p m (ops a ++ ops b)
     → needed a m ≤ room → needed b (run (ops a) m) ≤ room
     → courseFrom room works i (suc (suc n)) m v p ≡ courseFrom room works (suc (suc i)) n (run (ops w) m) (v + moves (ops w) m) (highest p (ops w) m)
 course-two room works a b w i n m v p ea eb o la lb =
@@ -129,86 +143,98 @@ course-two room works a b w i n m v p ea eb o la lb =
     ∙ sym (λ j. courseFrom room works (suc (suc i)) n (left j) (moved j) (top j))
   where
     left : run (ops w) m ≡ run (ops b) (run (ops a) m)
-    left = ap (λ (os : List Op). run os m) o ∙ run-append (ops a) (ops b) m
+    left = ap (λ (x : ℕ × ℕ × List Quad). x .2) o ∙ run-append (ops a) (ops b) m
 
     moved : v + moves (ops w) m ≡ v + moves (ops a) m + moves (ops b) (run (ops a) m)
-    moved = omega (arith, ap (λ (os : List Op). moves os m) o, moves-append (ops a) (ops b) m)
+    moved = omega (arith, ap (λ (x : ℕ × ℕ × List Quad). x .1) o, moves-append (ops a) (ops b) m)
 
     top : highest p (ops w) m ≡ highest (highest p (ops a) m) (ops b) (run (ops a) m)
-    top = ap (λ (os : List Op). highest p os m) o ∙ highest-append (ops a) (ops b) p m
+    top = ap (λ (x : ℕ × ℕ × List Quad). x .0) o ∙ highest-append (ops a) (ops b) p m
 
-module _ (tested : Tested) (W : World) (room : ℕ) (entry : ℕ → Entry) (former : ℕ → Work) where
+module _ (tested : Tested) (W : World) (s : Sound W) (room : ℕ) (entry : ℕ → Entry) (single : ℕ → Work) where
   abbrev entries : ℕ → ℕ → List Entry
   entries n i = each n i (λ k. entry k ∷ [])
 
   abbrev now : ℕ → Work
   now k = work tested W (entry k)
 
-  -- from j on `former` does what these entries did
-  abbrev Follows : ℕ → List Former → Type 0
-  Follows j es = (k : ℕ) → former (j + k) ≡ getD (map (formerWork tested W) es) k nothing
+  -- from j on `single` does what these changes do
+  abbrev Follows : ℕ → List Single → Type 0
+  Follows j es = (k : ℕ) → single (j + k) ≡ getD (map (singleWork tested W) es) k nothing
 
-  later : (j : ℕ) (x : Former) (es : List Former) → Follows j (x ∷ es) → Follows (suc j) es
-  later j x es h k = ap former (omega arith) ∙ h (suc k)
+  later : (j : ℕ) (x : Single) (es : List Single) → Follows j (x ∷ es) → Follows (suc j) es
+  later j x es h k = ap single (omega arith) ∙ h (suc k)
 
-  here : (j : ℕ) (x : Former) (es : List Former) → Follows j (x ∷ es) → former j ≡ formerWork tested W x
-  here j x es h = ap former (omega arith) ∙ h 0
+  here : (j : ℕ) (x : Single) (es : List Single) → Follows j (x ∷ es) → single j ≡ singleWork tested W x
+  here j x es h = ap single (omega arith) ∙ h 0
 
-  -- LAW: a log that comes through does what its former entries do
-  pub same-course : (n i j : ℕ) (m : List Quad) (v p : ℕ) → length m ≤ room → Follows j (pairs (entries n i)) → (courseFrom room now i n m v p) .full ≡ none
-      → courseFrom room former j (length (pairs (entries n i))) m v p ≡ courseFrom room now i n m v p
+  -- LAW: a log that comes through does what its single changes do
+  pub same-course : (n i j : ℕ) (m : List Quad) (v p : ℕ) → ((k : ℕ) → i ≤ k → k < i + n → (entry k) .cell < cells (W .size)) → Once m → length m ≤ p → length m ≤ room → Follows j (pairs (entries n i)) → (courseFrom room now i n m v p) .full ≡ none
+      → courseFrom room single j (length (pairs (entries n i))) m v p ≡ courseFrom room now i n m v p
   unfolding courseFrom each
-  same-course zero i j m v p l h q = refl
-  same-course (suc n) i j m v p l h q =
+  same-course zero i j m v p inGrid once t l h q = refl
+  same-course (suc n) i j m v p inGrid once t l h q =
       found (leb (needed (now i) m) room) refl q
-      (λ f g j h. same-course n (suc i) j (run (ops (now i)) m) (v + moves (ops (now i)) m) (highest p (ops (now i)) m) f h g)
+      (λ f g j h. same-course n (suc i) j (run (ops (now i)) m) (v + moves (ops (now i)) m) (highest p (ops (now i)) m)
+      (λ k a b. inGrid k (omega arith) (omega arith)) (run-once (ops (now i)) m once) (omega (arith, highest-needed (now i) p m t, run-le (now i) m)) f h g)
     where
-      rest : List Former
+      rest : List Single
       rest = pairs (entries n (suc i))
 
-      after : Course
-      after = courseFrom room now (suc i) n (run (ops (now i)) m) (v + moves (ops (now i)) m) (highest p (ops (now i)) m)
+      end : Course
+      end = courseFrom room now (suc i) n (run (ops (now i)) m) (v + moves (ops (now i)) m) (highest p (ops (now i)) m)
 
       stop : Course
       stop = record { full = some i; quads = m; moved = v; highest = p }
 
       -- what the rest does, from whatever place on
       Rest : Type 0
-      Rest = (j : ℕ) → Follows j rest → courseFrom room former j (length rest) (run (ops (now i)) m) (v + moves (ops (now i)) m) (highest p (ops (now i)) m) ≡ after
+      Rest = (j : ℕ) → Follows j rest → courseFrom room single j (length rest) (run (ops (now i)) m) (v + moves (ops (now i)) m) (highest p (ops (now i)) m) ≡ end
 
-      one : needed (now i) m ≤ room → Rest → Follows j (stayed (entry i) ∷ rest) → courseFrom room former j (suc (length rest)) m v p ≡ after
-      one f r h = course-one room former (now i) j (length rest) m v p (here j (stayed (entry i)) rest h) f ∙ r (suc j) (later j (stayed (entry i)) rest h)
+      one : needed (now i) m ≤ room → Rest → Follows j (stayed (entry i) ∷ rest) → courseFrom room single j (suc (length rest)) m v p ≡ end
+      one f r h = course-one room single (now i) j (length rest) m v p (here j (stayed (entry i)) rest h) f ∙ r (suc j) (later j (stayed (entry i)) rest h)
 
-      step : needed (now i) m ≤ room → Rest → (k : Change) → (entry i) .change ≡ k → Follows j (pairBy (entry i) k ++ rest) → courseFrom room former j (length (pairBy (entry i) k ++ rest)) m v p ≡ after
+      two : needed (now i) m ≤ room → Rest → (a b : Single) → Follows j (a ∷ b ∷ rest) → after p m (ops (now i)) ≡ after p m (ops (singleWork tested W a) ++ ops (singleWork tested W b))
+          → needed (singleWork tested W a) m ≤ room → needed (singleWork tested W b) (run (ops (singleWork tested W a)) m) ≤ room
+          → courseFrom room single j (suc (suc (length rest))) m v p ≡ end
+      two f r a b h o la lb =
+          let g = later j a (b ∷ rest) h in
+          course-two room single (singleWork tested W a) (singleWork tested W b) (now i) j (length rest) m v p (here j a (b ∷ rest) h) (here (suc j) b rest g) o la lb
+          ∙ r (suc (suc j)) (later (suc j) b rest g)
+
+      step : needed (now i) m ≤ room → Rest → (k : Change) → (entry i) .change ≡ k → Follows j (pairBy (entry i) k ++ rest) → courseFrom room single j (length (pairBy (entry i) k ++ rest)) m v p ≡ end
       step f r Broken e h = one f r h
       step f r Added e h = one f r h
       step f r Sides e h =
           let w = ap (workBy tested W (entry i)) e in
-          let a = cullFaces (giving (toHide (entry i)) (entry i)) in
-          let b = addFaces (giving (toDraw (entry i)) (entry i)) in
-          let g = later j a (b ∷ rest) h in
-          course-two room former (formerWork tested W a) (formerWork tested W b) (now i) j (length rest) m v p (here j a (b ∷ rest) h) (here (suc j) b rest g)
-          (ap ops w ∙ sides-ops tested W (entry i))
+          two f r (cullFaces (giving (toHide (entry i)) (entry i))) (addFaces (giving (toDraw (entry i)) (entry i))) h
+          (ap (after p m) (ap ops w ∙ sides-ops tested W (entry i)))
           (omega (arith, first-needed tested W (entry i) m))
           (omega (arith, f, ap (λ (x : Work). needed x m) w, sides-needed tested W (entry i) m))
-          ∙ r (suc (suc j)) (later (suc j) b rest g)
+      step f r Replaced e h =
+          let w = ap (workBy tested W (entry i)) e in
+          let c = inGrid i (omega arith) (omega arith) in
+          let need = ap (λ (x : Work). needed x m) w ∙ replaced-needed tested W s (entry i) c m once in
+          two f r (stayed (firstHalf (entry i))) (stayed (secondHalf (entry i))) h
+          (ap (λ (x : Work). after p m (ops x)) w ∙ replaced-after tested W s (entry i) c m once p t)
+          (omega (arith, f, need)) (omega (arith, f, need))
 
-      found : (t : Bool) → leb (needed (now i) m) room ≡ t → (cond t after stop) .full ≡ none → (length (run (ops (now i)) m) ≤ room → after .full ≡ none → Rest)
-          → courseFrom room former j (length (pairBy (entry i) ((entry i) .change) ++ rest)) m v p ≡ cond t after stop
+      found : (t : Bool) → leb (needed (now i) m) room ≡ t → (cond t end stop) .full ≡ none → (length (run (ops (now i)) m) ≤ room → end .full ≡ none → Rest)
+          → courseFrom room single j (length (pairBy (entry i) ((entry i) .change) ++ rest)) m v p ≡ cond t end stop
       found true t q later = let f = leb-true (needed (now i) m) room t in step f (later (omega (arith, run-le (now i) m)) q) ((entry i) .change) refl h
       found false t q later = let z : _≡_ {A = ℕ} 0 1 = cc in absurd (omega arith)
 
--- LAW: an update that is not refused answers and leaves what the former one did by the pairs
+-- LAW: an update that is not refused answers and leaves what one by single changes does
 pub update-by-pairs : (tested : Tested) (S : Scene) (log : List ℕ) (B : Lists) (Q : ℕ) → (updateMesh tested S log B Q) .answer .number ≡ 0
-    → updateMesh tested S log B Q ≡ formerUpdate tested S (pairs (entriesOf log)) B Q
+    → updateMesh tested S log B Q ≡ singleUpdate tested S (pairs (entriesOf log)) B Q
 update-by-pairs tested S log B Q e =
     let t = through tested S log B Q e in
     let a = asked-of tested S log B Q (t .0) in
     let s = lent-sane S B Q (a .size) (a .slots) (a .count) (a .book) in
     let l = s .reached in
     let r = s .within in
-    let c = same-course tested (world S) (room S B) (entryAt log) (λ k. getD (formerWorks tested S (pairs (entriesOf log))) k nothing) (length log / 12) 0 0
-    (decode (S .types .coloured) Q B) 0 Q (omega arith) (λ k. ap (λ (n : ℕ). getD (formerWorks tested S (pairs (entriesOf log))) n nothing) (omega arith)) (t .1) in
+    let c = same-course tested (world S) (sound S (a .size) (a .types)) (room S B) (entryAt log) (λ k. getD (singleWorks tested S (pairs (entriesOf log))) k nothing) (length log / BYTES) 0 0
+    (decode (S .types .coloured) Q B) 0 Q (λ k x y. entry-inside (cells (S .size)) (length (S .types .kinds)) log (a .entries) k (omega arith)) (s .once) (omega arith) (omega arith) (λ k. ap (λ (n : ℕ). getD (singleWorks tested S (pairs (entriesOf log))) n nothing) (omega arith)) (t .1) in
     rw (t .0) (ap (λ (x : Course). updateBy fine S x B) (sym c))
 
 -- ---- the room
