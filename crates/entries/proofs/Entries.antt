@@ -19,10 +19,11 @@ use Rattle.entries.specs.declared.Entry.{Entry}
 use Rattle.entries.specs.Log.{entryIn, sideOf}
 use Rattle.entries.specs.declared.Side.the-variants.{Keep}
 
-pub change-last : (n : ℕ) → n ≢ 0 → n ≢ 1 → rule.Sides ≡ rule.changeOf n
-change-last zero a b = absurd (a refl)
-change-last (suc zero) a b = absurd (b refl)
-change-last (suc (suc n)) a b = refl
+pub change-last : (n : ℕ) → n ≢ 0 → n ≢ 1 → n ≢ 2 → rule.Replaced ≡ rule.changeOf n
+change-last zero a b c = absurd (a refl)
+change-last (suc zero) a b c = absurd (b refl)
+change-last (suc (suc zero)) a b c = absurd (c refl)
+change-last (suc (suc (suc n))) a b c = refl
 
 -- a byte that says neither
 pub side-kept : (n : ℕ) → n ≢ 1 → n ≢ 2 → Keep ≡ sideOf n

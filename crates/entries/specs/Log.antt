@@ -6,7 +6,7 @@ use Rattle.rules.specs.Lists.{table}
 use Rattle.rules.specs.Update.{outside}
 use Rattle.rules.specs.Update as rule
 use Rattle.entries.specs.declared.VoxelChange.{VoxelChange}
-use Rattle.entries.specs.declared.VoxelChange.the-variants.{Broken, Added, Sides}
+use Rattle.entries.specs.declared.VoxelChange.the-variants.{Broken, Added, Sides, Replaced}
 use Rattle.entries.specs.declared.Entry.{Entry}
 use Rattle.entries.specs.declared.Neighbour.{Neighbour}
 use Rattle.entries.specs.declared.Neighbour.the-variants.{Outside, Voxel}
@@ -18,6 +18,7 @@ abbrev pub changeIn : VoxelChange → rule.Change
 changeIn Broken = rule.Broken
 changeIn Added = rule.Added
 changeIn Sides = rule.Sides
+changeIn Replaced = rule.Replaced
 
 abbrev pub entryIn : Entry → rule.Entry
 entryIn e =
@@ -26,6 +27,7 @@ entryIn e =
       change = changeIn (e .change);
       type = e .voxel;
       given = table 6 (λ f. getD (e .neighbours) f 0);
+      former = e .former;
     }
 
 -- a neighbour is either outside or a voxel of a type

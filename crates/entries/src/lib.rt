@@ -1,4 +1,4 @@
-// The entries of a log, 12 bytes each, and which are bad.
+// The entries of a log, 16 bytes each, and which are bad.
 use face::Cell;
 use face::Face;
 use std::num::wrapping_add_u8;
@@ -7,8 +7,8 @@ ghost use Prim.Native.Nat.{_+_, _-_, _*_, _/_, _≤_, _<_, min};
 ghost use lib.ListN.{length};
 ghost use lib.Dec.{ltb};
 ghost use Rattle.rules.specs.Lists.{lowest};
-ghost use Rattle.rules.specs.Update.{u32At, changeOf, entryAt, givenAt};
-ghost use Rattle.rules.specs.Answers.{badNeighbour, badNeighbours, badSides, badBytes, badEntry};
+ghost use Rattle.rules.specs.Update.{BYTES, u32At, changeOf, entryAt, givenAt};
+ghost use Rattle.rules.specs.Answers.{badNeighbour, badNeighbours, badSides, badBytes, badFormerBy, badSpare, badEntry};
 ghost use Rattle.face.specs.Face.{number};
 ghost use Rattle.entries.specs.Log.{changeIn, entryIn, neighbourOf, sideOf};
 
@@ -16,6 +16,7 @@ pub enum VoxelChange {
     Broken,
     Added,
     Sides,
+    Replaced,
 }
 
 pub enum Neighbour {
@@ -36,11 +37,15 @@ pub struct Entry {
     pub voxel: u8,
     // By face; in Sides what becomes of the cell's own sides.
     pub neighbours: [u8; 6],
+    // What Replaced breaks. Broken repeats its voxel, Added and Sides have NO_TYPE.
+    pub former: u8,
 }
 
 impl VoxelChange {
-    // Its code, which is the highest.
     pub const SIDES: u8 = 2;
+
+    // The highest code.
+    pub const REPLACED: u8 = 3;
 
     pub fn from_u8(code: u8) -> VoxelChange
         ensures { λ r. ⌜ changeIn r ≡ changeOf code ⌝ }
@@ -48,7 +53,8 @@ impl VoxelChange {
         match code {
             0 => VoxelChange::Broken,
             1 => VoxelChange::Added,
-            _ => VoxelChange::Sides,
+            2 => VoxelChange::Sides,
+            _ => VoxelChange::Replaced,
         }
     }
 }
@@ -56,7 +62,10 @@ impl VoxelChange {
 impl Entry {
     pub const OUTSIDE: u8 = 255;
 
-    pub const BYTES: usize = 12;
+    // As a former type.
+    pub const NO_TYPE: u8 = 255;
+
+    pub const BYTES: usize = 16;
 
     pub const MOST: usize = 16_777_216;
 
@@ -103,7 +112,7 @@ fn u32_at(log: &[u8], at: usize) -> u32
 }
 
 pub fn read_entry(log: &[u8], k: usize) -> Entry
-    requires { ⌜ 12 * k + 12 ≤ length (now log) ⌝ }
+    requires { ⌜ BYTES * k + BYTES ≤ length (now log) ⌝ }
     ensures { λ r. ⌜ entryIn r ≡ entryAt (now (log .entry)) k ⌝ }
 {
     let at = Entry::BYTES * k;
@@ -119,11 +128,13 @@ pub fn read_entry(log: &[u8], k: usize) -> Entry
         log[side + 4],
         log[side + 5],
     ];
+    let former = log[at + 12];
     Entry {
         cell: cell,
         change: change,
         voxel: voxel,
         neighbours: neighbours,
+        former: former,
     }
 }
 
@@ -186,21 +197,43 @@ fn bad_bytes(log: &[u8], at: usize, types: u32) -> bool
     bad_neighbours(log, at, types)
 }
 
+// Whether the former type is none that the change takes.
+fn bad_former(change: VoxelChange, voxel: u8, former: u8, types: u32) -> bool
+    ensures { λ r. ⌜ r ≡ badFormerBy types voxel former (changeIn change) ⌝ }
+{
+    match change {
+        VoxelChange::Broken => former != voxel,
+        VoxelChange::Added => former != Entry::NO_TYPE,
+        VoxelChange::Sides => former != Entry::NO_TYPE,
+        VoxelChange::Replaced => types <= former as u32,
+    }
+}
+
+// Whether one of the last three bytes is not zero.
+fn bad_spare(log: &[u8], at: usize) -> bool
+    requires { ⌜ at + 16 ≤ length (now log) ⌝ }
+    ensures { λ r. ⌜ r ≡ badSpare (now (log .entry)) at ⌝ }
+{
+    !((log[at + 13] == 0) & (log[at + 14] == 0) & (log[at + 15] == 0))
+}
+
 fn bad_entry(log: &[u8], k: usize, cells: u32, types: u32) -> bool
-    requires { ⌜ 12 * k + 12 ≤ length (now log) ⌝ }
+    requires { ⌜ BYTES * k + BYTES ≤ length (now log) ⌝ }
     ensures { λ r. ⌜ r ≡ badEntry cells types (now (log .entry)) k ⌝ }
 {
     let at = Entry::BYTES * k;
     (Entry::MOST <= k)
         | (cells <= u32_at(log, at))
-        | (VoxelChange::SIDES < log[at + 4])
+        | (VoxelChange::REPLACED < log[at + 4])
         | (types <= wide_byte(log[at + 5]))
         | bad_bytes(log, at, types)
+        | bad_former(VoxelChange::from_u8(log[at + 4]), log[at + 5], log[at + 12], types)
+        | bad_spare(log, at)
 }
 
 // The lowest entry with a bad field or past the limit, or the number of whole entries.
 pub fn first_bad_entry(log: &[u8], cells: u32, types: u32) -> usize
-    ensures { λ r. ⌜ r ≡ lowest (length (now (log .entry)) / 12) (badEntry cells types (now (log .entry))) ⌝ }
+    ensures { λ r. ⌜ r ≡ lowest (length (now (log .entry)) / BYTES) (badEntry cells types (now (log .entry))) ⌝ }
 {
     let entries = log.len() / Entry::BYTES;
     let mut k = 0;

@@ -171,7 +171,7 @@ badFormer types log at = badFormerBy types (getD log (at + 5) 0) (getD log (at +
 
 -- the three spare bytes are zero
 unfoldable pub badSpare : List ℕ → ℕ → Bool
-badSpare log at = not (every 3 (λ i. eqb (getD log (at + (13 + i)) 0) 0))
+badSpare log at = not (eqb (getD log (at + 13) 0) 0 && eqb (getD log (at + 14) 0) 0 && eqb (getD log (at + 15) 0) 0)
 
 unfoldable pub badEntry : ℕ → ℕ → List ℕ → ℕ → Bool
 badEntry cells types log k =

@@ -1,22 +1,32 @@
+use mathlib.Core.Path.{ap, _∙_}
 use mathlib.Core.Bool.{_||_}
 use Prim.Native.Nat.{_+_, _*_}
 use lib.ListN.{getD}
 use lib.Dec.{leb, ltb}
-use Rattle.rules.specs.Answers.{badEntry}
+use Rattle.rules.specs.Update.{BYTES}
+use Rattle.rules.specs.Answers.{badFormerBy, badFormer, badEntry}
 use borrow.Author.Needs.{needs}
 use Rattle.entries.proofs.bad_entry.Statement.{statement}
 use Rattle.entries.proofs.bad_entry.Tie as tie
 
 -- field by field
 returns : tie.Need-returns
-unfolding badEntry
+unfolding badEntry badFormer
 returns c =
-    let cell = c .before .before .before .before in
+    let former = c .before in
+    let change = former .before .before .before in
+    let bytes = change .before .before in
+    let voxel = bytes .before in
+    let cell = voxel .before .before .before in
     let a = cell .before .before .args in
-    λ i. leb 16777216 (a .k) || leb (a .cells) (cell .u32-at .ensures i) || ltb 2 (getD (a .log .now) (12 * a .k + 4) 0) || leb (a .types) (c .before .wide-byte .ensures .0 i) || c .bad-bytes .ensures i
+    let at = BYTES * a .k in
+    let taken = former .bad-former .ensures ∙ ap (badFormerBy (a .types) (getD (a .log .now) (at + 5) 0) (getD (a .log .now) (at + 12) 0)) (change .from-u8 .ensures) in
+    λ i. leb 16777216 (a .k) || leb (a .cells) (cell .u32-at .ensures i) || ltb 3 (getD (a .log .now) (at + 4) 0) || leb (a .types) (voxel .wide-byte .ensures .0 i) || bytes .bad-bytes .ensures i
+        || taken i || c .bad-spare .ensures i
 
 pub bad-entry-spec : {M : Type 1} → statement M
 bad-entry-spec =
     tie.close
     (tie.spec (λ c. search needs) (λ c κs. search needs) (λ c. search needs) (λ c. search needs) (λ c. search needs) (λ c. search needs)
-    (λ c κs. search needs) (λ c κs. search needs) returns)
+    (λ c κs. search needs) (λ c κs. search needs) (λ c. search needs) (λ c. search needs) (λ c κs. search needs) (λ c. search needs)
+    (λ c. search needs) (λ c. search needs) (λ c. search needs) (λ c κs. search needs) (λ c κs. search needs) returns)

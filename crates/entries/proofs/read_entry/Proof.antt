@@ -1,5 +1,6 @@
 use Prim.Native.Nat.{_+_, _*_}
-use Rattle.rules.specs.Update.{entryAt}
+use lib.ListN.{getD}
+use Rattle.rules.specs.Update.{BYTES, entryAt}
 use Rattle.entries.proofs.Entries.{six}
 use native.Mathlib.Omega.{arith}
 use borrow.Author.Needs.{needs}
@@ -9,17 +10,17 @@ use Rattle.entries.proofs.read_entry.Tie as tie
 returns : tie.Need-returns
 unfolding entryAt
 returns c =
-    let t = c .before .before .before .before .before .before .before .before .before .before .before in
+    let t = c .before .before .before .before .before .before .before .before .before .before .before .before in
     let log = t .args .log .now in
-    let at = 12 * t .args .k + 6 in
+    let at = BYTES * t .args .k + 6 in
     let s = six at log (omega arith) in
-    let x = c .before .before .before .before .before .before .before .before .before .u32-at .ensures in
-    let y = c .before .before .before .before .before .before .before .from-u8 .ensures in
-    cc
+    let x = c .before .before .before .before .before .before .before .before .before .before .u32-at .ensures in
+    let y = c .before .before .before .before .before .before .before .before .from-u8 .ensures in
+    λ i. record { cell = x i; change = y i; type = getD log (BYTES * t .args .k + 5) 0; given = s i; former = getD log (BYTES * t .args .k + 12) 0 }
 
 pub read-entry-spec : {M : Type 1} → statement M
 read-entry-spec =
     tie.close
     (tie.spec (λ c. search needs) (λ c κs. search needs) (λ c. search needs) (λ c. search needs) (λ c κs. search needs) (λ c. search needs)
     (λ c. search needs) (λ c. search needs) (λ c. search needs) (λ c. search needs) (λ c. search needs) (λ c. search needs) (λ c. search needs)
-    (λ c. search needs) (λ c. search needs) (λ c. search needs) (λ c. search needs) (λ c. search needs) (λ c. search needs) returns)
+    (λ c. search needs) (λ c. search needs) (λ c. search needs) (λ c. search needs) (λ c. search needs) (λ c. search needs) (λ c. search needs) (λ c. search needs) returns)
