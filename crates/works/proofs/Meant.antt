@@ -1,7 +1,7 @@
 -- The four side sets of an entry are the rule's work, and their deeds, face by face, its operations. Assumes nothing.
 use mathlib.Core.Path.{_≡_, refl, sym, ap, _∙_}
 use mathlib.Core.Bool.{Bool, true, false, cond, _&&_, false≢true}
-use mathlib.Core.List.{List, [], _∷_, _++_, append-nil, append-assoc, map}
+use mathlib.Core.List.{List, [], _∷_, _++_, append-nil, append-assoc, map, map-append}
 use mathlib.Core.Option.{Option, none, some}
 use Prim.Native.Nat.{ℕ, zero, suc, _/_, _%_, _<_}
 use native.Mathlib.Omega.{arith}
@@ -10,14 +10,14 @@ use Rattle.rules.specs.Lists.{each, only}
 use Rattle.rules.specs.Cells.{Size, opposite, neighbour, keyOf, has, setOf}
 use Rattle.rules.specs.Mesh.{Quad, World, isNormalCube, covering, quadOf}
 use Rattle.rules.specs.Update as rule
-use Rattle.rules.specs.Update.{Entry, Change, Tested, Broken, Added, Sides, Op, put, cut, run, cuts, puts, ops, needed, givenAt, sides, quads, all, isOpen, toHide, toDraw, draws, reveal, nothing, added, workBy, work}
+use Rattle.rules.specs.Update.{Entry, Change, Tested, Broken, Added, Sides, Replaced, Op, put, cut, run, cuts, puts, ops, needed, givenAt, sides, quads, all, isOpen, toHide, toDraw, draws, reveal, nothing, added, broken, firstHalf, workBy, work}
 use Rattle.rules.proofs.Sets.{zero-has, has-setOf}
 use Rattle.rules.proofs.Neighbours.{opposite-lt}
 use Rattle.rules.proofs.ListLaws.{split, and-true, map-each, each-same}
 use Rattle.rules.proofs.Quads.{run-append}
 use Rattle.steps.specs.Steps.{opOf}
 use Rattle.works.specs.declared.Work.{Work}
-use Rattle.works.specs.Sets.{typesBy, sets, noWork, isShown, meantBy, meant, cutting, typeDrawn, deedBy, quadIn, CubesDrawn}
+use Rattle.works.specs.Sets.{typesBy, sets, noWork, isShown, shownFor, openFor, hiddenFor, meantBy, meant, cutting, typeDrawn, deedBy, quadIn, CubesDrawn}
 use Rattle.works.proofs.Works.{facing}
 
 -- the faces that a part is about at side f, if the grid has them
@@ -79,9 +79,9 @@ module _ (W : World) (e : Entry) where
   own-put : (p : ℕ → Bool) → partOps W e (setOf p) 2 ≡ puts (quads W (e .type) (e .cell) p)
   own-put p = own-part put (quadOf W (e .type) (e .cell)) 2 (setOf p) p (λ f. refl) (has-setOf p) (λ f l. ap put (quad-at (e .type) (e .cell) f l))
 
-  near-put : partOps W e (setOf (λ i. covering W (e .type) i && isNormalCube W (givenAt e i))) 1 ≡ puts (each 6 0 (λ i. reveal W (e .type) (givenAt e i) i (beyond i)))
-  near-put =
-      near-part put (λ i. reveal W (e .type) (givenAt e i) i) (λ f n. quadOf W (givenAt e f) n (opposite f)) 1 (λ i. covering W (e .type) i && isNormalCube W (givenAt e i)) (λ f. refl)
+  near-put : (t : ℕ) → partOps W e (shownFor W e t) 1 ≡ puts (each 6 0 (λ i. reveal W t (givenAt e i) i (beyond i)))
+  near-put t =
+      near-part put (λ i. reveal W t (givenAt e i) i) (λ f n. quadOf W (givenAt e f) n (opposite f)) 1 (λ i. covering W t i && isNormalCube W (givenAt e i)) (λ f. refl)
       (λ f. refl) (λ f n. refl) (λ f n l. ap put (quad-at (givenAt e f) n (opposite f) (opposite-lt f l)))
 
   near-cut : (tested : Tested) → partOps W e (setOf (λ i. covering W (e .type) (tested i))) 3 ≡ cuts (each 6 0 (λ i. rule.hide tested W (e .type) i (beyond i)))
@@ -95,10 +95,10 @@ module _ (W : World) (e : Entry) where
   idle-means = record { own = idle 0; new = (λ i. idle 1 i ++ idle 2 i); facing = idle 3 }
 
   by-change : (tested : Tested) (k : Change) → Means W e (meantBy tested (typesBy (W .kinds) (W .covers)) e k) (workBy tested W e k)
-  by-change tested Broken = record { own = own-cut 63 all (has-setOf all); new = (λ i. near-put i ++ idle 2 i) ∙ append-nil _; facing = idle 3 }
+  by-change tested Broken = record { own = own-cut 63 all (has-setOf all); new = (λ i. near-put (e .type) i ++ idle 2 i) ∙ append-nil _; facing = idle 3 }
   by-change tested Added = pick (isNormalCube W (e .type))
     where
-      pick : (b : Bool) → Means W e (cond b (sets 63 0 (setOf (isOpen W e)) (setOf (λ i. covering W (e .type) (tested i)))) noWork) (cond b (added tested W e) nothing)
+      pick : (b : Bool) → Means W e (sets (cond b 63 0) 0 (openFor b W e) (hiddenFor b tested W e)) (cond b (added tested W e) nothing)
       pick true = record { own = own-cut 63 all (has-setOf all); new = (λ i. idle 1 i ++ own-put (isOpen W e) i); facing = near-cut tested }
       pick false = idle-means
   by-change tested Sides =
@@ -107,6 +107,22 @@ module _ (W : World) (e : Entry) where
         new = λ i. idle 1 i ++ own-put (draws W e) i;
         facing = idle 3;
       }
+  by-change tested Replaced = pick (isNormalCube W (e .type))
+    where
+      pick : (b : Bool) → let come = cond b (added tested W e) nothing in
+          Means W e (sets 63 (shownFor W e (e .former)) (openFor b W e) (hiddenFor b tested W e)) (record { own = sides (e .cell) all; new = (broken W (firstHalf e)) .new ++ come .new; facing = come .facing })
+      pick true =
+          record {
+            own = own-cut 63 all (has-setOf all);
+            new = (λ i. near-put (e .former) i ++ own-put (isOpen W e) i) ∙ sym (map-append put ((broken W (firstHalf e)) .new) ((added tested W e) .new));
+            facing = near-cut tested;
+          }
+      pick false =
+          record {
+            own = own-cut 63 all (has-setOf all);
+            new = (λ i. near-put (e .former) i ++ idle 2 i) ∙ sym (map-append put ((broken W (firstHalf e)) .new) []);
+            facing = idle 3;
+          }
 
   -- LAW: the sets of an entry are the rule's work
   pub meant-work : (tested : Tested) → Means W e (meant tested W e) (work tested W e)
@@ -133,20 +149,22 @@ module _ (W : World) (e : Entry) where
   pub meant-cubes : (tested : Tested) → CubesDrawn (W .kinds) e (meant tested W e)
   meant-cubes tested = go (e .change)
     where
-      if-cube : (drawn hidden : ℕ) → CubesDrawn (W .kinds) e (cond (isNormalCube W (e .type)) (sets 63 0 drawn hidden) noWork)
-      if-cube drawn hidden =
-          split (λ b. isNormalCube W (e .type) ≡ b → CubesDrawn (W .kinds) e (cond b (sets 63 0 drawn hidden) noWork)) (isNormalCube W (e .type))
-          (λ _ c. record { shown = λ i l h. nothing-in i h; drawn = λ i l h. c }) (λ _ c. record { shown = λ i l h. nothing-in i h; drawn = λ i l h. nothing-in i h }) refl
+      if-shown : (t i : ℕ) → i < 6 → has (shownFor W e t) i ≡ true → isNormalCube W (givenAt e i) ≡ true
+      if-shown t i l h = and-true (covering W t i) (isNormalCube W (givenAt e i)) (sym (has-setOf (isShown (W .kinds) (getD (W .covers) t 0) e) i l) ∙ h) .1
+
+      if-open : (i : ℕ) → has (openFor (isNormalCube W (e .type)) W e) i ≡ true → isNormalCube W (e .type) ≡ true
+      if-open i = split (λ b. has (openFor b W e) i ≡ true → b ≡ true) (isNormalCube W (e .type)) (λ _ h. refl) (λ _ h. nothing-in i h)
 
       go : (k : Change) → CubesDrawn (W .kinds) e (meantBy tested (typesBy (W .kinds) (W .covers)) e k)
       go Broken =
           record {
-            shown = λ i l h. and-true (covering W (e .type) i) (isNormalCube W (givenAt e i)) (sym (has-setOf (isShown (W .kinds) (getD (W .covers) (e .type) 0) e) i l) ∙ h) .1;
+            shown = if-shown (e .type);
             drawn = λ i l h. nothing-in i h;
           }
-      go Added = if-cube _ _
+      go Added = record { shown = λ i l h. nothing-in i h; drawn = λ i l h. if-open i h }
       go Sides =
           record {
             shown = λ i l h. nothing-in i h;
             drawn = λ i l h. and-true (isNormalCube W (e .type)) (toDraw e i) (sym (has-setOf (draws W e) i l) ∙ h) .0;
           }
+      go Replaced = record { shown = if-shown (e .former); drawn = λ i l h. if-open i h }

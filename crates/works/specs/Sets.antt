@@ -1,7 +1,7 @@
 -- What an entry means, as four side sets, and face by face. Definitions only.
 use Prim.Native.Nat.{ℕ, zero, suc, _+_, _-_, _*_, _/_, _%_, _<_}
 use mathlib.Core.Path.{_≡_}
-use mathlib.Core.Bool.{Bool, true, cond, not, _&&_}
+use mathlib.Core.Bool.{Bool, true, false, cond, not, _&&_}
 use mathlib.Core.List.{List, []}
 use mathlib.Core.Option.{Option, none, some}
 use lib.ListN.{getD}
@@ -9,9 +9,10 @@ use lib.Dec.{eqb, ltb}
 use Rattle.rules.specs.Lists.{each, only, table}
 use Rattle.rules.specs.Cells.{Size, opposite, neighbour, keyOf, has, setOf}
 use Rattle.rules.specs.Mesh.{Quad, World, NONE, isNormalCube, covering}
-use Rattle.rules.specs.Update.{Entry, Change, Broken, Added, Sides, Tested, givenAt, toHide, draws, isOpen}
+use Rattle.rules.specs.Update.{Entry, Change, Broken, Added, Sides, Replaced, Tested, givenAt, toHide, draws, isOpen}
 use Rattle.steps.specs.Steps.{Deed, show, hide, quadBy}
 use Rattle.works.specs.declared.Work.{Work}
+use Rattle.works.specs.declared.Stroke.{Stroke}
 
 -- the types alone
 abbrev pub typesBy : List ℕ → List ℕ → World
@@ -27,15 +28,33 @@ noWork = sets 0 0 0 0
 abbrev pub isShown : List ℕ → ℕ → Entry → ℕ → Bool
 isShown kinds cover e i = has cover i && eqb (getD kinds (givenAt e i) 0) 1
 
+-- facing sides that show when a type goes; own sides that are open, and facing sides that are hidden, where a cube comes
+abbrev pub shownFor : World → Entry → ℕ → ℕ
+shownFor W e t = setOf (isShown (W .kinds) (getD (W .covers) t 0) e)
+
+abbrev pub openFor : Bool → World → Entry → ℕ
+openFor cube W e = cond cube (setOf (isOpen W e)) 0
+
+abbrev pub hiddenFor : Bool → Tested → World → Entry → ℕ
+hiddenFor cube tested W e = cond cube (setOf (λ i. covering W (e .type) (tested i))) 0
+
 -- ---- the four sets of each change
 abbrev pub meantBy : Tested → World → Entry → Change → Work
-meantBy tested W e Broken = sets 63 (setOf (isShown (W .kinds) (getD (W .covers) (e .type) 0) e)) 0 0
-meantBy tested W e Added = cond (isNormalCube W (e .type)) (sets 63 0 (setOf (isOpen W e)) (setOf (λ i. covering W (e .type) (tested i)))) noWork
+meantBy tested W e Broken = sets 63 (shownFor W e (e .type)) 0 0
+meantBy tested W e Added = let cube = isNormalCube W (e .type) in sets (cond cube 63 0) 0 (openFor cube W e) (hiddenFor cube tested W e)
 meantBy tested W e Sides = sets (setOf (toHide e)) 0 (setOf (draws W e)) 0
+meantBy tested W e Replaced = let cube = isNormalCube W (e .type) in sets 63 (shownFor W e (e .former)) (openFor cube W e) (hiddenFor cube tested W e)
 
 -- the types alone decide it
 abbrev pub meant : Tested → World → Entry → Work
 meant tested W e = meantBy tested (typesBy (W .kinds) (W .covers)) e (e .change)
+
+-- a change of what stands in the cell: whether something goes, whether something is put, and the type that goes
+abbrev pub strokeBy : Entry → Change → Stroke
+strokeBy e Broken = record { breaks = true; adds = false; gone = e .type }
+strokeBy e Added = record { breaks = false; adds = true; gone = e .type }
+strokeBy e Sides = record { breaks = false; adds = false; gone = e .type }
+strokeBy e Replaced = record { breaks = true; adds = true; gone = e .former }
 
 -- ---- the four parts: their sets, as one of 24, the faces that they are about, and what is done there
 abbrev pub setIn : Work → ℕ → ℕ

@@ -26,9 +26,9 @@ ghost use Rattle.rules.specs.Cells.{cells, coordinates, neighbour, setOf};
 ghost use Rattle.rules.specs.Update.{givenAt, toHide, toDraw, isOpen};
 ghost use Rattle.face.specs.Face.{number};
 ghost use Rattle.util.specs.Grid.{sizeOf, tripleOf, Within, Inverts};
-ghost use Rattle.entries.specs.Log.{entryIn};
+ghost use Rattle.entries.specs.Log.{changeIn, entryIn};
 ghost use Rattle.terms.specs.Modes.{testedBy};
-ghost use Rattle.works.specs.Sets.{typesBy, isShown, sets, noWork, meant, setIn, packed, keyOr, keysAround, cutting, typeDrawn};
+ghost use Rattle.works.specs.Sets.{typesBy, isShown, strokeBy, meant, setIn, packed, keyOr, keysAround, cutting, typeDrawn};
 
 // All six sides.
 const ALL_SIDES: u8 = 63;
@@ -124,30 +124,36 @@ fn sides_to_draw(cube: bool, entry: Entry) -> u8
     )
 }
 
-fn open_sides(covers: &[u8], entry: Entry) -> u8
-    ensures { λ r. ⌜ r ≡ setOf (isOpen (typesBy [] (now (covers .entry))) (entryIn entry)) ⌝ }
+fn open_sides(on: bool, covers: &[u8], entry: Entry) -> u8
+    ensures { λ r. ⌜ r ≡ cond on (setOf (isOpen (typesBy [] (now (covers .entry))) (entryIn entry))) 0 ⌝ }
 {
-    side_set(
-        is_open(covers, entry, Face::Top),
-        is_open(covers, entry, Face::Bottom),
-        is_open(covers, entry, Face::Right),
-        is_open(covers, entry, Face::Left),
-        is_open(covers, entry, Face::Back),
-        is_open(covers, entry, Face::Forward),
-    )
+    if on {
+        return side_set(
+            is_open(covers, entry, Face::Top),
+            is_open(covers, entry, Face::Bottom),
+            is_open(covers, entry, Face::Right),
+            is_open(covers, entry, Face::Left),
+            is_open(covers, entry, Face::Back),
+            is_open(covers, entry, Face::Forward),
+        );
+    }
+    0
 }
 
-fn shown_sides(kinds: &[u8], cover: u8, entry: Entry) -> u8
-    ensures { λ r. ⌜ r ≡ setOf (isShown (now (kinds .entry)) cover (entryIn entry)) ⌝ }
+fn shown_sides(on: bool, kinds: &[u8], cover: u8, entry: Entry) -> u8
+    ensures { λ r. ⌜ r ≡ cond on (setOf (isShown (now (kinds .entry)) cover (entryIn entry))) 0 ⌝ }
 {
-    side_set(
-        is_shown(kinds, cover, entry, Face::Top),
-        is_shown(kinds, cover, entry, Face::Bottom),
-        is_shown(kinds, cover, entry, Face::Right),
-        is_shown(kinds, cover, entry, Face::Left),
-        is_shown(kinds, cover, entry, Face::Back),
-        is_shown(kinds, cover, entry, Face::Forward),
-    )
+    if on {
+        return side_set(
+            is_shown(kinds, cover, entry, Face::Top),
+            is_shown(kinds, cover, entry, Face::Bottom),
+            is_shown(kinds, cover, entry, Face::Right),
+            is_shown(kinds, cover, entry, Face::Left),
+            is_shown(kinds, cover, entry, Face::Back),
+            is_shown(kinds, cover, entry, Face::Forward),
+        );
+    }
+    0
 }
 
 // Whether the side tested is covered.
@@ -157,36 +163,61 @@ fn is_hidden(tested: Tested, cover: u8, face: Face) -> bool
     has(cover, tested.side(face))
 }
 
-fn hidden_sides(tested: Tested, cover: u8) -> u8
-    ensures { λ r. ⌜ r ≡ setOf (λ i. rule.has cover (testedBy tested i)) ⌝ }
-{
-    side_set(
-        is_hidden(tested, cover, Face::Top),
-        is_hidden(tested, cover, Face::Bottom),
-        is_hidden(tested, cover, Face::Right),
-        is_hidden(tested, cover, Face::Left),
-        is_hidden(tested, cover, Face::Back),
-        is_hidden(tested, cover, Face::Forward),
-    )
-}
-
-fn work_if(on: bool, own: u8, shown: u8, drawn: u8, hidden: u8) -> Work
-    ensures { λ r. ⌜ r ≡ cond on (sets own shown drawn hidden) noWork ⌝ }
+fn hidden_sides(on: bool, tested: Tested, cover: u8) -> u8
+    ensures { λ r. ⌜ r ≡ cond on (setOf (λ i. rule.has cover (testedBy tested i))) 0 ⌝ }
 {
     if on {
-        return Work {
-            own,
-            shown,
-            drawn,
-            hidden,
-        };
+        return side_set(
+            is_hidden(tested, cover, Face::Top),
+            is_hidden(tested, cover, Face::Bottom),
+            is_hidden(tested, cover, Face::Right),
+            is_hidden(tested, cover, Face::Left),
+            is_hidden(tested, cover, Face::Back),
+            is_hidden(tested, cover, Face::Forward),
+        );
     }
-    Work {
-        own: 0,
-        shown: 0,
-        drawn: 0,
-        hidden: 0,
+    0
+}
+
+// What becomes of what stands in the cell, and the type that goes. Sides leaves it as it is.
+struct Stroke {
+    breaks: bool,
+    adds: bool,
+    gone: u8,
+}
+
+fn stroke_of(entry: Entry) -> Stroke
+    ensures { λ r. ⌜ r ≡ strokeBy (entryIn entry) (changeIn (entry .change)) ⌝ }
+{
+    let change = entry.change;
+    match change {
+        VoxelChange::Broken => Stroke {
+            breaks: true,
+            adds: false,
+            gone: entry.voxel,
+        },
+        VoxelChange::Added => Stroke {
+            breaks: false,
+            adds: true,
+            gone: entry.voxel,
+        },
+        VoxelChange::Sides => Stroke {
+            breaks: false,
+            adds: false,
+            gone: entry.voxel,
+        },
+        VoxelChange::Replaced => Stroke {
+            breaks: true,
+            adds: true,
+            gone: entry.former,
+        },
     }
+}
+
+fn all_if(on: bool) -> u8
+    ensures { λ r. ⌜ r ≡ cond on 63 0 ⌝ }
+{
+    if on { ALL_SIDES } else { 0 }
 }
 
 // The work of an entry.
@@ -194,18 +225,27 @@ pub fn work_of(kinds: &[u8], covers: &[u8], tested: Tested, entry: Entry) -> Wor
     ensures { λ r. ⌜ r ≡ meant (testedBy tested) (typesBy (now (kinds .entry)) (now (covers .entry))) (entryIn entry) ⌝ }
 {
     let cube = code_of(kinds, entry.voxel) == 1;
-    let cover = code_of(covers, entry.voxel);
-    let change = entry.change;
-    match change {
-        VoxelChange::Broken => work_if(true, ALL_SIDES, shown_sides(kinds, cover, entry), 0, 0),
-        VoxelChange::Added => {
-            let open = open_sides(covers, entry);
-            work_if(cube, ALL_SIDES, 0, open, hidden_sides(tested, cover))
-        }
-        VoxelChange::Sides => {
-            let drawn = sides_to_draw(cube, entry);
-            work_if(true, sides_to_hide(entry), 0, drawn, 0)
-        }
+    let stroke = stroke_of(entry);
+    if !(stroke.breaks | stroke.adds) {
+        let own = sides_to_hide(entry);
+        let drawn = sides_to_draw(cube, entry);
+        return Work {
+            own: own,
+            shown: 0,
+            drawn: drawn,
+            hidden: 0,
+        };
+    }
+    let comes = stroke.adds & cube;
+    let own = all_if(stroke.breaks | comes);
+    let shown = shown_sides(stroke.breaks, kinds, code_of(covers, stroke.gone), entry);
+    let drawn = open_sides(comes, covers, entry);
+    let hidden = hidden_sides(comes, tested, code_of(covers, entry.voxel));
+    Work {
+        own: own,
+        shown: shown,
+        drawn: drawn,
+        hidden: hidden,
     }
 }
 
