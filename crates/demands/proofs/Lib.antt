@@ -1,5 +1,5 @@
--- The promises, by the demand that they are of: Answers and OneOutcome (1 and 2), Room (1 and 2), Fresh (2 and 3), Exact (3), Mending (2 and 3), Apart and Sides (2, and document 02's
--- Q-8 and Q-6); ByNumber says most of them of the C calls. Telling, Stopped and Lent carry them.
+-- The promises, by the demand that they are of: Answers and OneOutcome (1 and 2), Room (1 and 2), Fresh (2 and 3), Exact (3), Mending (2 and 3), Apart and Pairs (2, and document 02's
+-- Q-8, Q-6 and Q-7); ByNumber says most of them of the C calls. Telling, Stopped and Lent carry them.
 pub mod Telling
 pub mod Stopped
 pub mod Lent
@@ -10,5 +10,5 @@ pub mod Exact
 pub mod Fresh
 pub mod Mending
 pub mod Apart
-pub mod Sides
+pub mod Pairs
 pub mod ByNumber

@@ -10,7 +10,7 @@ use lib.ListN.{length}
 use Rattle.rules.specs.Lists.{each}
 use Rattle.rules.specs.Mesh.{Lists, isNormalCube}
 use Rattle.rules.specs.Update as rules
-use Rattle.rules.specs.Update.{Entry, entryAt, source, itself, Honest, Mends, Alike, AddsAlike}
+use Rattle.rules.specs.Update.{BYTES, Entry, entryAt, source, itself, Honest, Mends, Alike, AddsAlike}
 use Rattle.rules.specs.Calls.{Answer, Scene, Outcome, world, entriesOf, updateMesh}
 use Rattle.rules.proofs.Courses.{honest-first, mends-first, alike-first}
 use Rattle.rules.proofs.Modes.{table-alike, itself-alike, modes-agree}
@@ -68,9 +68,9 @@ mended-passes mode S log grid B exit Q count r passed true-log mended checked =
 -- ---- out of room, and still right
 
 -- the first entries of a log of demand 3 are such a log
-module _ (S : Scene) (log : List ℕ) (k : ℕ) (inLog : k ≤ length log / 12) where
+module _ (S : Scene) (log : List ℕ) (k : ℕ) (inLog : k ≤ length log / BYTES) where
   abbrev rest : List Entry
-  rest = each (length log / 12 - k) k (λ j. entryAt log j ∷ [])
+  rest = each (length log / BYTES - k) k (λ j. entryAt log j ∷ [])
 
   split : entriesOf log ≡ entriesOf (firstOf k log) ++ rest
   split = entries-first log k inLog

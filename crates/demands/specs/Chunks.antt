@@ -3,7 +3,7 @@ use Prim.Native.Nat.{ℕ, suc, _*_}
 use mathlib.Core.List.{List, []}
 use lib.ListN.{take}
 use Rattle.rules.specs.Mesh.{Lists}
-use Rattle.rules.specs.Update.{source, gridLog, Honest, Mends, AddsAlike}
+use Rattle.rules.specs.Update.{BYTES, source, gridLog, Honest, Mends, AddsAlike}
 use Rattle.rules.specs.Calls.{Scene, world, entriesOf}
 use Rattle.answers.specs.declared.Verdict.the-variants.{Fine}
 use Rattle.terms.specs.declared.Tested.{Tested}
@@ -25,18 +25,19 @@ Passes S k = Checks S [] (k .grid) (k .lists) (k .quads) Fine
 
 -- the first k entries of a log
 abbrev pub firstOf : ℕ → List ℕ → List ℕ
-firstOf k log = take (12 * k) log
+firstOf k log = take (BYTES * k) log
 
 -- the grid that a log leaves
 abbrev pub groundAfter : Scene → List ℕ → List ℕ → List ℕ
 groundAfter S log grid = gridLog (world S) (entriesOf log) grid
 
--- an honest log of Added and Broken alone whose Added put NormalCubes into cells that hold a Null covering nothing: demand 3's in the new mode
+-- an honest log of Added, Broken and Replaced alone, whose Added put NormalCubes into cells that hold a Null covering nothing, and whose Replaced put NormalCubes: demand 3's in the
+-- new mode
 pub record FillingLog (S : Scene) (grid log : List ℕ) : Type 0 where
   pub honest : Honest (world S) grid (entriesOf log)
   pub mends : Mends (world S) grid (entriesOf log)
 
--- the NormalCubes that a log adds cover the opposite of each side as the side itself
+-- the NormalCubes that a log puts cover the opposite of each side as the side itself
 abbrev pub AlikeLog : Scene → List ℕ → Type 0
 AlikeLog S log = AddsAlike source (world S) (entriesOf log)
 

@@ -6,7 +6,7 @@ use Rattle.telling.specs.Numbers.{isYes}
 
 -- the level of the calls: after Q-6
 abbrev pub ABI : ℕ
-ABI = 4
+ABI = 5
 
 abbrev pub shapeFrom : ℕ → ℕ → ℕ → ℕ → ℕ → List ℕ → ℕ → ℕ → ℕ → ℕ → ℕ → ℕ → ℕ → Shape
 shapeFrom dx dy dz atlasWidth atlasHeight texture cx cy cz padding coloured colour alpha =

@@ -24,7 +24,7 @@ ghost use Rattle.exports.specs.Arguments.{ABI, shapeFrom};
 pub extern "C" fn meshem_abi() -> u32
     ensures { λ r. ⌜ r ≡ ABI ⌝ }
 {
-    4
+    5
 }
 
 #[no_mangle]

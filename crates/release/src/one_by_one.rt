@@ -1,6 +1,7 @@
 // A mesh made, mended by a call for each entry of a log, and checked.
 use crate::check_made;
 use answers::Verdict;
+use entries::Entry;
 use meshem::Meshed;
 use meshem::mesh_grid;
 use terms::MeshingAlgorithm;
@@ -11,6 +12,7 @@ use update::update_mesh;
 ghost use mathlib.Core.Path.{_≡_};
 ghost use Prim.Native.Nat.{_/_};
 ghost use lib.ListN.{length};
+ghost use Rattle.rules.specs.Update.{BYTES};
 ghost use Rattle.answers.specs.Verdicts.{verdictOf};
 ghost use Rattle.terms.specs.Loans.{sceneLent, before, after};
 ghost use Rattle.terms.specs.Modes.{testedBy};
@@ -37,15 +39,15 @@ fn mend_by_entries(
 ) -> Meshed
     ensures { λ r. ⌜ wentOf r (after positions normals uvs colours triangles links slots)
         ≡ calls (testedBy tested) (sceneLent scene kinds covers cubes)
-        (now (log .entry)) 0 (length (now (log .entry)) / 12)
+        (now (log .entry)) 0 (length (now (log .entry)) / BYTES)
         (before positions normals uvs colours triangles links slots) quads ⌝ }
 {
-    let entries = log.len() / 12;
+    let entries = log.len() / Entry::BYTES;
     let mut left = quads;
     let mut k: usize = 0;
     while k < entries {
-        let at = 12 * k;
-        let end = at + 12;
+        let at = Entry::BYTES * k;
+        let end = at + Entry::BYTES;
         let mended = update_mesh(
             scene,
             kinds,

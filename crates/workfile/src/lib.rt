@@ -15,6 +15,8 @@ pub const TRAILER_BYTES: usize = 92;
 
 pub const TYPE_BYTES: usize = 74;
 
+pub const ENTRY_BYTES: u64 = 16;
+
 pub const MAX_BYTES: usize = 8_192;
 
 pub const MAX_TYPES: u32 = 8;
@@ -130,7 +132,7 @@ fn is_adjoining(file: &[u8]) -> bool
     (long_word(file, 0) == body)
         & (long_word(file, 1) + grid == body)
         & (long_word(file, 2) + log == body)
-        & (12 * long_word(file, 4) + log == body)
+        & (ENTRY_BYTES * long_word(file, 4) + log == body)
 }
 
 fn is_bad_trailer(file: &[u8]) -> bool
