@@ -227,7 +227,12 @@ fn bad_entry(log: &[u8], k: usize, cells: u32, types: u32) -> bool
         | (VoxelChange::REPLACED < log[at + 4])
         | (types <= wide_byte(log[at + 5]))
         | bad_bytes(log, at, types)
-        | bad_former(VoxelChange::from_u8(log[at + 4]), log[at + 5], log[at + 12], types)
+        | bad_former(
+            VoxelChange::from_u8(log[at + 4]),
+            log[at + 5],
+            log[at + 12],
+            types,
+        )
         | bad_spare(log, at)
 }
 

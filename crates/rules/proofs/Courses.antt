@@ -13,7 +13,7 @@ use borrow.Author.Tests.{leb-true}
 use Rattle.rules.specs.Lists.{each, only}
 use Rattle.rules.specs.Cells.{cells, opposite, neighbour, keyOf}
 use Rattle.rules.specs.Mesh.{Quad, World, isNormalCube, covering, meshBy, quadsBy, typeAt, there, placeOf, quadOf}
-use Rattle.rules.specs.Update.{Change, Broken, Added, Sides, Replaced, Entry, givenAt, blank, draw, shifts, removeAt, remove, moved, Op, put, cut, step, run, moves, highest, Work, Tested, sides, quads, hide, reveal, all, isOpen, toHide, draws, nothing, added, filled, broken, firstHalf, secondHalf, workBy, work, cuts, puts, ops, needed, Course, courseFrom, meshAfter, emptyType, gridBy, gridAfter, gridLog, Honest, Mends, AddsAlike}
+use Rattle.rules.specs.Update.{Change, Broken, Added, Sides, Replaced, Entry, givenAt, blank, draw, shifts, removeAt, remove, moved, Op, put, cut, step, run, moves, highest, Work, Tested, sides, quads, conceal, reveal, all, isOpen, toHide, draws, nothing, added, filled, broken, firstHalf, secondHalf, workBy, work, cuts, puts, ops, needed, Course, courseFrom, meshAfter, emptyType, gridBy, gridAfter, gridLog, Honest, Mends, AddsAlike}
 use Rattle.rules.proofs.ListLaws.{All, all-append, all-take, all-drop, all-at, all-each, all-only, split, each-few}
 use Rattle.rules.proofs.Neighbours.{beside, opposite-lt}
 use Rattle.rules.proofs.Quads.{Once, placed, moved-le, length-removeAt, run-append, run-once}
@@ -58,20 +58,20 @@ few-own tested W e Added =
 few-own tested W e Sides = few-sides (e .cell) (toHide e)
 few-own tested W e Replaced = few-sides (e .cell) all
 
-few-hidden : (tested : Tested) (W : World) (e : Entry) → length ((filled tested W e) .facing) ≤ 6
-few-hidden tested W e =
+few-concealed : (tested : Tested) (W : World) (e : Entry) → length ((filled tested W e) .facing) ≤ 6
+few-concealed tested W e =
     split (λ t. length ((cond t (added tested W e) nothing) .facing) ≤ 6) (isNormalCube W (e .type))
-    (λ s. each-few 1 6 0 (λ i. hide tested W (e .type) i (neighbour (W .size) (e .cell) i)) (λ i. one i (neighbour (W .size) (e .cell) i))) (λ s. omega arith)
+    (λ s. each-few 1 6 0 (λ i. conceal tested W (e .type) i (neighbour (W .size) (e .cell) i)) (λ i. one i (neighbour (W .size) (e .cell) i))) (λ s. omega arith)
   where
-    one : (i : ℕ) (o : Option ℕ) → length (hide tested W (e .type) i o) ≤ 1
+    one : (i : ℕ) (o : Option ℕ) → length (conceal tested W (e .type) i o) ≤ 1
     one i none = omega arith
     one i (some n) = only-few (covering W (e .type) (tested i)) (keyOf n (opposite i))
 
 pub few-facing : (tested : Tested) (W : World) (e : Entry) (k : Change) → length ((workBy tested W e k) .facing) ≤ 6
 few-facing tested W e Broken = omega arith
-few-facing tested W e Added = few-hidden tested W e
+few-facing tested W e Added = few-concealed tested W e
 few-facing tested W e Sides = omega arith
-few-facing tested W e Replaced = few-hidden tested W (secondHalf e)
+few-facing tested W e Replaced = few-concealed tested W (secondHalf e)
 
 -- LAW: an entry moves at most sixty quads
 pub entry-moves : (tested : Tested) (W : World) (e : Entry) (m : List Quad) → moves (ops (work tested W e)) m ≤ 60

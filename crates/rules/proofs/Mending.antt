@@ -19,7 +19,7 @@ use Rattle.rules.specs.Update.{Change, Broken, Added, Sides, Replaced, E
 use Rattle.rules.proofs.ListLaws.{read-none, read-one, and-true, lowest-bad}
 use Rattle.rules.proofs.Neighbours.{beside, opposite-lt}
 use Rattle.rules.proofs.Quads.{quadsAt, Once, orElse}
-use Rattle.rules.proofs.Views.{Sound, sides-far, sides-own, quads-far, quads-own, worked, at-work, Apart, View, own, facing, apart, out, view, own-apart, out-apart, face-apart, hides-none, hides-one, reveals-none, reveals-one, idle-at}
+use Rattle.rules.proofs.Views.{Sound, sides-far, sides-own, quads-far, quads-own, worked, at-work, Apart, View, own, facing, apart, out, view, own-apart, out-apart, face-apart, conceals-none, conceals-one, reveals-none, reveals-one, idle-at}
 use Rattle.rules.proofs.Replacing.{replaced-run}
 
 -- what a right mesh has at a face
@@ -164,13 +164,13 @@ module _ (W : World) (s : Sound W) (g : List ℕ) (hg : length g ≡ cells (W .s
       alone : n ≢ e .cell → Apart W s (e .cell) inGrid n f hf → worked (added tested W e) (keyOf n f) (due W [] g n f) ≡ due W [] g n f
       alone d a =
           idle-at W s (e .cell) inGrid n f hf (added tested W e) (sides-far W (e .type) (e .cell) n f hf all d)
-          (quads-far W (e .type) (e .cell) n f hf (isOpen W e) d) (hides-none W s (e .cell) inGrid n f hf tested (e .type) a) (due W [] g n f)
+          (quads-far W (e .type) (e .cell) n f hf (isOpen W e) d) (conceals-none W s (e .cell) inGrid n f hf tested (e .type) a) (due W [] g n f)
 
       go : View W s (e .cell) inGrid n f hf
           → worked (added tested W e) (keyOf n f) (due W [] g n f) ≡ due W [] (set g (e .cell) (e .type)) n f
       go (own q) =
           rw (
-            hides-none W s (e .cell) inGrid n f hf tested (e .type) (own-apart W s (e .cell) inGrid n f hf q),
+            conceals-none W s (e .cell) inGrid n f hf tested (e .type) (own-apart W s (e .cell) inGrid n f hf q),
             sides-own W (e .type) (e .cell) n f hf all q,
             quads-own W (e .type) (e .cell) n f hf (isOpen W e) q,
             q,
@@ -181,7 +181,7 @@ module _ (W : World) (s : Sound W) (g : List ℕ) (hg : length g ≡ cells (W .s
           (ap (λ (b : Bool). only b (W .wordsOf (e .type) f (e .cell))) (open-is (e .type) (neighbour (W .size) (e .cell) f) refl))
       go (facing d b q) =
           rw (
-            hides-one W s (e .cell) inGrid n f hf tested (e .type) b,
+            conceals-one W s (e .cell) inGrid n f hf tested (e .type) b,
             sides-far W (e .type) (e .cell) n f hf all d,
             quads-far W (e .type) (e .cell) n f hf (isOpen W e) d,
             alike (opposite f) (opposite-lt f hf),

@@ -10,7 +10,7 @@ use lib.ListN.{length}
 use Rattle.rules.specs.Lists.{each}
 use Rattle.rules.specs.Cells.{Size, neighbour}
 use Rattle.rules.specs.Mesh.{World, Lists, isNormalCube, covering, decode}
-use Rattle.rules.specs.Update.{BYTES, Change, Broken, Added, Sides, Replaced, Entry, entryAt, Tested, itself, hide, nothing, added, broken, filled, firstHalf, secondHalf, Work, workBy, work, Course, Alike, AlikeBy, AddsAlike}
+use Rattle.rules.specs.Update.{BYTES, Change, Broken, Added, Sides, Replaced, Entry, entryAt, Tested, itself, conceal, nothing, added, broken, filled, firstHalf, secondHalf, Work, workBy, work, Course, Alike, AlikeBy, AddsAlike}
 use Rattle.rules.specs.Calls.{Scene, world, room, entriesOf, updateVerdict, updateBy, updateMesh}
 use Rattle.rules.proofs.ListLaws.{split, each-same}
 use Rattle.rules.proofs.Courses.{course-alike}
@@ -47,18 +47,18 @@ alike-at tested W entry i (suc n) h j a b = go (ℕ-discrete j i) (alike-at test
 -- ---- what a log does
 
 -- hiding looks at the sides covered alone
-pub hides-same : (a b : Tested) (U W : World) (t c : ℕ) → ((i : ℕ) → i < 6 → covering U t (a i) ≡ covering W t (b i)) → U .size ≡ W .size
-    → each 6 0 (λ i. hide a U t i (neighbour (U .size) c i)) ≡ each 6 0 (λ i. hide b W t i (neighbour (W .size) c i))
-hides-same a b U W t c covered size =
-    each-same 6 0 (λ i. hide a U t i (neighbour (U .size) c i)) (λ i. hide b W t i (neighbour (W .size) c i))
-    (λ i x h. ap (λ (s : Size). hide a U t i (neighbour s c i)) size ∙ one i h (neighbour (W .size) c i))
+pub conceals-same : (a b : Tested) (U W : World) (t c : ℕ) → ((i : ℕ) → i < 6 → covering U t (a i) ≡ covering W t (b i)) → U .size ≡ W .size
+    → each 6 0 (λ i. conceal a U t i (neighbour (U .size) c i)) ≡ each 6 0 (λ i. conceal b W t i (neighbour (W .size) c i))
+conceals-same a b U W t c covered size =
+    each-same 6 0 (λ i. conceal a U t i (neighbour (U .size) c i)) (λ i. conceal b W t i (neighbour (W .size) c i))
+    (λ i x h. ap (λ (s : Size). conceal a U t i (neighbour s c i)) size ∙ one i h (neighbour (W .size) c i))
   where
-    one : (i : ℕ) → i < 6 → (o : Option ℕ) → hide a U t i o ≡ hide b W t i o
+    one : (i : ℕ) → i < 6 → (o : Option ℕ) → conceal a U t i o ≡ conceal b W t i o
     one i h none = refl
     one i h (some n) = rw (covered i h)
 
 added-alike : (tested : Tested) (W : World) (e : Entry) → Alike tested W (e .type) → added tested W e ≡ added itself W e
-added-alike tested W e alike = rw (hides-same tested itself W W (e .type) (e .cell) alike refl)
+added-alike tested W e alike = rw (conceals-same tested itself W W (e .type) (e .cell) alike refl)
 
 filled-alike : (tested : Tested) (W : World) (e : Entry) → (isNormalCube W (e .type) ≡ true → Alike tested W (e .type)) → filled tested W e ≡ filled itself W e
 filled-alike tested W e h =

@@ -13,7 +13,7 @@ use borrow.Author.Tests.{eq-eqb, ne-eqb}
 use Rattle.rules.specs.Lists.{each, only, member}
 use Rattle.rules.specs.Cells.{cells, opposite, neighbour, keyOf}
 use Rattle.rules.specs.Mesh.{Quad, World, isNormalCube, covering, at, quadOf}
-use Rattle.rules.specs.Update.{run, Work, Tested, sides, quads, hide, reveal, cuts, puts, ops}
+use Rattle.rules.specs.Update.{run, Work, Tested, sides, quads, conceal, reveal, cuts, puts, ops}
 use Rattle.rules.proofs.ListLaws.{Reads, read-none, read-one, members, and-false, and-with}
 use Rattle.rules.proofs.Neighbours.{Beside, beside, opposite-twice, opposite-lt}
 use Rattle.rules.proofs.Quads.{quadsAt, orElse, orElse-nil, at-cuts, at-puts, run-append}
@@ -181,15 +181,15 @@ module _ (W : World) (s : Sound W) (c : ℕ) (hc : c < cells (W .size)) (n f : �
         go i hi d (some k) = h i k hi (key-face k n f (opposite i) hf (opposite-lt i hi) (turned i d))
 
   module _ (tested : Tested) (t : ℕ) where
-    pub hides-none : Apart → member (keyOf n f) (each 6 0 (λ i. hide tested W t i (neighbour (W .size) c i))) ≡ false
-    hides-none =
-        towards-none (members (keyOf n f)) (hide tested W t) (λ i. refl)
+    pub conceals-none : Apart → member (keyOf n f) (each 6 0 (λ i. conceal tested W t i (neighbour (W .size) c i))) ≡ false
+    conceals-none =
+        towards-none (members (keyOf n f)) (conceal tested W t) (λ i. refl)
         (λ i k hi e. no-member (keyOf n f) (keyOf k (opposite i)) (covering W t (tested i)) e)
 
-    pub hides-one : neighbour (W .size) c (opposite f) ≡ some n
-        → member (keyOf n f) (each 6 0 (λ i. hide tested W t i (neighbour (W .size) c i))) ≡ covering W t (tested (opposite f))
-    hides-one e =
-        towards-one (members (keyOf n f)) (hide tested W t) (λ i. refl)
+    pub conceals-one : neighbour (W .size) c (opposite f) ≡ some n
+        → member (keyOf n f) (each 6 0 (λ i. conceal tested W t i (neighbour (W .size) c i))) ≡ covering W t (tested (opposite f))
+    conceals-one e =
+        towards-one (members (keyOf n f)) (conceal tested W t) (λ i. refl)
         (λ i k hi q. no-member (keyOf n f) (keyOf k (opposite i)) (covering W t (tested i)) q) e
         ∙ member-only (keyOf n f) (keyOf n (opposite (opposite f))) (covering W t (tested (opposite f)))
         ∙ rw (opposite-twice f, key-same n f) (and-with (covering W t (tested (opposite f))))

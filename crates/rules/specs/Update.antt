@@ -142,9 +142,9 @@ sides c p = each 6 0 (λ f. only (p f) (keyOf c f))
 abbrev pub quads : World → ℕ → ℕ → (ℕ → Bool) → List Quad
 quads W t c p = each 6 0 (λ f. only (p f) (quadOf W t c f))
 
-abbrev pub hide : Tested → World → ℕ → ℕ → Option ℕ → List ℕ
-hide tested W t i none = []
-hide tested W t i (some n) = only (covering W t (tested i)) (keyOf n (opposite i))
+abbrev pub conceal : Tested → World → ℕ → ℕ → Option ℕ → List ℕ
+conceal tested W t i none = []
+conceal tested W t i (some n) = only (covering W t (tested i)) (keyOf n (opposite i))
 
 abbrev pub reveal : World → ℕ → ℕ → ℕ → Option ℕ → List Quad
 reveal W t given i none = []
@@ -165,7 +165,7 @@ added tested W e =
     record {
       own = sides (e .cell) all;
       new = quads W (e .type) (e .cell) (isOpen W e);
-      facing = each 6 0 (λ i. hide tested W (e .type) i (neighbour (W .size) (e .cell) i));
+      facing = each 6 0 (λ i. conceal tested W (e .type) i (neighbour (W .size) (e .cell) i));
     }
 
 abbrev pub broken : World → Entry → Work

@@ -84,8 +84,8 @@ module _ (W : World) (e : Entry) where
       near-part put (λ i. reveal W t (givenAt e i) i) (λ f n. quadOf W (givenAt e f) n (opposite f)) 1 (λ i. covering W t i && isNormalCube W (givenAt e i)) (λ f. refl)
       (λ f. refl) (λ f n. refl) (λ f n l. ap put (quad-at (givenAt e f) n (opposite f) (opposite-lt f l)))
 
-  near-cut : (tested : Tested) → partOps W e (setOf (λ i. covering W (e .type) (tested i))) 3 ≡ cuts (each 6 0 (λ i. rule.hide tested W (e .type) i (beyond i)))
-  near-cut tested = near-part cut (rule.hide tested W (e .type)) (λ f n. keyOf n (opposite f)) 3 (λ i. covering W (e .type) (tested i)) (λ f. refl) (λ f. refl) (λ f n. refl) (λ f n l. refl)
+  near-cut : (tested : Tested) → partOps W e (setOf (λ i. covering W (e .type) (tested i))) 3 ≡ cuts (each 6 0 (λ i. rule.conceal tested W (e .type) i (beyond i)))
+  near-cut tested = near-part cut (rule.conceal tested W (e .type)) (λ f n. keyOf n (opposite f)) 3 (λ i. covering W (e .type) (tested i)) (λ f. refl) (λ f. refl) (λ f n. refl) (λ f n l. refl)
 
   idle : (j : ℕ) → partOps W e 0 j ≡ []
   unfolding each

@@ -22,7 +22,7 @@ returns c =
     let at = BYTES * a .k in
     let taken = former .bad-former .ensures ∙ ap (badFormerBy (a .types) (getD (a .log .now) (at + 5) 0) (getD (a .log .now) (at + 12) 0)) (change .from-u8 .ensures) in
     λ i. leb 16777216 (a .k) || leb (a .cells) (cell .u32-at .ensures i) || ltb 3 (getD (a .log .now) (at + 4) 0) || leb (a .types) (voxel .wide-byte .ensures .0 i) || bytes .bad-bytes .ensures i
-        || taken i || c .bad-spare .ensures i
+    || taken i || c .bad-spare .ensures i
 
 pub bad-entry-spec : {M : Type 1} → statement M
 bad-entry-spec =
