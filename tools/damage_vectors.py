@@ -8,9 +8,10 @@ import random
 from collections import Counter
 
 from cube_vectors import INF, MAX, NAN, NEG, cube, f, shape
+from entries import DRAW, HIDE, KEEP, SIDES, entry
 from plain_mesh import EACH, JUNK, LINKS, LISTS, UNIT, attributes, call, faces, mesh, words_for
 from sure import sure
-from trials import CHECK, CULLING, DRAW, HIDE, KEEP, NAIVE, NONE, SIDES, UPDATE, Trials, entry, spare
+from trials import CHECK, CULLING, NAIVE, NONE, UPDATE, Trials, spare
 
 trials = Trials()
 answers = Counter()

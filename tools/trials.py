@@ -1,22 +1,21 @@
-"""Document 01's update, in both modes of document 02's Q-2 and with the changes of its Q-6, and check in plain Python, and the records that
-crates/trials_run reads.
+"""Document 01's update, in both modes of document 02's Q-2 and with the changes of its Q-6 and Q-7, and check in plain Python, and the records
+that crates/trials_run reads.
 
 A mesh is seven lists of words. An update takes them for a list of quads (cell, face, words by attribute), works on that as 01's sentences say, and
 lays it out again. No code of the crates is used; cubes, fresh meshing and the types' tests are those of cube_vectors.py and plain_mesh.py.
 The record format stands at the head of crates/trials_run/src/main.rt.
 """
 import struct
+from collections import namedtuple
 
 import plain_mesh
 from cube_vectors import types_answer
+from entries import ADDED, BROKEN, DRAW, ENTRY_BYTES, HIDE, OUTSIDE, REPLACED, SIDES, entries_of, entry_of, own_former, replaced
 from plain_mesh import EACH, LINKS, LISTS, NONE, PLENTY, SLOTS, STEPS, TRIANGLES, attributes, call, faces, floats, mesh
 from stored import counted, keep_set, spoiled
 from sure import sure
 
 NAIVE, CULLING, UPDATE, CHECK, UPDATE_ITSELF = range(5)
-BROKEN, ADDED, SIDES = range(3)
-KEEP, HIDE, DRAW = range(3)  # what the six bytes of a Sides entry say; those of the others are neighbours
-OUTSIDE = 255
 HEAD, ROOM = 22, 65536
 LENGTHS, TOLD = 11, 17  # where a base has the lengths of its lists, and a trial its answer
 PARTS = ("grid", "kinds", "covers", "cubes") + LISTS
@@ -111,26 +110,24 @@ def check(m, lists, count):
 # ---- the update
 
 
-def entry(cell, change, code, *given):
-    return struct.pack("<I", cell) + bytes((change, code) + given)
-
-
 def entries(log):
-    return [(struct.unpack("<I", log[i:i + 4])[0], log[i + 4], log[i + 5], log[i + 6:i + 12]) for i in range(0, len(log) - 11, 12)]
+    return [entry_of(one) for one in entries_of(log)]
 
 
-def is_entry(m, cell, change, code, given):
+def is_entry(m, one):
     types = len(m["kinds"])
-    if cell >= cell_count(m) or change > SIDES or code >= types:
+    if one.cell >= cell_count(m) or one.change > REPLACED or one.code >= types or any(one.spare):
         return False
-    return all(byte <= DRAW if change == SIDES else byte == OUTSIDE or byte < types for byte in given)
+    if not (one.former < types if one.change == REPLACED else one.former == own_former(one.change, one.code)):
+        return False
+    return all(byte <= DRAW if one.change == SIDES else byte == OUTSIDE or byte < types for byte in one.given)
 
 
 def entries_answer(m, log):
     for i, one in enumerate(entries(log)):
-        if not is_entry(m, *one):
+        if not is_entry(m, one):
             return 13, i
-    return (13, len(log) // 12) if len(log) % 12 else (0, 0)
+    return (13, len(log) // ENTRY_BYTES) if len(log) % ENTRY_BYTES else (0, 0)
 
 
 def opposite(face):
@@ -141,21 +138,41 @@ def itself(face):
     return face
 
 
-def plan(m, tested, cell, change, code, given):
-    """What goes first, what is drawn, and what goes after: the neighbour's facing quad at face i, if the voxel covers the side tested."""
+def bared(m, cell, code, given):
+    """The neighbours' facing quads that a voxel of this type has hidden, and that show when it goes."""
+    return [(beside(m, cell, i), i ^ 1, given[i]) for i in range(6)
+            if covers(m, code, i) and given[i] != OUTSIDE and m["kinds"][given[i]] == 1 and beside(m, cell, i) is not None]
+
+
+def shown(m, cell, code, given):
+    """The sides of a cube that comes which are drawn."""
+    return [(cell, face, code) for face in range(6) if given[face] == OUTSIDE or not covers(m, given[face], face ^ 1)]
+
+
+def hidden(m, tested, cell, code):
+    """The neighbours' facing quads that go when a cube comes: at face i, if it covers the side tested."""
+    return [(beside(m, cell, i), i ^ 1) for i in range(6) if beside(m, cell, i) is not None and covers(m, code, tested(i))]
+
+
+def plan(m, tested, one):
+    """What goes first, what is drawn, and what goes after."""
+    cell, change, code, given, former, _ = one
     own = [(cell, face) for face in range(6)]
-    cube = m["kinds"][code] == 1
-    if change == ADDED:
-        if not cube:
-            return [], [], []
-        drawn = [(cell, f, code) for f in range(6) if given[f] == OUTSIDE or not covers(m, given[f], f ^ 1)]
-        facing = [(beside(m, cell, i), i ^ 1) for i in range(6) if beside(m, cell, i) is not None and covers(m, code, tested(i))]
-        return own, drawn, facing
+    is_cube = m["kinds"][code] == 1
+    if change == SIDES:
+        drawn = [(cell, face, code) for face in range(6) if given[face] == DRAW]
+        return [(cell, face) for face in range(6) if given[face] == HIDE], drawn if is_cube else [], []
     if change == BROKEN:
-        return own, [(beside(m, cell, i), i ^ 1, given[i]) for i in range(6)
-                     if covers(m, code, i) and given[i] != OUTSIDE and m["kinds"][given[i]] == 1 and beside(m, cell, i) is not None], []
-    hidden = [(cell, face) for face in range(6) if given[face] == HIDE]
-    return hidden, [(cell, face, code) for face in range(6) if given[face] == DRAW and cube], []
+        return own, bared(m, cell, code, given), []
+    drawn, after = (shown(m, cell, code, given), hidden(m, tested, cell, code)) if is_cube else ([], [])
+    if change == REPLACED:
+        return own, bared(m, cell, former, given) + drawn, after
+    return own if is_cube else [], drawn, after
+
+
+# How a log is read: its entries, which are refused, and what each does.
+Reading = namedtuple("Reading", "entries answer plan")
+TODAY = Reading(entries, entries_answer, plan)
 
 
 def remove(quads, cell, face):
@@ -188,19 +205,18 @@ def laid(m, lists, quads, highest):
         slots + lists[SLOTS][6 * cells:]]
 
 
-def update(m, lists, count, log, tested=opposite, reading=(entries_answer, plan)):
-    """Number, place, quads and moved; and the lists. `reading` says which entries are refused, and what each does."""
-    tried, planned = reading
+def update(m, lists, count, log, tested=opposite, reading=TODAY):
+    """Number, place, quads and moved; and the lists."""
     for number, place in ((2 if bad_size(m) else 0, 0), types_answer(m)):
         if number:
             return (number, place, 0, 0), lists
-    for number, place in (book_answer(m, lists, count), tried(m, log)):
+    for number, place in (book_answer(m, lists, count), reading.answer(m, log)):
         if number:
             return (number, place, 0, 0), lists
     quads = [(link & 0x1FFFFFFF, 5 - (link >> 29), words_of(m, lists, q)) for q, link in enumerate(lists[LINKS][:count])]
     highest, moved = count, 0
-    for i, one in enumerate(entries(log)):
-        first, drawn, after = planned(m, tested, *one)
+    for i, one in enumerate(reading.entries(log)):
+        first, drawn, after = reading.plan(m, tested, one)
         there = {(cell, face) for cell, face, _ in quads}
         gone = there & set(first)
         new = [(cell, face, code) for cell, face, code in drawn if (cell, face) not in there - gone]
@@ -333,8 +349,9 @@ def headed(trial, **words):
 
 def wrong_answers(trials):
     """An update that stops for want of room, wrong in one thing each: the answer, and the first and last word of each list."""
-    log = entry(1, SIDES, 1, KEEP, KEEP, KEEP, KEEP, HIDE, KEEP) + entry(1, SIDES, 1, KEEP, KEEP, KEEP, DRAW, DRAW, KEEP)
-    stopped = trials.only_made((14, 1, 9, 1), UPDATE, 10, log)
+    beside_1 = OUTSIDE, OUTSIDE, OUTSIDE, 1, OUTSIDE, OUTSIDE
+    log = replaced(1, 1, 0, *beside_1) + replaced(1, 0, 1, *beside_1)
+    stopped = trials.only_made((14, 1, 6, 10), UPDATE, 10, log)
     ends = [trials.start[name] + k for name, n in zip(PARTS[4:], trials.size[4:]) for k in (0, n - 1)]
     return [spoiled(stopped, TOLD + k) for k in range(4)] + [stopped + [at, 1, trials.image[at] ^ 1] for at in ends]
 
