@@ -25,11 +25,13 @@ A description has a line for each thing; a line that starts with # is a comment.
     layer                         the lowest first: a line for each z, Forward first, with a letter for each x, Left first
     break 4 3 4                   the log: what stands at x y z goes
     add r 0 3 0                   a voxel is put at x y z
+    replace r 4 3 4               a voxel is put at x y z in the place of what stands there
     sides 0 0 0 hide top left draw back       sides of what stands at x y z are hidden, others drawn; one of the two may be left out
 
-Left out, a line has the value above, but for outer, none, atlas, 1 1, and colour, none. The log's neighbours are taken from the grid as
-the lines before left it. What a work file holds beyond that is written by number: `kind 3`, `set 64`, `codes` for a layer, 0x.. for a
-float's bits, `entry cell change type n n n n n n`.
+Left out, a line has the value above, but for outer, none, atlas, 1 1, and colour, none. The log's neighbours, and what is replaced, are taken
+from the grid as the lines before left it. What a work file holds beyond that is written by number: `kind 3`, `set 64`, `codes` for a layer,
+0x.. for a float's bits, `entry cell change type n n n n n n former 0 0 0`. Of an entry the last four may be left out: the former type is then
+Broken's own, else 255.
 """
 import argparse
 import os
@@ -39,19 +41,19 @@ import sys
 import zlib
 
 sys.dont_write_bytecode = True  # no folder of bytecode beside the tools
+from entries import ADDED, BROKEN, DRAW, ENTRY_BYTES, HIDE, OUTSIDE, REPLACED, SIDES, entries_of, entry, entry_of
 from sure import sure
-from workfiles import File, good_files, trailer, words
+from workfiles import DIG, File, good_files, trailer, words
 
 FACES = ["top", "bottom", "right", "left", "back", "forward"]
 STEPS = [(0, 1, 0), (0, -1, 0), (1, 0, 0), (-1, 0, 0), (0, 0, 1), (0, 0, -1)]
 KINDS = ["null", "cube", "custom"]
 ALGORITHMS = ["naive", "culling"]
-CHANGES = ["break", "add", "sides"]
+CHANGES = ["break", "add", "sides", "replace"]
 FORMER = ["cull", "draw"]  # what `sides` says by one line
 SIDE_WORDS = ["keep", "hide", "draw"]
 LETTERS = "rstuvwxyzabcdefghijklmnopq"
-OUTSIDE = 255
-TYPE_BYTES, ENTRY_BYTES, TRAILER_BYTES = 74, 12, 92
+TYPE_BYTES, TRAILER_BYTES = 74, 92
 
 
 class Bad(Exception):
@@ -99,18 +101,18 @@ class Chunk:
         """What stands where a voxel was broken: the lowest Null type covering nothing."""
         return next((n for n, t in enumerate(self.types) if t.kind == 0 and t.sides == 0), None)
 
-    def after(self, grid, entry):
+    def after(self, grid, one):
         """The grid after an entry; an entry on a cell outside leaves it."""
-        cell, change, voxel = struct.unpack("<IBB", entry[:6])
-        if cell >= len(grid) or change > 1 or change == 0 and self.empty() is None:
+        cell, change, voxel = entry_of(one)[:3]
+        if cell >= len(grid) or change not in (BROKEN, ADDED, REPLACED) or change == BROKEN and self.empty() is None:
             return grid
-        return grid[:cell] + bytes([self.empty() if change == 0 else voxel]) + grid[cell + 1 :]
+        return grid[:cell] + bytes([self.empty() if change == BROKEN else voxel]) + grid[cell + 1 :]
 
     def dug(self):
         """The grid after the whole log."""
         grid = self.grid
-        for entry in self.log:
-            grid = self.after(grid, entry)
+        for one in self.log:
+            grid = self.after(grid, one)
         return grid
 
 
@@ -174,7 +176,7 @@ def side_bytes(told):
 
 def side_words(sides):
     """What side_bytes reads."""
-    hidden, drawn = (sum(1 << n for n in range(6) if sides[n] == what) for what in (1, 2))
+    hidden, drawn = (sum(1 << n for n in range(6) if sides[n] == what) for what in (HIDE, DRAW))
     parts = ["hide " + side_text(hidden)] if hidden or not drawn else []
     return " ".join(parts + (["draw " + side_text(drawn)] if drawn else []))
 
@@ -250,7 +252,7 @@ class Reader:
         elif key in CHANGES + ["entry"]:
             self.change(key, told)
         elif key in FORMER:
-            raise Bad("%s is a line of the former format, which tools/convert-sides converts" % key)
+            raise Bad("%s is a line from before level 4, which tools/convert-log converts" % key)
         else:
             raise Bad("%s is unknown" % key)
 
@@ -304,21 +306,22 @@ class Reader:
         if len(chunk.grid) != self.cells() or not chunk.grid:
             raise Bad("the log comes after all layers")
         self.grid = chunk.grid if self.grid is None else self.grid
-        entry = self.numbered(told) if key == "entry" else self.named(key, told)
-        chunk.log.append(entry)
-        self.grid = chunk.after(self.grid, entry)
+        one = self.numbered(told) if key == "entry" else self.named(key, told)
+        chunk.log.append(one)
+        self.grid = chunk.after(self.grid, one)
 
     def numbered(self, told):
-        cell, *rest = several(told, 9)
-        return words(number(cell)) + bytes(number(n, 256) for n in rest)
+        cell, *rest = several(told, 13 if len(told) > 9 else 9)
+        numbers = [number(n, 256) for n in rest]
+        return words(number(cell)) + bytes(numbers) if len(numbers) > 8 else entry(number(cell), *numbers)
 
     def named(self, key, told):
-        given = self.voxel(told.pop(0)) if key == "add" and told else None
+        given = self.voxel(told.pop(0)) if key in ("add", "replace") and told else None
         cell = self.chunk.cell(*(number(n) for n in several(told[:3], 3)))
         if cell is None:
             raise Bad("%s is outside" % " ".join(told[:3]))
-        code, six = self.change_told(key, cell, told[3:])
-        return words(cell) + bytes([code, self.grid[cell] if given is None else given]) + six
+        standing, (change, six) = self.grid[cell], self.change_told(key, cell, told[3:])
+        return entry(cell, change, standing if given is None else given, *six, former=standing if key == "replace" else None)
 
     def change_told(self, key, cell, told):
         """The change's number, and its six bytes: what is told of the sides, or an honest entry's neighbours."""
@@ -340,22 +343,18 @@ def name_types(chunk):
         t.letter = "." if code == chunk.empty() else next(letters)
 
 
-def parts_of(file):
+def parts_of(file, entry_bytes=ENTRY_BYTES):
     """The trailer's words of a work file whose parts adjoin and fill it, and where its types, its grid and its log end."""
     if len(file) < TRAILER_BYTES:
         raise Bad("a work file has 92 bytes at least")
     word = struct.unpack("<23I", file[-TRAILER_BYTES:])
     ends = [word[3] * TYPE_BYTES]
     ends.append(ends[0] + word[5] * word[6] * word[7])
-    ends.append(ends[1] + word[4] * ENTRY_BYTES)
+    ends.append(ends[1] + word[4] * entry_bytes)
     body = len(file) - TRAILER_BYTES
     if ends[2] != body or word[:3] != (body, body - ends[0], body - ends[1]) or word[22] != TRAILER_BYTES:
         raise Bad("the parts do not adjoin and fill the file")
     return word, ends
-
-
-def entries_of(log):
-    return [log[at : at + ENTRY_BYTES] for at in range(0, len(log), ENTRY_BYTES)]
 
 
 def read_workfile(file):
@@ -392,9 +391,9 @@ def description(chunk):
         yield "type %s %s covers %s %s" % (t.letter, kind, side_text(t.sides), tiles_text(t.tiles))
     yield from layers_text(chunk)
     grid = chunk.grid
-    for entry in chunk.log:
-        yield entry_text(chunk, grid, entry)
-        grid = chunk.after(grid, entry)
+    for one in chunk.log:
+        yield entry_text(chunk, grid, one)
+        grid = chunk.after(grid, one)
 
 
 def tiles_text(tiles):
@@ -414,18 +413,20 @@ def layers_text(chunk):
             yield "".join(chunk.types[code].letter for code in codes) if lettered else " ".join(map(str, codes))
 
 
-def entry_text(chunk, grid, entry):
+def entry_text(chunk, grid, one):
     """The line whose meaning is the entry, the plain one if there is one."""
-    cell, change, voxel = struct.unpack("<IBB", entry[:6])
-    if cell < len(grid) and change < 2 and entry[6:] == chunk.neighbours(grid, cell):
-        place = "%d %d %d" % chunk.place(cell)
-        if change == 0 and voxel == grid[cell]:
+    cell, change, voxel, given, _, _ = entry_of(one)
+    if cell < len(grid):
+        place, standing, around = "%d %d %d" % chunk.place(cell), grid[cell], chunk.neighbours(grid, cell)
+        if one == entry(cell, BROKEN, standing, *around):
             return "break " + place
-        if change == 1 and voxel < len(chunk.types):
-            return "add %s %s" % (chunk.types[voxel].letter, place)
-    if cell < len(grid) and change == 2 and voxel == grid[cell] and max(entry[6:]) < len(SIDE_WORDS):
-        return "sides %d %d %d %s" % (*chunk.place(cell), side_words(entry[6:]))
-    return "entry %d %s" % (cell, " ".join(map(str, entry[4:])))
+        if max(given) <= DRAW and one == entry(cell, SIDES, standing, *given):
+            return "sides %s %s" % (place, side_words(given))
+        for key, plain in (("add", entry(cell, ADDED, voxel, *around)), ("replace", entry(cell, REPLACED, voxel, *around, former=standing))):
+            if one == plain and voxel < len(chunk.types):
+                return "%s %s %s" % (key, chunk.types[voxel].letter, place)
+    goes_without_saying = one == entry(cell, change, voxel, *given)
+    return "entry %d %s" % (cell, " ".join(map(str, one[4:12] if goes_without_saying else one[4:])))
 
 
 # The picture: the quads that the program answers.
@@ -583,21 +584,44 @@ BAD = {
     SMALL + "sides 0 0 0 hide all draw top": "line 6: top is named twice",
     SMALL + "sides 0 0 0 hide top all": "line 6: all is no face",
     SMALL + "sides 0 1 0 hide top": "line 6: 0 1 0 is outside",
-    SMALL + "cull 0 0 0 top": "line 6: cull is a line of the former format, which tools/convert-sides converts",
-    SMALL + "draw 0 0 0 top": "line 6: draw is a line of the former format, which tools/convert-sides converts",
+    SMALL + "cull 0 0 0 top": "line 6: cull is a line from before level 4, which tools/convert-log converts",
+    SMALL + "draw 0 0 0 top": "line 6: draw is a line from before level 4, which tools/convert-log converts",
+    SMALL + "replace x 0 0 0": "line 6: x is no type",
+    SMALL + "replace": "line 6: 3 values are asked for",
+    SMALL + "replace . 0 0": "line 6: 3 values are asked for",
+    SMALL + "replace . 0 0 1": "line 6: 0 0 1 is outside",
+    SMALL + "replace . 0 0 0 r": "line 6: 0 values are asked for",
+    SMALL + "entry 0 1 1 0 0 0 0 0": "line 6: 9 values are asked for",
+    SMALL + "entry 0 1 1 0 0 0 0 0 0 255 0 0": "line 6: 13 values are asked for",
+    SMALL + "entry 0 1 1 0 0 0 0 0 0 255 0 0 0 0": "line 6: 13 values are asked for",
+    SMALL + "entry 0 1 1 0 0 0 0 0 0 256 0 0 0": "line 6: 256 is no number below 256",
 }
 # lines of a log as `show` writes them, and their entries past the cell; below, other words for the same
 SHOWN = {
-    "sides 1 0 0 hide top forward draw left": (2, 1, 1, 0, 0, 2, 0, 1),
-    "sides 1 0 0 hide right": (2, 1, 0, 0, 1, 0, 0, 0),
-    "sides 1 0 0 draw bottom back": (2, 1, 0, 2, 0, 0, 2, 0),
-    "sides 1 0 0 hide all": (2, 1, 1, 1, 1, 1, 1, 1),
-    "sides 1 0 0 draw all": (2, 1, 2, 2, 2, 2, 2, 2),
-    "sides 1 0 0 hide none": (2, 1, 0, 0, 0, 0, 0, 0),
-    "entry 1 2 0 1 0 0 0 0 2": (2, 0, 1, 0, 0, 0, 0, 2),
-    "entry 1 2 1 1 0 3 0 0 2": (2, 1, 1, 0, 3, 0, 0, 2),
-    "entry 1 3 1 1 0 0 0 0 2": (3, 1, 1, 0, 0, 0, 0, 2),
-    "entry 2 2 1 1 0 0 0 0 2": (2, 1, 1, 0, 0, 0, 0, 2),
+    "sides 1 0 0 hide top forward draw left": (2, 1, 1, 0, 0, 2, 0, 1, 255, 0, 0, 0),
+    "sides 1 0 0 hide right": (2, 1, 0, 0, 1, 0, 0, 0, 255, 0, 0, 0),
+    "sides 1 0 0 draw bottom back": (2, 1, 0, 2, 0, 0, 2, 0, 255, 0, 0, 0),
+    "sides 1 0 0 hide all": (2, 1, 1, 1, 1, 1, 1, 1, 255, 0, 0, 0),
+    "sides 1 0 0 draw all": (2, 1, 2, 2, 2, 2, 2, 2, 255, 0, 0, 0),
+    "sides 1 0 0 hide none": (2, 1, 0, 0, 0, 0, 0, 0, 255, 0, 0, 0),
+    "entry 1 2 0 1 0 0 0 0 2": (2, 0, 1, 0, 0, 0, 0, 2, 255, 0, 0, 0),
+    "entry 1 2 1 1 0 3 0 0 2": (2, 1, 1, 0, 3, 0, 0, 2, 255, 0, 0, 0),
+    "entry 2 2 1 1 0 0 0 0 2": (2, 1, 1, 0, 0, 0, 0, 2, 255, 0, 0, 0),
+    "break 1 0 0": (0, 1, 255, 255, 255, 1, 255, 255, 1, 0, 0, 0),
+    "add . 1 0 0": (1, 0, 255, 255, 255, 1, 255, 255, 255, 0, 0, 0),
+    "replace . 1 0 0": (3, 0, 255, 255, 255, 1, 255, 255, 1, 0, 0, 0),
+    "replace r 1 0 0": (3, 1, 255, 255, 255, 1, 255, 255, 1, 0, 0, 0),
+    "entry 1 0 0 255 255 255 1 255 255": (0, 0, 255, 255, 255, 1, 255, 255, 0, 0, 0, 0),
+    "entry 1 3 1 255 255 255 1 255 255": (3, 1, 255, 255, 255, 1, 255, 255, 255, 0, 0, 0),
+    "entry 1 3 1 255 255 255 1 255 255 0 0 0 0": (3, 1, 255, 255, 255, 1, 255, 255, 0, 0, 0, 0),
+    "entry 1 3 2 255 255 255 1 255 255 1 0 0 0": (3, 2, 255, 255, 255, 1, 255, 255, 1, 0, 0, 0),
+    "entry 1 3 1 255 255 255 0 255 255 1 0 0 0": (3, 1, 255, 255, 255, 0, 255, 255, 1, 0, 0, 0),
+    "entry 1 0 1 255 255 255 1 255 255 0 0 0 0": (0, 1, 255, 255, 255, 1, 255, 255, 0, 0, 0, 0),
+    "entry 1 1 0 255 255 255 1 255 255 0 0 0 0": (1, 0, 255, 255, 255, 1, 255, 255, 0, 0, 0, 0),
+    "entry 1 2 1 0 0 0 0 0 0 1 0 0 0": (2, 1, 0, 0, 0, 0, 0, 0, 1, 0, 0, 0),
+    "entry 1 0 1 255 255 255 1 255 255 1 9 0 0": (0, 1, 255, 255, 255, 1, 255, 255, 1, 9, 0, 0),
+    "entry 1 3 0 255 255 255 1 255 255 1 0 8 0": (3, 0, 255, 255, 255, 1, 255, 255, 1, 0, 8, 0),
+    "entry 1 2 1 1 1 1 1 1 1 255 0 0 7": (2, 1, 1, 1, 1, 1, 1, 1, 255, 0, 0, 7),
 }
 ALIKE = {
     "sides 1 0 0 hide forward top draw left": "sides 1 0 0 hide top forward draw left",
@@ -605,7 +629,15 @@ ALIKE = {
     "sides 1 0 0 hide right draw none": "sides 1 0 0 hide right",
     "sides 1 0 0 draw none": "sides 1 0 0 hide none",
     "entry 1 2 1 1 1 1 1 1 1": "sides 1 0 0 hide all",
+    "entry 1 2 1 1 1 1 1 1 1 255 0 0 0": "sides 1 0 0 hide all",
+    "entry 1 3 1 255 255 255 1 255 255 1 0 0 0": "replace r 1 0 0",
+    "entry 1 0 1 255 255 255 1 255 255": "break 1 0 0",
+    "entry 1 0 0 255 255 255 1 255 255 0 0 0 0": "entry 1 0 0 255 255 255 1 255 255",
 }
+
+
+# what is replaced is what the lines before have left
+FOLLOWING = "replace . 1 0 0", "replace r 1 0 0", "replace r 1 0 0", "break 1 0 0", "replace r 1 0 0"
 
 
 def said_of(text):
@@ -617,8 +649,7 @@ def said_of(text):
 
 
 def test(program):
-    worked = File(log=words(0) + bytes([0, 1, 255, 255, 1, 255, 255, 255]))
-    sure(chunk_in((SMALL + "break 0 0 0\n").encode()).bytes() == worked.text, "document 01's file")
+    sure(chunk_in((SMALL + "break 0 0 0\n").encode()).bytes() == File(log=DIG).text, "document 01's file")
     log = chunk_in((SMALL + "\n".join(["add . 1 0 0", "sides 1 0 0 hide top", "break 1 0 0", "add r 1 0 0", *SHOWN]) + "\n").encode())
     folder = os.path.join(ROOT, "examples")
     examples = [read_input(os.path.join(folder, name)) for name in sorted(os.listdir(folder)) if name.endswith(".chunk")]
@@ -629,6 +660,8 @@ def test(program):
     for line, shown in list(ALIKE.items()) + [(line, line) for line in SHOWN]:
         chunk = chunk_in((SMALL + line).encode())
         sure(chunk.log[0][4:] == bytes(SHOWN[shown]) and list(description(chunk))[-1] == shown, line)
+    followed = chunk_in((SMALL + "\n".join(FOLLOWING)).encode())
+    sure([entry_of(one).former for one in followed.log] == [1, 0, 1, 1, 0] and tuple(description(followed))[-5:] == FOLLOWING)
     for text, expected in BAD.items():
         sure(said_of(text) == expected, said_of(text), expected)
     print("%d round trips, %d lines of a log, %d bad descriptions" % (len(files), len(SHOWN) + len(ALIKE), len(BAD)))

@@ -9,6 +9,7 @@ import struct
 import sys
 
 from chunkfile import answer_of
+from entries import ADDED, BROKEN, ENTRY_BYTES, OUTSIDE, REPLACED, SIDES, entry, own_former
 from plain_program import bits_of, expected
 
 PROGRAM = "tools/meshchunk"
@@ -46,11 +47,14 @@ def random_float(rng):
 
 def random_entry(rng, cells, types):
     cell = rarely(rng, rng.randrange(cells), lambda: rng.randrange(2 * cells), 300)
-    change = rarely(rng, rng.choice((0, 1, 2)), lambda: rng.choice((3, rng.randrange(256))), 300)
+    change = rarely(rng, rng.choice((BROKEN, ADDED, SIDES, REPLACED)), lambda: rng.choice((4, rng.randrange(256))), 300)
     code = rarely(rng, rng.randrange(types), lambda: rng.randrange(256), 300)
-    usual = (lambda: rng.randrange(3)) if change == 2 else (lambda: rng.choice((255, rng.randrange(types))))
-    given = [rarely(rng, usual(), lambda: rng.choice((3, 255, rng.randrange(256))), 900) for _ in range(6)]
-    return struct.pack("<I", cell) + bytes([change, code] + given)
+    usual = (lambda: rng.randrange(3)) if change == SIDES else (lambda: rng.choice((OUTSIDE, rng.randrange(types))))
+    given = [rarely(rng, usual(), lambda: rng.choice((3, OUTSIDE, rng.randrange(256))), 900) for _ in range(6)]
+    former = rng.randrange(types) if change == REPLACED else own_former(change, code)
+    former = rarely(rng, former, lambda: rng.choice((types, OUTSIDE, rng.randrange(256))), 900)
+    spare = [rarely(rng, 0, lambda: rng.randrange(256), 3000) for _ in range(3)]
+    return entry(cell, change, code, *given, former=former, spare=spare)
 
 
 def usual_shape(rng):
@@ -61,8 +65,8 @@ def usual_shape(rng):
 def full_shape(rng):
     """The same for a file of 8,192 bytes."""
     types = rng.randrange(1, 9)
-    cells = (SPARE - 74 * types) % 12 or 12
-    return types, (cells, 1, 1), (SPARE - 74 * types - cells) // 12
+    cells = (SPARE - 74 * types) % ENTRY_BYTES or ENTRY_BYTES
+    return types, (cells, 1, 1), (SPARE - 74 * types - cells) // ENTRY_BYTES
 
 
 def random_file(rng):
@@ -88,7 +92,7 @@ def random_file(rng):
 
 def padded(rng, file):
     """The file with bytes too many. Cut at 8,192, read from its end alone or in its first parts alone it would be a file that is answered."""
-    more = bytes(rng.randrange(256) for _ in range(rng.choice((1, 2, 12, 92, rng.randrange(1, 9000)))))
+    more = bytes(rng.randrange(256) for _ in range(rng.choice((1, 2, 12, ENTRY_BYTES, 92, rng.randrange(1, 9000)))))
     return rng.choice((file + more, more + file, file[:-92] + more + file[-92:], file + file[-92:], file + file))
 
 

@@ -1,7 +1,9 @@
-"""What meshchunk has to print for the bytes of a work file: a plain reading of document 01 and of 02's Q-6, written from their text and not
-from the rules."""
+"""What meshchunk has to print for the bytes of a work file: a plain reading of document 01 and of 02's Q-6 and Q-7, written from their text and
+not from the rules."""
 import math
 import struct
+
+from entries import ENTRY_BYTES
 
 TOP, BOTTOM, RIGHT, LEFT, BACK, FORWARD = range(6)
 STEPS = [(0, 1, 0), (0, -1, 0), (1, 0, 0), (-1, 0, 0), (0, 0, 1), (0, 0, -1)]
@@ -46,7 +48,7 @@ class Work:
         self.cells = t[5] * t[6] * t[7]
         grid = 74 * self.types
         log = grid + self.cells
-        if (t[0], t[1] + grid, t[2] + log, log + 12 * self.entries) != (body,) * 4:
+        if (t[0], t[1] + grid, t[2] + log, log + ENTRY_BYTES * self.entries) != (body,) * 4:
             raise Refused(1, 0)
         if t[22] != 92 or t[19] > 1 or t[9] > 1 or t[8] > 63 or self.types > 8 or self.cells > 512 or not self.types or not self.cells:
             raise Refused(1, 0)
@@ -58,7 +60,7 @@ class Work:
         self.covers = [file[74 * i + 1] for i in range(self.types)]
         self.textures = [words_at(file, 74 * i + 2, 18) for i in range(self.types)]
         self.grid = file[grid:log]
-        self.log = [file[log + 12 * i:log + 12 * i + 12] for i in range(self.entries)]
+        self.log = [file[at:at + ENTRY_BYTES] for at in range(log, body, ENTRY_BYTES)]
 
     # ---- cubes
 
@@ -133,14 +135,21 @@ class Work:
     def update(self):
         self.moved = 0
         for i, e in enumerate(self.log):
-            if struct.unpack("<I", e[:4])[0] >= self.cells or e[4] > 2 or e[5] >= self.types:
+            if struct.unpack("<I", e[:4])[0] >= self.cells or e[4] > 3 or e[5] >= self.types:
                 raise Refused(13, i)
-            if e[4] == 2 and max(e[6:]) > 2:
+            if e[4] == 2 and max(e[6:12]) > 2:
                 raise Refused(13, i)
-            if e[4] != 2 and any(n >= self.types and n != 255 for n in e[6:]):
+            if e[4] != 2 and any(n >= self.types and n != 255 for n in e[6:12]):
+                raise Refused(13, i)
+            if e[12] not in ([e[5]], [255], [255], range(self.types))[e[4]] or e[13:] != b"\0\0\0":
                 raise Refused(13, i)
         for i, e in enumerate(self.log):
-            self.enter(i, struct.unpack("<I", e[:4])[0], e[4], e[5], e[6:])
+            cell, given = struct.unpack("<I", e[:4])[0], e[6:12]
+            if e[4] == 3:  # Broken with the former type, then Added; a refusal of either is the entry's
+                self.enter(i, cell, 0, e[12], given)
+                self.enter(i, cell, 1, e[5], given)
+            else:
+                self.enter(i, cell, e[4], e[5], given)
 
     def enter(self, i, cell, change, code, given):
         own, new, facing = [], [], []

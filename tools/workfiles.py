@@ -9,6 +9,7 @@ Run it at the repository's root; stored.py says where it writes.
 """
 import struct
 
+from entries import BROKEN, ENTRY_BYTES, OUTSIDE, entries_of, entry
 from stored import counted, keep
 from sure import sure
 
@@ -23,14 +24,14 @@ def type_bytes(kind, sides, tile=0):
 
 ONE = 0x3F800000
 NULL, CUBE = type_bytes(0, 0), type_bytes(1, 63)
-BROKEN = words(0) + bytes([0, 1, 255, 255, 1, 255, 255, 255])
+DIG = entry(0, BROKEN, 1, OUTSIDE, OUTSIDE, 1, OUTSIDE, OUTSIDE, OUTSIDE)
 EXAMPLE = b"quads 6 moved 14\n0 1 5\n1 1 4\n2 1 0\n3 1 1\n4 1 2\n5 1 3\n"
 
 
 def trailer(types, grid, log, size, **other):
     """The 23 words of the trailer; `other` sets a word by its number, as w9=1."""
     body = len(types) + len(grid) + len(log)
-    t = [body, body - len(types), len(log), len(types) // 74, len(log) // 12, *size, 0, 1]
+    t = [body, body - len(types), len(log), len(types) // 74, len(log) // ENTRY_BYTES, *size, 0, 1]
     t += [ONE, ONE, ONE, 0, 0, 0, 1, 1, 0, 0, 0, 0, 92]
     for name, value in other.items():
         t[int(name[1:])] = value
@@ -40,9 +41,9 @@ def trailer(types, grid, log, size, **other):
 class File:
     """A work file, part by part: a type, the grid, an entry, bytes that belong to nothing, the trailer."""
 
-    def __init__(self, types=(NULL, CUBE), grid=b"\1\1", log=BROKEN, size=(2, 1, 1), spare=b"", **other):
+    def __init__(self, types=(NULL, CUBE), grid=b"\1\1", log=DIG, size=(2, 1, 1), spare=b"", **other):
         self.grid, self.log = grid, log
-        self.parts = [("type", one) for one in types] + [("grid", grid)] + [("entry", log[at:at + 12]) for at in range(0, len(log), 12)]
+        self.parts = [("type", one) for one in types] + [("grid", grid)] + [("entry", one) for one in entries_of(log)]
         self.parts += [("bytes", spare), ("trailer", trailer(b"".join(types), grid, log, size, **other))]
 
     @property
@@ -69,9 +70,9 @@ def good_files():
     yield File()
     yield File(log=b"")
     yield File(w19=1, w9=0, w8=63, w20=0x7FC00000, w21=0xFFFFFFFF)
-    yield File(types=(CUBE,) * 8, grid=b"\0" * 512, log=BROKEN * 7, size=(8, 8, 8))
-    yield File(types=(type_bytes(2, 64, 4096),), grid=bytes(range(12)), log=bytes(range(24)), size=(2, 3, 2))
-    yield File(types=(CUBE,), grid=b"\0" * 10, log=BROKEN * 668, size=(10, 1, 1))  # 8,192 bytes
+    yield File(types=(CUBE,) * 8, grid=b"\0" * 512, log=DIG * 7, size=(8, 8, 8))
+    yield File(types=(type_bytes(2, 64, 4096),), grid=bytes(range(12)), log=bytes(range(2 * ENTRY_BYTES)), size=(2, 3, 2))
+    yield File(types=(CUBE,), grid=b"\0" * 10, log=DIG * 501, size=(10, 1, 1))  # 8,192 bytes
 
 
 def named_bad_files():
@@ -79,15 +80,16 @@ def named_bad_files():
     yield "no_bytes", Bytes(b"")
     yield "91_bytes", Bytes(whole[-91:])
     yield "92_bytes", File(types=(), grid=b"", log=b"", size=(0, 0, 0))
-    yield "8193_bytes", File(types=(CUBE,), grid=b"\0" * 11, log=BROKEN * 668, size=(11, 1, 1))
+    yield "8193_bytes", File(types=(CUBE,), grid=b"\0" * 11, log=DIG * 501, size=(11, 1, 1))
     for number in (91, 93, 0):
         yield "word_22_is_%d" % number, File(w22=number)
     body = len(whole) - 92
-    for at, part, distance in ((0, "types", body), (1, "grid", body - 148), (2, "log", 12)):
+    for at, part, distance in ((0, "types", body), (1, "grid", body - 148), (2, "log", ENTRY_BYTES)):
         yield part + "_too_near", File(**{"w%d" % at: distance - 1})
         yield part + "_too_far", File(**{"w%d" % at: distance + 1})
     yield "an_entry_not_counted", File(w4=0)
     yield "an_entry_not_there", File(w4=2)
+    yield "an_entry_of_12_bytes", File(log=b"", spare=DIG[:12], w0=body - 4, w1=14, w2=12, w4=1)
     yield "a_type_not_counted", File(w3=1)
     yield "a_byte_before_the_trailer", File(spare=b"\0")
     yield "a_byte_before_the_trailer_again", Bytes(whole[:-92] + b"\0" + whole[-92:])
@@ -108,7 +110,7 @@ def named_bad_files():
     yield "cells_most", File(size=(0xFFFFFFFF, 0xFFFFFFFF, 0xFFFFFFFF))
     # types and entries so many that the bytes they ask for wrap 32 bits
     yield "types_2_in_31_bits", File(w3=2 + 0x80000000)
-    yield "entries_1_in_30_bits", File(w4=1 + 0x40000000)
+    yield "entries_1_in_28_bits", File(w4=1 + 0x10000000)
 
 
 sure(48912491 * 64 * 2971 * 683 * 11 * 3 * 11 * 8 == 2**64 + 512)
@@ -156,7 +158,7 @@ def wrong_cases():
 
 def main():
     right, wrong = list(cases()), list(wrong_cases())
-    sure(len(File(types=(CUBE,), grid=b"\0" * 10, log=BROKEN * 668, size=(10, 1, 1)).text) == 8192)
+    sure(len(File(types=(CUBE,), grid=b"\0" * 10, log=DIG * 501, size=(10, 1, 1)).text) == 8192)
     cut_short = words(5, len(EXAMPLE) + 1) + EXAMPLE
     stored = b"".join(words(kind, len(case)) + case for kind, case in right + wrong) + cut_short
     keep("workfile_run", stored, counted("cases", len(right), len(wrong) + 1))

@@ -5,8 +5,8 @@
     tools/workset.py test           runs tools/meshchunk, or what --program names, on every file of the set
     tools/workset.py file NAME      the bytes of one file, on standard output
 
-What must be printed comes from document 01, of Sides entries from 02's Q-6: the whole answer by plain_program.py, and the first line once more by
-hand, below, but for long logs.
+What must be printed comes from document 01, of Sides entries from 02's Q-6, of Replaced ones from its Q-7: the whole answer by plain_program.py,
+and the first line once more by hand, below, but for long logs.
 Where 01 itself works a file, its own lines stand here. One file has an answer that is wrong on purpose: a test that does not tell it has failed.
 
 What a file can reach: 1 BAD_FILE, 3 BAD_TYPES at a type, 4, 5, 6, 7 at a texture's entry, 8, 13 at an entry, and 14 at 0 or an entry. What it
@@ -17,7 +17,7 @@ can't, since the program lends its own lists and the file's rule comes first:
     7   at 6, or for the outer list: six entries are read for each type, and a set below 64 names faces alone
     9   24 vertices are lent to a cube, and six slots a cell to a mesh
     10, 11, 12   an update is lent the mesh that was made before it
-    13  past the limit, or for a ragged end: the log's bytes are 12 an entry, and 8,192 bytes hold 668 at most
+    13  past the limit, or for a ragged end: the log's bytes are 16 an entry, and 8,192 bytes hold 501 at most
     15, 16   the program calls no check
 """
 import argparse
@@ -28,18 +28,16 @@ import struct
 import sys
 
 sys.dont_write_bytecode = True  # no folder of bytecode beside the tools
-from chunkfile import FACES, OUTSIDE, ROOT, TRAILER_BYTES, answer_of, chunk_in, read_input
+from chunkfile import FACES, ROOT, TRAILER_BYTES, answer_of, chunk_in, read_input
+from entries import ADDED, BROKEN, DRAW, HIDE, KEEP, LAYOUT, OUTSIDE, REPLACED, SIDES, entry, replaced
 from plain_program import expected
 from sure import sure
-from workfiles import BROKEN as DIG
-from workfiles import CUBE, NULL, ONE, Bytes, File, named_bad_files, trailer, type_bytes, words
+from workfiles import CUBE, DIG, NULL, ONE, Bytes, File, named_bad_files, trailer, type_bytes, words
 
 SET = "examples/workfiles.txt"
 REACHED = {1, 3, 4, 5, 6, 7, 8, 13, 14}
 MOST = 0xFFFFFFFF
 INF, NAN, MAX, NEG = 0x7F800000, 0x7FC00000, 0x7F7FFFFF, 0x80000000
-BROKEN, ADDED, SIDES = range(3)
-KEEP, HIDE, DRAW = range(3)
 CUSTOM = type_bytes(2, 63)
 NONE_GIVEN = [OUTSIDE] * 6
 
@@ -50,11 +48,11 @@ NONE_GIVEN = [OUTSIDE] * 6
 HEAD = """\
 # Work files, and what meshchunk must print for each. tools/workset.py makes them, and says more.
 #
-# A file is its parts in their order: `type` has kind, set and six times face, a, b; `entry` has cell, change, type and six neighbours, or sides;
-# `trailer` has 23 words; `grid` and `bytes` have bytes. `N times` says that a part comes N times, `n*N` that a byte does.
+# A file is its parts in their order: `type` has kind, set and six times face, a, b; `entry` has cell, change, type, six neighbours or sides, former
+# type and three spare bytes; `trailer` has 23 words; `grid` and `bytes` have bytes. `N times` says that a part comes N times, `n*N` that a byte does.
 # A line that starts with > is printed. `wrong` is a file whose lines here are wrong on purpose.
 """
-LAYOUTS = {"type": "<BB18I", "entry": "<I8B", "trailer": "<23I"}
+LAYOUTS = {"type": "<BB18I", "entry": LAYOUT, "trailer": "<23I"}
 LEAST_RUN = 4
 
 
@@ -114,10 +112,6 @@ def read_set(text):
 # ---- parts of files
 
 
-def entry(cell, change, code, *given):
-    return words(cell) + bytes((change, code) + given)
-
-
 def around(**given):
     """Six neighbours, outside but for those named."""
     return [given.get(face, OUTSIDE) for face in FACES]
@@ -145,9 +139,9 @@ def row(*codes, **more):
 
 
 def long_row(size):
-    """A file of that many bytes: a row of cubes, its first dug 662 times."""
-    cells = size - TRAILER_BYTES - len(NULL + CUBE) - 662 * len(DIG)
-    return row(*[1] * cells, log=DIG * 662)
+    """A file of that many bytes: a row of cubes, its first dug 496 times."""
+    cells = size - TRAILER_BYTES - len(NULL + CUBE) - 496 * len(DIG)
+    return row(*[1] * cells, log=DIG * 496)
 
 
 # ---- the files, each with the start of its answer
@@ -190,6 +184,22 @@ quads 9 moved 6
 """
 
 
+# As the example, moved 14. Then five sides come; of eleven quads the neighbour's Left is 5, and the five after it close up.
+REPLACED_IN_ONE = """\
+quads 10 moved 19
+0 1 5
+1 1 4
+2 1 0
+3 1 1
+4 1 2
+5 0 0
+6 0 1
+7 0 3
+8 0 4
+9 0 5
+"""
+
+
 def worked_by_hand():
     yield "example", File(), WORKED
     yield "case_1", row(1), quads(6, 0)
@@ -201,6 +211,10 @@ def worked_by_hand():
     yield "case_6_shifts", row(1, 1, log=sides(0, 1, forward=HIDE)), quads(9, 5)
     yield "case_6_swaps", row(1, 1, log=sides(0, 1, back=HIDE)), quads(9, 1)
     yield "two_hidden_one_drawn", row(1, 1, log=sides(0, 1, top=HIDE, back=HIDE, right=DRAW)), TWO_HIDDEN_ONE_DRAWN
+    gravel = dict(types=(NULL, CUBE, type_bytes(1, 63, 1)))
+    yield "clay_to_gravel", row(1, 1, log=replaced(0, 1, 2, *around(right=1)), **gravel), REPLACED_IN_ONE
+    yield "clay_to_gravel_by_two", row(1, 1, log=entry(0, BROKEN, 1, *around(right=1)) + entry(0, ADDED, 2, *around(right=1)), **gravel), REPLACED_IN_ONE
+    yield "clay_to_air", row(1, 1, log=replaced(0, 1, 0, *around(right=1))), WORKED
     for case, covers, mended, fresh in ((7, 2, 11, 10), (8, 1, 10, 11)):
         types = NULL, CUBE, type_bytes(1, covers)
         yield "case_%d" % case, grid_file((1, 2, 1), [1], entry(1, ADDED, 2, *around(bottom=1)), types=types), quads(mended)
@@ -211,8 +225,8 @@ def worked_by_hand():
 def at_the_limits():
     """Files that are good, and bad ones just past them."""
     yield "167_bytes", row(0, types=(CUBE,)), quads(6, 0)
-    yield "8191_bytes_dug", long_row(8191), quads(26, 5)
-    yield "8192_bytes_dug", long_row(8192), quads(30, 5)
+    yield "8191_bytes_dug", long_row(8191), quads(58, 5)
+    yield "8192_bytes_dug", long_row(8192), quads(62, 5)
     yield "8193_bytes_dug", long_row(8193), BAD_FILE
     yield "8192_bytes_and_0", long_row(8192).followed(("bytes", b"\0")), BAD_FILE
     yield "8192_bytes_and_255", long_row(8192).followed(("bytes", b"\xff")), BAD_FILE
@@ -319,23 +333,38 @@ def bad_entries():
     bad = {
         "cell_2": entry(2, BROKEN, 1, *NONE_GIVEN),
         "cell_most": entry(MOST, BROKEN, 1, *NONE_GIVEN),
-        "change_3": entry(0, 3, 1, *NONE_GIVEN),
-        "change_3_of_sides": entry(0, 3, 1, *[HIDE] * 6),
         "change_4": entry(0, 4, 1, *NONE_GIVEN),
+        "change_4_of_sides": entry(0, 4, 1, *[HIDE] * 6),
+        "change_4_with_a_former_type": entry(0, 4, 1, *NONE_GIVEN, former=1),
         "change_255": entry(0, 255, 1, *NONE_GIVEN),
         "entry_type_2": entry(0, BROKEN, 2, *NONE_GIVEN),
+        "entry_type_2_of_replaced": replaced(0, 1, 2, *NONE_GIVEN),
         "entry_type_255": sides(0, 255),
         "entry_type_2_of_sides": sides(0, 2, top=HIDE),
         "neighbour_254": entry(0, ADDED, 0, *around(back=254)),
         "side_255": sides(0, 1, left=OUTSIDE),
+        "former_255": replaced(0, OUTSIDE, 1, *NONE_GIVEN),
+        "former_2": replaced(0, 2, 1, *NONE_GIVEN),
+        "former_0_of_broken_1": entry(0, BROKEN, 1, *NONE_GIVEN, former=0),
+        "former_255_of_broken_1": entry(0, BROKEN, 1, *NONE_GIVEN, former=OUTSIDE),
+        "former_1_of_added_1": entry(0, ADDED, 1, *NONE_GIVEN, former=1),
+        "former_0_of_sides_0": entry(0, SIDES, 0, *[KEEP] * 6, former=0),
+        "former_254_of_sides": entry(0, SIDES, 0, *[KEEP] * 6, former=254),
     }
     for face in FACES:
         bad["neighbour_2_" + face] = entry(0, BROKEN, 1, *around(**{face: 2}))
+        bad["neighbour_2_of_replaced_" + face] = replaced(0, 1, 0, *around(**{face: 2}))
         bad["side_3_" + face] = sides(0, 1, **{face: 3})
+    for byte in (13, 14, 15):
+        for name, one in (("broken", entry(0, BROKEN, 1, *NONE_GIVEN)), ("added", entry(0, ADDED, 1, *NONE_GIVEN)), ("sides", good),
+                          ("replaced", replaced(0, 1, 1, *NONE_GIVEN))):
+            bad["byte_%d_of_%s" % (byte, name)] = one[:byte] + bytes([byte]) + one[byte + 1:]
     for name, one in bad.items():
         yield name, row(1, 1, log=good * 2 + one), refused(13, 2)
-    yield "two_bad_entries", row(1, 1, log=good + (good[:4] + b"\3" + good[5:]) * 2), refused(13, 1)
-    yield "entry_667", row(*[0] * 10, types=(CUBE,), log=sides(0, 0) * 667 + entry(10, 0, 0, *NONE_GIVEN)), refused(13, 667)
+    yield "two_bad_entries", row(1, 1, log=good + (good[:4] + b"\4" + good[5:]) * 2), refused(13, 1)
+    yield "entry_500", row(*[0] * 10, types=(CUBE,), log=sides(0, 0) * 500 + entry(10, 0, 0, *NONE_GIVEN)), refused(13, 500)
+    yield "former_0_of_1_type", row(0, 0, types=(CUBE,), log=replaced(0, 0, 0, *around(right=0))), quads(10, 19)
+    yield "former_1_of_1_type", row(0, 0, types=(CUBE,), log=replaced(0, 1, 0, *around(right=0))), refused(13, 0)
     yield "side_2_of_1_type", row(0, 0, types=(CUBE,), log=sides(0, 0, top=HIDE, right=DRAW)), quads(10, 1)
     yield "neighbour_2_of_1_type", row(0, 0, types=(CUBE,), log=sides(0, 0, right=DRAW) + entry(0, ADDED, 0, *around(right=2))), refused(13, 1)
 
@@ -371,6 +400,18 @@ def no_room():
     # the corner's four quads go, two show; put back it asks for four more before the two go
     yield "126_quads_at_a_broken", plate(entry(0, BROKEN, 1, *corner)), quads(126, 4)
     yield "130_quads_at_an_added", plate(entry(0, BROKEN, 1, *corner) + entry(0, ADDED, 1, *corner)), refused(14, 1)
+    # replaced by air it asks for what it asks for broken; by a cube also for its own four sides, and for as many as are open
+    yield "126_quads_replaced_by_air", plate(replaced(0, 1, 0, *corner)), quads(126, 4)
+    yield "130_quads_at_a_replaced", plate(hide + draw + replaced(0, 1, 1, *corner)), refused(14, 2)
+    yield "129_quads_at_a_replaced", plate(sides(9, 1, top=HIDE) + replaced(0, 1, 1, *corner)), refused(14, 1)
+    yield "128_quads_at_a_replaced", plate(sides(9, 1, top=HIDE, bottom=HIDE) + replaced(0, 1, 1, *corner)), quads(126)
+    to_air = replaced(5, 1, 0, *around(right=1, left=1, back=1, forward=1))
+    yield "130_quads_at_a_replaced_by_air", plate(to_air), refused(14, 0)
+    yield "129_quads_at_a_replaced_by_air", plate(sides(9, 1, top=HIDE) + to_air), refused(14, 1)
+    yield "128_quads_at_a_replaced_by_air", plate(sides(9, 1, top=HIDE, bottom=HIDE) + to_air), quads(128, 4)
+    # what was there hid nothing, so that the first half asks for nothing
+    yield "128_quads_replaced_that_hid_nothing", plate(replaced(0, 0, 1, *corner)), quads(128)
+    yield "130_quads_replaced_that_hid_nothing", plate(replaced(0, 0, 1, *NONE_GIVEN)), refused(14, 0)
 
 
 def in_order():
@@ -378,7 +419,7 @@ def in_order():
     infinite = dict(w10=INF)
     face_6 = textured(0, 0, e1=(6, 0, 0))
     tile_4096 = textured(1, 63, e0=(0, 4096, 0))
-    entry_3 = entry(0, 3, 0, *NONE_GIVEN)
+    entry_4 = entry(0, 4, 0, *NONE_GIVEN)
     yield "flag_2_before_nan", row(1, 1, w19=2, **infinite), BAD_FILE
     yield "number_before_atlas", row(1, 1, w16=0, **infinite), refused(4)
     yield "atlas_before_face", row(1, 1, types=(face_6, CUBE), w16=0), refused(5)
@@ -388,8 +429,8 @@ def in_order():
     yield "kind_before_cube", row(1, 1, types=(CUBE, type_bytes(3, 0)), w10=0), refused(3, 1)
     yield "cube_before_cell", row(1, 2, w10=0), refused(6, 1)
     yield "cell_before_room", grid_file(PLATE, [1] * 5 + [2] + [1] * 41 + [3], types=(NULL, CUBE, OPEN)), refused(8, 47)
-    yield "mesh_before_entries", row(*[1] * 22, w9=0, log=entry_3), refused(14)
-    yield "entries_before_room", plate(sides(9, 1, right=DRAW) + entry_3), refused(13, 1)
+    yield "mesh_before_entries", row(*[1] * 22, w9=0, log=entry_4), refused(14)
+    yield "entries_before_room", plate(sides(9, 1, right=DRAW) + entry_4), refused(13, 1)
 
 
 def described(text):
@@ -400,25 +441,26 @@ def described(text):
 
 
 def honest(seed):
-    """Cubes and slabs put into a chunk and broken again, sixty times, each entry true of the ground."""
+    """Cubes and slabs put into a chunk, replaced and broken again, sixty times, each entry true of the ground."""
     rng, standing = random.Random(seed), set()
     lines = ["size 3 2 4", "outer bottom", "colour 0.5 1", "type . null covers none", "type r cube covers all", "type s cube covers bottom",
              "type t cube covers top left back"] + ["layer", "...", "...", "...", "..."] * 2
     for _ in range(60):
         place = "%d %d %d" % (rng.randrange(3), rng.randrange(2), rng.randrange(4))
-        lines.append("break " + place if place in standing else "add %s %s" % (rng.choice("rst"), place))
-        standing ^= {place}
+        key = "replace" if rng.randrange(3) == 0 else "break" if place in standing else "add"
+        lines.append("break " + place if key == "break" else "%s %s %s" % (key, rng.choice("rst"), place))
+        standing = standing - {place} if key == "break" else standing | {place}
     return described("\n".join(lines).encode())
 
 
 def foolish(seed):
-    """Sixty entries of all three changes, their neighbours and sides drawn by lot."""
+    """Sixty entries of all four changes, their neighbours, sides and former types drawn by lot."""
     rng, log = random.Random(seed), b""
     types = NULL, CUBE, type_bytes(1, 38), type_bytes(1, 0), type_bytes(0, 21), CUSTOM
     for _ in range(60):
-        change = rng.choice((BROKEN, ADDED, SIDES))
+        change = rng.choice((BROKEN, ADDED, SIDES, REPLACED))
         given = [rng.choice((KEEP, HIDE, DRAW) if change == SIDES else (OUTSIDE, rng.randrange(6))) for _ in range(6)]
-        log += entry(rng.randrange(12), change, rng.randrange(6), *given)
+        log += entry(rng.randrange(12), change, rng.randrange(6), *given, former=rng.randrange(6) if change == REPLACED else None)
     return grid_file((3, 2, 2), [rng.randrange(6) for _ in range(12)], log, types=types)
 
 
