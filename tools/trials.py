@@ -10,7 +10,7 @@ from collections import namedtuple
 
 import plain_mesh
 from cube_vectors import types_answer
-from entries import ADDED, BROKEN, DRAW, ENTRY_BYTES, HIDE, OUTSIDE, REPLACED, SIDES, entries_of, entry_of, own_former, replaced
+from entries import BROKEN, DRAW, ENTRY_BYTES, HIDE, OUTSIDE, REPLACED, SIDES, entries_of, entry_of, own_former, replaced
 from plain_mesh import EACH, LINKS, LISTS, NONE, PLENTY, SLOTS, STEPS, TRIANGLES, attributes, call, faces, floats, mesh
 from stored import counted, keep_set, spoiled
 from sure import sure
