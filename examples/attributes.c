@@ -23,14 +23,18 @@ static const uint8_t ground[CELLS] = {[ALONE] = ROCK, [7] = ROCK, [8] = ROCK};
 static const struct chunk chunk = {WIDTH, HEIGHT, LENGTH, {NULL, 0}, {ground, CELLS}};
 
 /* two rocks put where nothing is around, and the one alone dug */
-static const uint8_t laid[2 * 12] = {
-    22, 0, 0, 0, ADDED, ROCK, OUTSIDE, AIR, AIR,     AIR, OUTSIDE, AIR,
-    14, 0, 0, 0, ADDED, ROCK, OUTSIDE, AIR, OUTSIDE, AIR, AIR,     OUTSIDE};
-static const uint8_t dug[12] = {ALONE, 0, 0, 0, BROKEN, ROCK, AIR, OUTSIDE, AIR, OUTSIDE, AIR, OUTSIDE};
+static const uint8_t laid[2][ENTRY] = {
+    {22, 0, 0, 0, ADDED, ROCK, OUTSIDE, AIR, AIR,     AIR, OUTSIDE, AIR,     NO_FORMER},
+    {14, 0, 0, 0, ADDED, ROCK, OUTSIDE, AIR, OUTSIDE, AIR, AIR,     OUTSIDE, NO_FORMER}};
+static const uint8_t dug[1][ENTRY] = {{ALONE, 0, 0, 0, BROKEN, ROCK, AIR, OUTSIDE, AIR, OUTSIDE, AIR, OUTSIDE, ROCK}};
 /* of a rock beside another two sides are hidden, and the one that it lacks is drawn; then three where nothing is */
-static const uint8_t cut[2 * 12] = {
-    7,  0, 0, 0, SIDES, ROCK, HIDE, KEEP, DRAW, KEEP, HIDE, KEEP,
-    14, 0, 0, 0, SIDES, ROCK, DRAW, KEEP, KEEP, DRAW, DRAW, KEEP};
+static const uint8_t cut[2][ENTRY] = {
+    {7,  0, 0, 0, SIDES, ROCK, HIDE, KEEP, DRAW, KEEP, HIDE, KEEP, NO_FORMER},
+    {14, 0, 0, 0, SIDES, ROCK, DRAW, KEEP, KEEP, DRAW, DRAW, KEEP, NO_FORMER}};
+/* a rock beside another is replaced by its like: five sides go, the other's Left and five come, and it goes; then air is */
+static const uint8_t swapped[2][ENTRY] = {
+    {7,  0, 0, 0, REPLACED, ROCK, AIR,     OUTSIDE, ROCK,    AIR, AIR, AIR,     ROCK},
+    {14, 0, 0, 0, REPLACED, ROCK, OUTSIDE, AIR,     OUTSIDE, AIR, AIR, OUTSIDE, AIR}};
 
 static struct types types_of(uint32_t coloured) {
     return (struct types){
@@ -92,13 +96,15 @@ struct trial {
 static const struct trial trials[] = {
     {"mesh", MESH, {NULL, 0}, FRESH, {MESHEM_DONE, 0, FRESH, 0}, {MESHEM_NO_ROOM, 0, 0, 0}},
     {"check", CHECK, {NULL, 0}, FRESH, {MESHEM_DONE, 0, 0, 0}, {MESHEM_BAD_COUNT, 0, 0, 0}},
-    {"update that removes", UPDATE, {dug, 12}, FRESH, {MESHEM_DONE, 0, 10, 10}, {MESHEM_BAD_COUNT, 0, 0, 0}},
-    {"update that draws", UPDATE, {laid, 12}, FRESH + 6, {MESHEM_DONE, 0, 22, 0}, {MESHEM_NO_ROOM, 0, FRESH, 0}},
-    {"update that draws twice", UPDATE, {laid, 24}, FRESH + 12, {MESHEM_DONE, 0, 28, 0}, {MESHEM_NO_ROOM, 1, 22, 0}},
-    {"update of sides", UPDATE, {cut, 12}, FRESH, {MESHEM_DONE, 0, 15, 6}, {MESHEM_BAD_COUNT, 0, 0, 0}},
-    {"update of sides twice", UPDATE, {cut, 24}, FRESH + 2, {MESHEM_DONE, 0, 18, 6}, {MESHEM_NO_ROOM, 1, 15, 6}},
+    {"update that removes", UPDATE, {dug[0], ENTRY}, FRESH, {MESHEM_DONE, 0, 10, 10}, {MESHEM_BAD_COUNT, 0, 0, 0}},
+    {"update that draws", UPDATE, {laid[0], ENTRY}, FRESH + 6, {MESHEM_DONE, 0, 22, 0}, {MESHEM_NO_ROOM, 0, FRESH, 0}},
+    {"update that draws twice", UPDATE, {laid[0], 2 * ENTRY}, FRESH + 12, {MESHEM_DONE, 0, 28, 0}, {MESHEM_NO_ROOM, 1, 22, 0}},
+    {"update of sides", UPDATE, {cut[0], ENTRY}, FRESH, {MESHEM_DONE, 0, 15, 6}, {MESHEM_BAD_COUNT, 0, 0, 0}},
+    {"update of sides twice", UPDATE, {cut[0], 2 * ENTRY}, FRESH + 2, {MESHEM_DONE, 0, 18, 6}, {MESHEM_NO_ROOM, 1, 15, 6}},
+    {"update that replaces", UPDATE, {swapped[0], ENTRY}, FRESH + 1, {MESHEM_DONE, 0, 16, 19}, {MESHEM_NO_ROOM, 0, FRESH, 0}},
+    {"update that replaces twice", UPDATE, {swapped[0], 2 * ENTRY}, FRESH + 6, {MESHEM_DONE, 0, 22, 19}, {MESHEM_NO_ROOM, 1, 16, 19}},
 };
-enum { TRIALS = sizeof trials / sizeof trials[0], DRAWS = 3, DRAWS_TWICE = 4, CUTS = 5, CUTS_TWICE = 6 };
+enum { TRIALS = sizeof trials / sizeof trials[0] };
 
 static struct answer called(const struct trial *trial, struct mesh lists, uint32_t coloured) {
     struct types types = types_of(coloured);
@@ -214,8 +220,8 @@ int main(void) {
         hold_answer("cube", "out", coloured, build_rock(coloured), (struct answer){MESHEM_DONE, 0, 0, 0});
         for (int i = 0; i < TRIALS; i++) with_plenty(&trials[i], coloured, &done[i]);
         for (int i = 0; i < TRIALS; i++) {
-            /* out of room at the second entry, the first is done */
-            const struct memory *left = i == DRAWS_TWICE ? &done[DRAWS] : i == CUTS_TWICE ? &done[CUTS] : &before;
+            /* out of room at the second entry, the first is done, which is all of the trial before */
+            const struct memory *left = trials[i].refusal.place > 0 ? &done[i - 1] : &before;
             start(&trials[i], coloured, &before);
             with_each_list(&trials[i], coloured, &done[i], left);
             if (!coloured) with_any_colours(&trials[i], &done[i]);

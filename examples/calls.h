@@ -10,7 +10,8 @@
 
 enum face { TOP, BOTTOM, RIGHT, LEFT, BACK, FORWARD, OUTSIDE = 255 };
 enum kind { NOTHING, NORMAL_CUBE, CUSTOM_MESH };
-enum change { BROKEN = MESHEM_BROKEN, ADDED = MESHEM_ADDED, SIDES = MESHEM_SIDES };
+enum change { BROKEN = MESHEM_BROKEN, ADDED = MESHEM_ADDED, SIDES = MESHEM_SIDES, REPLACED = MESHEM_REPLACED };
+enum { ENTRY = 16, NO_FORMER = 255 }; /* an entry's bytes, and the former type of Added and Sides */
 enum told_of_a_side { KEEP = MESHEM_KEEP, HIDE = MESHEM_HIDE, DRAW = MESHEM_DRAW };
 enum algorithm { NAIVE, CULLING };
 

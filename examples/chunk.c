@@ -1,7 +1,8 @@
 /*
  * Two cubes side by side: built, meshed, checked; one is dug away, the mesh is mended and checked against the new
  * ground. Then a half-height slab is filled in on the other, testing either side: Meshem's leaves a face too many.
- * Last, sides of the rock beneath are hidden and drawn, as a streamer of chunks does, and the mesh is put right again.
+ * Sides of the rock beneath are hidden and drawn, as a streamer of chunks does, and the mesh is put right again. Last,
+ * the slab is replaced by rock in one stroke.
  */
 #include <stdio.h>
 #include "calls.h"
@@ -47,7 +48,7 @@ static struct chunk chunk_of(const uint8_t *grid) {
 
 static void mended(const char *what, const uint8_t *entry, enum meshem_tested tested, uint64_t *quads) {
     struct chunk chunk = chunk_of(NULL);
-    struct answer told = mend(lists, *quads, &chunk, (struct bytes){entry, 12}, tested, &types);
+    struct answer told = mend(lists, *quads, &chunk, (struct bytes){entry, ENTRY}, tested, &types);
     *quads = told.quads;
     printf("%s: %s quads %u moved %u\n", what, name(told.number), (unsigned)told.quads, (unsigned)told.moved);
 }
@@ -78,14 +79,16 @@ static void show(uint32_t cell, enum face face) {
 int main(void) {
     /* what isn't named is air */
     const uint8_t ground[CELLS] = {[DUG] = ROCK, [KEPT] = ROCK}, dug[CELLS] = {[KEPT] = ROCK},
-                  laid[CELLS] = {[KEPT] = ROCK, [ABOVE] = SLAB};
-    /* the cell in four bytes, the change, the type, its neighbours at Top, Bottom, Right, Left, Back, Forward */
-    const uint8_t dig[12] = {DUG, 0, 0, 0, BROKEN, ROCK, AIR, OUTSIDE, ROCK, AIR, AIR, AIR};
-    const uint8_t lay[12] = {ABOVE, 0, 0, 0, ADDED, SLAB, OUTSIDE, ROCK, OUTSIDE, AIR, AIR, AIR};
-    const uint8_t lift[12] = {ABOVE, 0, 0, 0, BROKEN, SLAB, OUTSIDE, ROCK, OUTSIDE, AIR, AIR, AIR};
+                  laid[CELLS] = {[KEPT] = ROCK, [ABOVE] = SLAB}, piled[CELLS] = {[KEPT] = ROCK, [ABOVE] = ROCK};
+    /* the cell in four bytes, the change, the type, its neighbours at Top, Bottom, Right, Left, Back, Forward, the former
+     * type; the three bytes past it are zero */
+    const uint8_t dig[ENTRY] = {DUG, 0, 0, 0, BROKEN, ROCK, AIR, OUTSIDE, ROCK, AIR, AIR, AIR, ROCK};
+    const uint8_t lay[ENTRY] = {ABOVE, 0, 0, 0, ADDED, SLAB, OUTSIDE, ROCK, OUTSIDE, AIR, AIR, AIR, NO_FORMER};
+    const uint8_t lift[ENTRY] = {ABOVE, 0, 0, 0, BROKEN, SLAB, OUTSIDE, ROCK, OUTSIDE, AIR, AIR, AIR, SLAB};
+    const uint8_t pile[ENTRY] = {ABOVE, 0, 0, 0, REPLACED, ROCK, OUTSIDE, ROCK, OUTSIDE, AIR, AIR, AIR, SLAB};
     /* the same, but what becomes of the cell's own sides */
-    const uint8_t cut[12] = {KEPT, 0, 0, 0, SIDES, ROCK, DRAW, KEEP, HIDE, KEEP, HIDE, KEEP};
-    const uint8_t uncut[12] = {KEPT, 0, 0, 0, SIDES, ROCK, HIDE, KEEP, DRAW, KEEP, DRAW, KEEP};
+    const uint8_t cut[ENTRY] = {KEPT, 0, 0, 0, SIDES, ROCK, DRAW, KEEP, HIDE, KEEP, HIDE, KEEP, NO_FORMER};
+    const uint8_t uncut[ENTRY] = {KEPT, 0, 0, 0, SIDES, ROCK, HIDE, KEEP, DRAW, KEEP, DRAW, KEEP, NO_FORMER};
     struct chunk chunk = chunk_of(ground);
     struct answer rock, slab, told;
     uint64_t quads;
@@ -115,6 +118,11 @@ int main(void) {
     mended("and the reverse", uncut, MESHEM_TESTED_ITSELF, &quads);
     checked("the slab", laid, quads);
     printf("the slab's Right:\n");
+    show(ABOVE, RIGHT);
+    mended("replace it by rock", pile, MESHEM_TESTED_ITSELF, &quads);
+    checked("the rock", piled, quads);
+    checked("the slab before", laid, quads);
+    printf("the rock's Right:\n");
     show(ABOVE, RIGHT);
     return 0;
 }

@@ -54,10 +54,10 @@ static uint64_t meshed(const char *what, const struct chunk *chunk) {
 static void solid(uint32_t w, uint32_t h, uint32_t l) {
     struct chunk chunk = chunk_of(w, h, l, ROCK);
     uint32_t cell = (h - 3) * l * w + (l - 4) * w + (w - 2);
-    uint8_t dig[12] = {cell & 255, cell >> 8 & 255, cell >> 16, 0, BROKEN, ROCK, ROCK, ROCK, ROCK, ROCK, ROCK, ROCK};
+    uint8_t dig[ENTRY] = {cell & 255, cell >> 8 & 255, cell >> 16, 0, BROKEN, ROCK, ROCK, ROCK, ROCK, ROCK, ROCK, ROCK, ROCK};
     uint64_t quads = meshed("solid", &chunk);
     printf("; faces at the edge %u", 2 * (w * h + w * l + h * l));
-    struct answer told = mend(lists_of(&chunk), quads, &chunk, (struct bytes){dig, 12}, MESHEM_TESTED_ITSELF, &types);
+    struct answer told = mend(lists_of(&chunk), quads, &chunk, (struct bytes){dig, ENTRY}, MESHEM_TESTED_ITSELF, &types);
     printf("; dig %s quads %u moved %u", name(told.number), (unsigned)told.quads, (unsigned)told.moved);
     checked("the grid before", &chunk, told.quads);
     grid[cell] = AIR;

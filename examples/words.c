@@ -30,14 +30,25 @@ static struct memory now;
 /* by y, then z, then x: a cell's number is y·12 + z·3 + x */
 static const uint8_t ground[CELLS] = {[7] = ROCK, [8] = ROCK, [15] = SLAB};
 static const uint8_t after[CELLS] = {[7] = ROCK, [15] = SLAB, [19] = SLAB};
+static const uint8_t after_replacing[CELLS] = {[7] = ROCK, [15] = ROCK, [19] = SLAB};
 static const uint8_t outer[1] = {RIGHT};
 
 /* a slab laid on rock, rock dug beside it, and rock for which there is no room */
-static const uint8_t entries[3 * 12] = {
-    19, 0, 0, 0, ADDED,  SLAB, OUTSIDE, ROCK,    AIR,     AIR,     AIR, AIR,
-    8,  0, 0, 0, BROKEN, ROCK, AIR,     OUTSIDE, OUTSIDE, ROCK,    AIR, AIR,
-    0,  0, 0, 0, ADDED,  ROCK, AIR,     OUTSIDE, AIR,     OUTSIDE, AIR, OUTSIDE};
-static const struct bytes two_entries = {entries, 2 * 12}, three_entries = {entries, 3 * 12};
+static const uint8_t entries[3][ENTRY] = {
+    {19, 0, 0, 0, ADDED,  SLAB, OUTSIDE, ROCK,    AIR,     AIR,     AIR, AIR,     NO_FORMER},
+    {8,  0, 0, 0, BROKEN, ROCK, AIR,     OUTSIDE, OUTSIDE, ROCK,    AIR, AIR,     ROCK},
+    {0,  0, 0, 0, ADDED,  ROCK, AIR,     OUTSIDE, AIR,     OUTSIDE, AIR, OUTSIDE, NO_FORMER}};
+static const struct bytes two_entries = {entries[0], 2 * ENTRY};
+/* rock replaced by air, air on the rock beside it by a slab, a slab by rock, and air by a slab for which there is no room */
+static const uint8_t replacing[4][ENTRY] = {
+    {8,  0, 0, 0, REPLACED, AIR,  AIR,     OUTSIDE, OUTSIDE, ROCK,    AIR, AIR, ROCK},
+    {19, 0, 0, 0, REPLACED, SLAB, OUTSIDE, ROCK,    AIR,     AIR,     AIR, AIR, AIR},
+    {15, 0, 0, 0, REPLACED, ROCK, OUTSIDE, AIR,     AIR,     OUTSIDE, AIR, AIR, SLAB},
+    {8,  0, 0, 0, REPLACED, SLAB, AIR,     OUTSIDE, OUTSIDE, ROCK,    AIR, AIR, AIR}};
+
+static struct bytes first_of(const uint8_t *log, size_t count) {
+    return (struct bytes){log, count * ENTRY};
+}
 
 /*
  * Sides. Of a rock two are hidden, two that it lacks are drawn, and one is drawn that is there. By a type that is no cube
@@ -45,14 +56,14 @@ static const struct bytes two_entries = {entries, 2 * 12}, three_entries = {entr
  * So full, one is hidden and one drawn, beside one that is there; then one drawn and one hidden that is not there, for
  * which there is no room.
  */
-static const uint8_t sides_told[7 * 12] = {
-    8,  0, 0, 0, SIDES, ROCK, HIDE, KEEP, DRAW, DRAW, HIDE, DRAW,
-    8,  0, 0, 0, SIDES, AIR,  DRAW, HIDE, HIDE, KEEP, DRAW, KEEP,
-    15, 0, 0, 0, SIDES, SLAB, DRAW, HIDE, KEEP, KEEP, HIDE, KEEP,
-    0,  0, 0, 0, SIDES, ROCK, DRAW, DRAW, DRAW, DRAW, DRAW, DRAW,
-    19, 0, 0, 0, SIDES, SLAB, DRAW, KEEP, DRAW, KEEP, KEEP, DRAW,
-    7,  0, 0, 0, SIDES, ROCK, HIDE, KEEP, DRAW, DRAW, KEEP, KEEP,
-    15, 0, 0, 0, SIDES, SLAB, KEEP, HIDE, KEEP, KEEP, DRAW, KEEP};
+static const uint8_t sides_told[7][ENTRY] = {
+    {8,  0, 0, 0, SIDES, ROCK, HIDE, KEEP, DRAW, DRAW, HIDE, DRAW, NO_FORMER},
+    {8,  0, 0, 0, SIDES, AIR,  DRAW, HIDE, HIDE, KEEP, DRAW, KEEP, NO_FORMER},
+    {15, 0, 0, 0, SIDES, SLAB, DRAW, HIDE, KEEP, KEEP, HIDE, KEEP, NO_FORMER},
+    {0,  0, 0, 0, SIDES, ROCK, DRAW, DRAW, DRAW, DRAW, DRAW, DRAW, NO_FORMER},
+    {19, 0, 0, 0, SIDES, SLAB, DRAW, KEEP, DRAW, KEEP, KEEP, DRAW, NO_FORMER},
+    {7,  0, 0, 0, SIDES, ROCK, HIDE, KEEP, DRAW, DRAW, KEEP, KEEP, NO_FORMER},
+    {15, 0, 0, 0, SIDES, SLAB, KEEP, HIDE, KEEP, KEEP, DRAW, KEEP, NO_FORMER}};
 /* of what each quad is */
 static const uint8_t drawn_of[CELLS] = {[0] = ROCK, [7] = ROCK, [8] = ROCK, [15] = SLAB, [19] = SLAB};
 
@@ -215,21 +226,43 @@ static const struct side fresh[FRESH] = {
     {8, TOP},  {8, BOTTOM},  {8, BACK},   {8, FORWARD},
     {15, TOP}, {15, BOTTOM}, {15, RIGHT}, {15, LEFT}, {15, BACK},   {15, FORWARD}};
 
-/*
- * The slab's five sides come last, 20 quads by then. Testing the side itself the rock beneath loses its Top, quad 0, whose
- * place the last quad takes. Then the dug rock's four go, each taken by the last, and the Right of the rock beside it comes.
- */
 struct mending {
     uint32_t quads, moved;
     struct side sides[QUADS];
 };
-static const struct mending mendings[2] = {
+
+/* a log: how many entries are done before one that has no room, the ground they leave, the most quads on the way, the mesh */
+struct work {
+    const uint8_t *log;
+    size_t done;
+    const uint8_t *after;
+    uint32_t highest;
+    struct mending mendings[2];
+};
+
+/*
+ * The slab's five sides come last, 20 quads by then. Testing the side itself the rock beneath loses its Top, quad 0, whose
+ * place the last quad takes. Then the dug rock's four go, each taken by the last, and the Right of the rock beside it comes.
+ */
+static const struct work added_and_broken = {entries[0], 2, after, QUADS, {
     [MESHEM_TESTED_OPPOSITE] = {17, 4,
         {{7, TOP},      {7, BOTTOM}, {7, LEFT},    {7, BACK},  {7, FORWARD}, {19, FORWARD}, {19, BACK}, {19, LEFT}, {19, RIGHT},
          {15, TOP},     {15, BOTTOM}, {15, RIGHT}, {15, LEFT}, {15, BACK},   {15, FORWARD}, {19, TOP},  {7, RIGHT}}},
     [MESHEM_TESTED_ITSELF] = {16, 5,
         {{19, FORWARD}, {7, BOTTOM}, {7, LEFT},    {7, BACK},  {7, FORWARD}, {19, BACK},    {19, LEFT}, {19, RIGHT}, {19, TOP},
-         {15, TOP},     {15, BOTTOM}, {15, RIGHT}, {15, LEFT}, {15, BACK},   {15, FORWARD}, {7, RIGHT}}}};
+         {15, TOP},     {15, BOTTOM}, {15, RIGHT}, {15, LEFT}, {15, BACK},   {15, FORWARD}, {7, RIGHT}}}}};
+
+/*
+ * The rock's four sides go, and the Right of the one beside it comes: 12. Five of a slab come on top, and testing the side
+ * itself the Top beneath it, quad 0, goes. The other slab's six sides go, and six of rock come.
+ */
+static const struct work replaced = {replacing[0], 3, after_replacing, 17, {
+    [MESHEM_TESTED_OPPOSITE] = {17, 24,
+        {{7, TOP},      {7, BOTTOM}, {7, LEFT},    {7, BACK},   {7, FORWARD}, {19, RIGHT}, {19, LEFT},   {19, FORWARD}, {19, BACK},
+         {7, RIGHT},    {19, TOP},   {15, TOP},    {15, BOTTOM}, {15, RIGHT}, {15, LEFT},  {15, BACK},   {15, FORWARD}}},
+    [MESHEM_TESTED_ITSELF] = {16, 31,
+        {{19, FORWARD}, {7, BOTTOM}, {7, LEFT},    {7, BACK},   {7, FORWARD}, {19, BACK},  {19, LEFT},   {7, RIGHT},    {19, TOP},
+         {19, RIGHT},   {15, TOP},   {15, BOTTOM}, {15, RIGHT}, {15, LEFT},   {15, BACK},  {15, FORWARD}}}}};
 
 /* after the first three of the Sides entries, and after six: the last quad takes a place, or the few after it close up */
 enum { LEFT_BY_THREE = 11, LEFT_BY_SIX = 20 };
@@ -307,29 +340,30 @@ static void wrong_vertices(uint32_t coloured) {
     refused("other colours", check(&chunk, &types, lists, FRESH), MESHEM_DONE, 0);
 }
 
-static void mend_and_check(enum meshem_tested tested, uint32_t coloured) {
-    struct chunk chunk = chunk_of(after);
+static void mend_and_check(const struct work *work, enum meshem_tested tested, uint32_t coloured) {
+    struct chunk chunk = chunk_of(work->after);
     struct mesh lists = lists_of(coloured);
     struct types types = types_of(coloured);
-    const struct mending *due = &mendings[tested];
+    const struct mending *due = &work->mendings[tested];
     mesh_afresh(CULLING, coloured);
-    answered("update", mend(lists, FRESH, &chunk, two_entries, tested, &types), MESHEM_DONE, 0, due->quads, due->moved);
-    hold_mesh("update", due->sides, due->quads, QUADS, after, coloured);
+    answered("update", mend(lists, FRESH, &chunk, first_of(work->log, work->done), tested, &types), MESHEM_DONE, 0,
+             due->quads, due->moved);
+    hold_mesh("update", due->sides, due->quads, work->highest, work->after, coloured);
     mesh_afresh(CULLING, coloured);
-    answered("update out of room", mend(lists, FRESH, &chunk, three_entries, tested, &types), MESHEM_NO_ROOM, 2, due->quads,
-             due->moved);
-    hold_mesh("update out of room", due->sides, due->quads, QUADS, after, coloured);
+    answered("update out of room", mend(lists, FRESH, &chunk, first_of(work->log, work->done + 1), tested, &types),
+             MESHEM_NO_ROOM, work->done, due->quads, due->moved);
+    hold_mesh("update out of room", due->sides, due->quads, work->highest, work->after, coloured);
     if (tested == MESHEM_TESTED_ITSELF)
         refused("check after", check(&chunk, &types, lists, due->quads), MESHEM_DONE, 0);
     else
         refused("check after", check(&chunk, &types, lists, due->quads), MESHEM_WRONG_SET, 6 * 7 + TOP);
 }
 
-static struct answer sides_mended(size_t entries, enum meshem_tested tested, uint32_t coloured) {
+static struct answer sides_mended(size_t count, enum meshem_tested tested, uint32_t coloured) {
     struct chunk chunk = chunk_of(ground);
     struct types types = types_of(coloured);
     mesh_afresh(CULLING, coloured);
-    return mend(lists_of(coloured), FRESH, &chunk, (struct bytes){sides_told, entries * 12}, tested, &types);
+    return mend(lists_of(coloured), FRESH, &chunk, first_of(sides_told[0], count), tested, &types);
 }
 
 static void hide_and_draw(enum meshem_tested tested, uint32_t coloured) {
@@ -408,15 +442,43 @@ static void damaged(const char *what, uint32_t *word, uint32_t number, uint64_t 
     *word ^= 1;
 }
 
+/* entries that are wrong in one thing */
+struct bad {
+    const char *what;
+    uint8_t entry[ENTRY];
+};
+static const struct bad bad_entries[] = {
+    {"cell", {CELLS, 0, 0, 0, BROKEN, ROCK, AIR, AIR, AIR, AIR, AIR, AIR, ROCK}},
+    {"change", {8, 0, 0, 0, 4, ROCK, AIR, ROCK, AIR, AIR, AIR, AIR, ROCK}},
+    {"type", {8, 0, 0, 0, REPLACED, TYPES, AIR, ROCK, AIR, AIR, AIR, AIR, SLAB}},
+    {"neighbour", {8, 0, 0, 0, REPLACED, ROCK, AIR, ROCK, TYPES, AIR, AIR, AIR, SLAB}},
+    {"side", {8, 0, 0, 0, SIDES, ROCK, KEEP, HIDE, DRAW, KEEP, 3, DRAW, NO_FORMER}},
+    {"former type of Broken", {8, 0, 0, 0, BROKEN, ROCK, AIR, AIR, AIR, AIR, AIR, AIR, SLAB}},
+    {"no former type of Broken", {8, 0, 0, 0, BROKEN, ROCK, AIR, AIR, AIR, AIR, AIR, AIR, NO_FORMER}},
+    {"former type of Added", {8, 0, 0, 0, ADDED, ROCK, AIR, AIR, AIR, AIR, AIR, AIR, ROCK}},
+    {"former type of Sides", {8, 0, 0, 0, SIDES, ROCK, HIDE, HIDE, HIDE, HIDE, HIDE, HIDE, ROCK}},
+    {"former type of Replaced", {8, 0, 0, 0, REPLACED, ROCK, AIR, AIR, AIR, AIR, AIR, AIR, TYPES}},
+    {"no former type of Replaced", {8, 0, 0, 0, REPLACED, ROCK, AIR, AIR, AIR, AIR, AIR, AIR, NO_FORMER}},
+    {"byte 13", {8, 0, 0, 0, BROKEN, ROCK, AIR, AIR, AIR, AIR, AIR, AIR, ROCK, 1, 0, 0}},
+    {"byte 14", {8, 0, 0, 0, SIDES, ROCK, KEEP, KEEP, KEEP, KEEP, KEEP, KEEP, NO_FORMER, 0, 2, 0}},
+    {"byte 15", {8, 0, 0, 0, REPLACED, ROCK, AIR, AIR, AIR, AIR, AIR, AIR, SLAB, 0, 0, 4}},
+};
+enum { BAD_ENTRIES = sizeof bad_entries / sizeof bad_entries[0] };
+
+/* each after good ones, 0 to 2 of them */
+static void refusals_of_entries(void) {
+    const struct chunk chunk = chunk_of(ground);
+    const struct types types = types_of(0);
+    uint8_t log[3][ENTRY];
+    for (int i = 0; i < BAD_ENTRIES; i++) {
+        memcpy(log, replacing, sizeof log);
+        memcpy(log[i % 3], bad_entries[i].entry, ENTRY);
+        refused(bad_entries[i].what, mend(lists_of(0), FRESH, &chunk, first_of(log[0], i % 3 + 1), MESHEM_TESTED_ITSELF, &types),
+                MESHEM_BAD_ENTRY, i % 3);
+    }
+}
+
 static void refusals_of_updates(void) {
-    static const uint8_t outside[12] = {CELLS, 0, 0, 0, BROKEN, ROCK, AIR, AIR, AIR, AIR, AIR, AIR};
-    static const uint8_t change_3[2 * 12] = {
-        8, 0, 0, 0, SIDES, ROCK, DRAW, DRAW, DRAW, DRAW, DRAW, DRAW,
-        8, 0, 0, 0, 3,     ROCK, AIR,  ROCK, AIR,  AIR,  AIR,  AIR};
-    static const uint8_t side_3[3 * 12] = {
-        8, 0, 0, 0, SIDES,  AIR,  HIDE, HIDE, HIDE,    HIDE, HIDE, HIDE,
-        8, 0, 0, 0, BROKEN, ROCK, AIR,  SLAB, OUTSIDE, ROCK, AIR,  AIR,
-        8, 0, 0, 0, SIDES,  ROCK, KEEP, HIDE, DRAW,    KEEP, 3,    DRAW};
     const struct chunk right = chunk_of(ground);
     const struct types types = types_of(0);
     const struct mesh lists = lists_of(0);
@@ -424,6 +486,7 @@ static void refusals_of_updates(void) {
     struct chunk chunk;
     struct types other;
     struct mesh room;
+    struct bytes ragged;
     chunk = right, chunk.height = 0;
     refused("height", mend(lists, FRESH, &chunk, two_entries, tested, &types), MESHEM_BAD_SIZE, 0);
     other = types, other.kinds.len--;
@@ -438,10 +501,10 @@ static void refusals_of_updates(void) {
     refused("slots", mend(room, FRESH, &right, two_entries, tested, &types), MESHEM_SHORT_ROOM, 0);
     refused("count", mend(lists, QUADS + 1, &right, two_entries, tested, &types), MESHEM_BAD_COUNT, 0);
     refused("too few", mend(lists, FRESH - 1, &right, two_entries, tested, &types), MESHEM_BAD_LINKS, FRESH - 1);
-    refused("entry", mend(lists, FRESH, &right, (struct bytes){outside, 12}, tested, &types), MESHEM_BAD_ENTRY, 0);
-    refused("change 3", mend(lists, FRESH, &right, (struct bytes){change_3, 24}, tested, &types), MESHEM_BAD_ENTRY, 1);
-    refused("side 3", mend(lists, FRESH, &right, (struct bytes){side_3, 36}, tested, &types), MESHEM_BAD_ENTRY, 2);
-    refused("ragged end", mend(lists, FRESH, &right, (struct bytes){entries, 35}, tested, &types), MESHEM_BAD_ENTRY, 2);
+    ragged = two_entries, ragged.len--;
+    refused("ragged end", mend(lists, FRESH, &right, ragged, tested, &types), MESHEM_BAD_ENTRY, 1);
+    ragged.len = 12;
+    refused("entry of 12 bytes", mend(lists, FRESH, &right, ragged, tested, &types), MESHEM_BAD_ENTRY, 0);
     damaged("a link", now.links + 4, MESHEM_BAD_LINKS, 4);
     damaged("a triangle", now.triangles + 6 * 3 + 2, MESHEM_BAD_TRIANGLES, 3);
 }
@@ -450,7 +513,7 @@ static void refusals_of_updates(void) {
 static void refusals(void) {
     build_cubes(0);
     mesh_afresh(CULLING, 0);
-    refusals_of_cubes(), refusals_of_meshes(), refusals_of_updates();
+    refusals_of_cubes(), refusals_of_meshes(), refusals_of_updates(), refusals_of_entries();
     hold_mesh("after refusals", fresh, FRESH, FRESH, ground, 0);
 }
 
@@ -487,10 +550,11 @@ int main(void) {
         mesh_naively(coloured);
         mesh_and_check(coloured);
         wrong_vertices(coloured);
-        mend_and_check(MESHEM_TESTED_OPPOSITE, coloured);
-        mend_and_check(MESHEM_TESTED_ITSELF, coloured);
-        hide_and_draw(MESHEM_TESTED_OPPOSITE, coloured);
-        hide_and_draw(MESHEM_TESTED_ITSELF, coloured);
+        for (enum meshem_tested tested = MESHEM_TESTED_OPPOSITE; tested <= MESHEM_TESTED_ITSELF; tested++) {
+            mend_and_check(&added_and_broken, tested, coloured);
+            mend_and_check(&replaced, tested, coloured);
+            hide_and_draw(tested, coloured);
+        }
     }
     refusals();
     printf("%u words and %u answers held to document 01, %u differ\n", words_held, answers_held, differences);

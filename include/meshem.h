@@ -32,7 +32,7 @@ extern "C" {
  * The level of these declarations; meshem_abi returns the library's. Where they differ a call may misread what it is
  * given, so a program compares the two before its first call. A library of level 1 lacks meshem_abi.
  */
-#define MESHEM_ABI 4u
+#define MESHEM_ABI 5u
 uint32_t meshem_abi(void);
 
 enum meshem_refusal {
@@ -56,9 +56,9 @@ enum meshem_refusal {
 };
 
 /*
- * The side of an Added voxel that decides whether the neighbour at face i loses the quad facing it: the opposite of
- * i, as Meshem does, or i itself, as meshem_check_mesh wants it. The two differ only for a voxel that does not cover
- * opposite sides alike, such as a half-height slab.
+ * The side of a voxel that comes, by Added or Replaced, which decides whether the neighbour at face i loses the quad
+ * facing it: the opposite of i, as Meshem does, or i itself, as meshem_check_mesh wants it. The two differ only for a
+ * voxel that does not cover opposite sides alike, such as a half-height slab.
  */
 enum meshem_tested {
     MESHEM_TESTED_OPPOSITE = 0,
@@ -66,19 +66,25 @@ enum meshem_tested {
 };
 
 /*
- * An entry of a log has 12 bytes: the cell in four, the lowest first, the change, the type, and six in the order of the
- * faces: Top, Bottom, Right, Left, Back, Forward. For Broken and Added the six are the neighbours' types, 255 outside
- * the grid. For Sides they say what becomes of the cell's own sides: those to hide lose their quads, then those to draw
- * that have none get one, of the entry's type if that is a NormalCube.
+ * An entry of a log has 16 bytes: the cell in four, the lowest first, the change, the type, six in the order of the
+ * faces (Top, Bottom, Right, Left, Back, Forward), the former type, and three zeros. For Broken, Added and Replaced the
+ * six are the neighbours' types, 255 outside the grid. For Sides they say what becomes of the cell's own sides: those to
+ * hide lose their quads, then those to draw that have none get one, of the entry's type if that is a NormalCube.
  *
- * A log does not say its level. Below level 4 the changes were Broken, Added, 2 CullFaces and 3 AddFaces, and their six
- * bytes neighbours. Of such a log 3 is refused (MESHEM_BAD_ENTRY), and 2 as well, unless its six bytes are all below 3:
- * then it is read as Sides. tools/convert-sides converts such logs.
+ * Replaced does what Broken with the former type and then Added with the type do, both with its cell and neighbours; but
+ * if the second finds no room, the first is not done either. Its former type is a type, that of Broken is the entry's
+ * type once more, that of Added and Sides 255. Another one, or a nonzero byte past it, is refused (MESHEM_BAD_ENTRY).
+ *
+ * A log does not say its level. Below level 5 an entry had 12 bytes: the last four were not there. Below level 4 the
+ * changes were Broken, Added, 2 CullFaces and 3 AddFaces, and the six bytes of each neighbours. Such a log is refused
+ * (MESHEM_BAD_ENTRY), unless its bytes happen to be entries of 16, which takes a number of entries that four divides.
+ * tools/convert-log converts such logs.
  */
 enum meshem_change {
     MESHEM_BROKEN = 0,
     MESHEM_ADDED = 1,
-    MESHEM_SIDES = 2
+    MESHEM_SIDES = 2,
+    MESHEM_REPLACED = 3
 };
 
 enum meshem_side {
@@ -131,7 +137,7 @@ uint32_t meshem_update_mesh(
     uint32_t *slots, size_t slots_len,
     uint64_t count,                                     /* quads before the log */
     uint32_t width, uint32_t height, uint32_t length,
-    const uint8_t *log, size_t log_len,                 /* 12 bytes an entry */
+    const uint8_t *log, size_t log_len,                 /* 16 bytes an entry */
     uint32_t tested,                                    /* 0 the opposite of i, else i itself */
     const uint8_t *kinds, size_t kinds_len,
     const uint8_t *covers, size_t covers_len,           /* side sets */
