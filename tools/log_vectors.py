@@ -89,10 +89,10 @@ def as_two(one):
     return entry(cell, SIDES, code, *hidden) + entry(cell, SIDES, code, *drawn)
 
 
-def by_one_or_two(count, one, call=UPDATE, **lent):
+def by_one_or_two(count, one, mode=UPDATE, **lent):
     """One entry. As two, in a trial that is not kept, the answer and all words are the same. Answers quads and moved."""
-    told, left = add(call, count, one, **lent), trials.image
-    trials.only_made(told, call, count, as_two(one), **lent)
+    told, left = add(mode, count, one, **lent), trials.image
+    trials.only_made(told, mode, count, as_two(one), **lent)
     sure(told[0] == 0 and trials.image == left)
     return told[2:]
 
@@ -101,9 +101,9 @@ FRESH = [(cell, face) for cell, _, face in faces(PAIR)]
 SWAPPED = [(1, 5), (0, 1), (0, 3), (0, 5), (1, 0), (1, 1), (1, 2), (1, 4)]  # the last quad takes Top's place, then Back's is closed up
 sure(by_one_or_two(10, entry(0, SIDES, 1, *sides([0, 4], [2]))) == (9, 6) and keys() == SWAPPED + [(0, 2)])
 sure(by_one_or_two(10, entry(0, SIDES, 0, *sides([0, 4], [2]))) == (8, 6) and keys() == SWAPPED)  # a Null is not drawn
-TOP_IS_THERE = entry(1, SIDES, 1, *sides([1, 4], [0, 3]))
+TOP_IS_THERE, ALL_AS_TOLD = entry(1, SIDES, 1, *sides([1, 4], [0, 3])), entry(0, SIDES, 1, *sides([2], [0, 1, 3, 4, 5]))
 sure(by_one_or_two(10, TOP_IS_THERE) == (9, 4) and keys() == FRESH[:6] + [(1, 2), (1, 5), (1, 3)])
-sure(by_one_or_two(10, entry(0, SIDES, 1, *sides([2], [0, 1, 3, 4, 5]))) == (10, 0) and keys() == FRESH)  # what is hidden is not there, what is drawn is
+sure(by_one_or_two(10, ALL_AS_TOLD) == (10, 0) and keys() == FRESH)  # what is hidden is not there, what is drawn is
 sure(add(UPDATE, 10, entry(0, SIDES, 1, *sides())) == (0, 0, 10, 0) and trials.image == trials.kept)
 sure(add(UPDATE, 10, entry(1, SIDES, 1, *sides((), range(6)))) == (0, 0, 11, 0) and keys() == FRESH + [(1, 3)])
 sure(add(UPDATE, 10, entry(0, SIDES, 1, *sides(range(6)))) == (0, 0, 5, 14) and keys() == [(1, face) for face in (5, 4, 0, 1, 2)])
@@ -469,9 +469,11 @@ sure(add(UPDATE, 9, LOG, before=[(S + 11, NONE)])[0] == 0 and add(UPDATE, 10, LO
 refusal(11, 10, count=11)  # what stands in place 10 is no link
 refusal(11, 10, count=11, before=[(L + 10, 0), (T + 60, 0)])
 # an entry is wrong in one thing: cell, change, type, one of the six, former type, a spare byte
-BAD_ENTRIES = [entry(cell, change, 1, *ALONE) for cell in (2, NONE) for change in (BROKEN, ADDED)] + [entry(2, SIDES, 1, *sides()), replaced(2, 1, 1, *ALONE)]
+BAD_ENTRIES = [entry(cell, change, 1, *ALONE) for cell in (2, NONE) for change in (BROKEN, ADDED)]
+BAD_ENTRIES += [entry(2, SIDES, 1, *sides()), replaced(2, 1, 1, *ALONE)]
 BAD_ENTRIES += [entry(0, change, 1, *given, former=former) for change in (4, 5, 255) for given in (ALONE, sides()) for former in (1, OUTSIDE)]
-BAD_ENTRIES += [entry(0, change, code, *sides()) for change in (BROKEN, ADDED, SIDES) for code in (2, 255)] + [replaced(0, 1, code, *ALONE) for code in (2, 255)]
+BAD_ENTRIES += [entry(0, change, code, *sides()) for change in (BROKEN, ADDED, SIDES) for code in (2, 255)]
+BAD_ENTRIES += [replaced(0, 1, code, *ALONE) for code in (2, 255)]
 BAD_ENTRIES += [replaced(0, former, 1, *ALONE) for former in (2, 3, 254, OUTSIDE)]
 BAD_ENTRIES += [entry(0, BROKEN, code, *ALONE, former=former) for code, former in ((1, 0), (0, 1), (1, 2), (1, OUTSIDE))]
 BAD_ENTRIES += [entry(0, change, 1, *sides(), former=former) for change in (ADDED, SIDES) for former in (0, 1, 2, 254)]
@@ -479,7 +481,8 @@ FORMERS = ((BROKEN, 1), (ADDED, OUTSIDE), (SIDES, OUTSIDE), (REPLACED, 1))
 BAD_ENTRIES += [entry(0, change, 1, *sides(), former=former, spare=[byte * (i == k) for i in range(3)])
                 for change, former in FORMERS for k, byte in enumerate((1, 128, 255))]
 BAD_BYTES = [(change, code) for change in (BROKEN, ADDED, REPLACED) for code in (2, 254)] + [(SIDES, what) for what in (3, OUTSIDE)]
-BAD_ENTRIES += [entry(0, change, 1, *[byte if i == k else 0 for i in range(6)], former=dict(FORMERS)[change]) for change, byte in BAD_BYTES for k in range(6)]
+BAD_ENTRIES += [entry(0, change, 1, *[byte if i == k else 0 for i in range(6)], former=dict(FORMERS)[change])
+                for change, byte in BAD_BYTES for k in range(6)]
 for k, one in enumerate(BAD_ENTRIES):
     at = k % 4 * ENTRY_BYTES
     refusal(13, k % 4, log=LOG[:at] + one + LOG[at:] + one)

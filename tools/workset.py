@@ -211,10 +211,10 @@ def worked_by_hand():
     yield "case_6_shifts", row(1, 1, log=sides(0, 1, forward=HIDE)), quads(9, 5)
     yield "case_6_swaps", row(1, 1, log=sides(0, 1, back=HIDE)), quads(9, 1)
     yield "two_hidden_one_drawn", row(1, 1, log=sides(0, 1, top=HIDE, back=HIDE, right=DRAW)), TWO_HIDDEN_ONE_DRAWN
-    gravel = dict(types=(NULL, CUBE, type_bytes(1, 63, 1)))
-    yield "clay_to_gravel", row(1, 1, log=replaced(0, 1, 2, *around(right=1)), **gravel), REPLACED_IN_ONE
-    yield "clay_to_gravel_by_two", row(1, 1, log=entry(0, BROKEN, 1, *around(right=1)) + entry(0, ADDED, 2, *around(right=1)), **gravel), REPLACED_IN_ONE
-    yield "clay_to_air", row(1, 1, log=replaced(0, 1, 0, *around(right=1))), WORKED
+    gravel, beside = dict(types=(NULL, CUBE, type_bytes(1, 63, 1))), around(right=1)
+    yield "clay_to_gravel", row(1, 1, log=replaced(0, 1, 2, *beside), **gravel), REPLACED_IN_ONE
+    yield "clay_to_gravel_by_two", row(1, 1, log=entry(0, BROKEN, 1, *beside) + entry(0, ADDED, 2, *beside), **gravel), REPLACED_IN_ONE
+    yield "clay_to_air", row(1, 1, log=replaced(0, 1, 0, *beside)), WORKED
     for case, covers, mended, fresh in ((7, 2, 11, 10), (8, 1, 10, 11)):
         types = NULL, CUBE, type_bytes(1, covers)
         yield "case_%d" % case, grid_file((1, 2, 1), [1], entry(1, ADDED, 2, *around(bottom=1)), types=types), quads(mended)
