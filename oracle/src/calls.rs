@@ -1,6 +1,7 @@
 //! The four calls of the C interface, as the library and the plain reading of document 01 both answer them.
 
 use crate::cases::Case;
+use crate::entries::LEVEL;
 use crate::rust::{CubeParameters, Types, Words};
 
 /// 0 or the number of a refusal, its place, and the counts.
@@ -23,9 +24,9 @@ pub trait Calls {
         false
     }
 
-    /// Whether it takes a Sides entry as two, as `entries::former` has them.
-    fn takes_pairs(&self) -> bool {
-        false
+    /// The level whose log entries it takes, as `entries::at_level` has them.
+    fn log_level(&self) -> u32 {
+        LEVEL
     }
 }
 

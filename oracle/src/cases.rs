@@ -1,9 +1,9 @@
 //! Cases, made from a seed and nothing else: cubes, types, grids and logs, all of them accepted by document 01.
 
 use crate::calls::accepted;
-use crate::entries::{cell_of, entry, is_sides, ENTRY, OUTSIDE};
+use crate::entries::{cell_of, entry, halves, is_replaced, is_sides, replaced, CHANGE, ENTRY, FORMER, GIVEN, OUTSIDE, VOXEL};
 use crate::rust::{cube, floats, CubeParameters, Types};
-use plain::{Tested, ADDED, BROKEN, KEEP, SIDES};
+use plain::{Tested, ADDED, BROKEN, KEEP, REPLACED, SIDES};
 
 /// A grid to mesh and a log to apply to its mesh.
 #[derive(Clone, Debug, Default, PartialEq)]
@@ -14,7 +14,7 @@ pub struct Case {
     pub types: Types,
     pub naive: bool,
     pub log: Vec<u8>,
-    /// The side of an Added voxel that the update tests; the Rust knows the opposite alone.
+    /// The side of an Added or Replaced voxel that the update tests; the Rust knows the opposite alone.
     pub tested: Tested,
 }
 
@@ -40,7 +40,7 @@ pub enum Candour {
     Mixed,
 }
 
-/// What the Added entries of a mendable log add: any cubes, or those that cover opposite sides alike.
+/// What the Added and Replaced entries of a mendable log put: any cubes, or those that cover opposite sides alike.
 #[derive(Clone, Copy, PartialEq)]
 pub enum Added {
     AnyCubes,
@@ -161,10 +161,10 @@ impl Random {
         })
     }
 
-    /// An empty type, and slabs for the most part.
+    /// Slabs for the most part, and an empty type in most registries.
     fn slab_types(&mut self) -> Types {
         let count = 3 + self.below(7);
-        let empty = self.below(count);
+        let empty = self.below(count + 1);
         self.types_of(count, |random, number| match number == empty {
             true => (0, 0),
             false => (random.pick(&[1, 1, 1, 1, 1, 0, 2]), random.slab_set()),
@@ -319,22 +319,19 @@ impl Random {
     /// An entry true of the grid, which it then changes.
     fn honest(&mut self, cell: usize, case: &Case, grid: &mut [u8]) -> Vec<u8> {
         let t = &case.types;
-        let neighbours = beside(case.dims, cell, grid);
-        let (change, voxel, after) = match t.lowest_empty() {
-            Some(empty) if self.one_in(2) => (BROKEN, grid[cell], empty),
-            _ => {
-                let voxel = self.below(t.kinds.len()) as u8;
-                (ADDED, voxel, voxel)
-            }
+        let (voxel, change) = (self.below(t.kinds.len()) as u8, self.pick(&[BROKEN, ADDED, REPLACED]));
+        let (change, after) = match (change, t.lowest_empty()) {
+            (BROKEN, Some(empty)) => (BROKEN, empty),
+            (BROKEN, None) => (ADDED, voxel),
+            _ => (change, voxel),
         };
-        grid[cell] = after;
-        entry(cell, change, voxel, &neighbours)
+        true_entry(cell, change, after, case.dims, grid)
     }
 
-    /// An honest log that puts cubes into empty cells and breaks what stands in others, now and then nothing.
+    /// An honest log. A third of it replaces what stands in a cell by a cube; the others put cubes into empty cells, and break what stands in others,
+    /// now and then nothing. Without an empty type all replace.
     fn mendable_log(&mut self, case: &Case, entries: usize, added: Added) -> Vec<u8> {
         let t = &case.types;
-        let empty = t.lowest_empty().expect("an empty type");
         let fit = |cube: &u8| t.is_cube(*cube) && (added == Added::AnyCubes || t.covers_alike(*cube));
         let cubes: Vec<u8> = (0..t.kinds.len() as u8).filter(fit).collect();
         let mut grid = case.grid.clone();
@@ -342,20 +339,26 @@ impl Random {
         let mut log = vec![];
         for _ in 0..entries {
             let cell = self.below(near);
-            let neighbours = beside(case.dims, cell, &grid);
-            let fills = t.is_empty(grid[cell]) && !cubes.is_empty() && !self.one_in(8);
-            let (change, voxel) = if fills { (ADDED, self.pick(&cubes)) } else { (BROKEN, grid[cell]) };
-            log.extend(entry(cell, change, voxel, &neighbours));
-            grid[cell] = if fills { voxel } else { empty };
+            let cube = (!cubes.is_empty()).then(|| self.pick(&cubes));
+            let (change, after) = match (self.below(3), cube, t.lowest_empty()) {
+                (0, Some(cube), _) | (_, Some(cube), None) => (REPLACED, cube),
+                (_, Some(cube), _) if t.is_empty(grid[cell]) && !self.one_in(8) => (ADDED, cube),
+                (_, _, Some(empty)) => (BROKEN, empty),
+                (_, None, None) => break,
+            };
+            log.extend(true_entry(cell, change, after, case.dims, &mut grid));
         }
         log
     }
 
-    /// An entry in range that need not be true of anything. Every other is Sides, of any type.
+    /// An entry in range that need not be true of anything. A third are Sides and a third Replaced, of any types.
     fn foolish(&mut self, cell: usize, types: usize) -> Vec<u8> {
-        let (change, voxel) = (self.pick(&[BROKEN, ADDED, SIDES, SIDES]), self.below(types) as u8);
-        let given = if change == SIDES { self.bytes(6, 3) } else { self.neighbours(types) };
-        entry(cell, change, voxel, &given)
+        let (change, voxel) = (self.pick(&[BROKEN, ADDED, SIDES, SIDES, REPLACED, REPLACED]), self.below(types) as u8);
+        match change {
+            SIDES => entry(cell, SIDES, voxel, &self.bytes(6, 3)),
+            REPLACED => replaced(cell, self.below(types) as u8, voxel, &self.neighbours(types)),
+            _ => entry(cell, change, voxel, &self.neighbours(types)),
+        }
     }
 
     fn neighbours(&mut self, types: usize) -> Vec<u8> {
@@ -375,8 +378,8 @@ fn cell_at([width, height, length]: [u32; 3], [x, y, z]: [u32; 3]) -> Option<usi
     within.then(|| (y * length * width + z * width + x) as usize)
 }
 
-/// The cell on a side, for writing honest entries.
-fn neighbour(dims: [u32; 3], cell: usize, face: usize) -> Option<usize> {
+/// The cell on a side.
+pub fn neighbour(dims: [u32; 3], cell: usize, face: usize) -> Option<usize> {
     let mut at = coordinates(dims, cell);
     let along = &mut at[[1, 0, 2][face / 2]];
     *along = if face % 2 == 0 { *along + 1 } else { along.wrapping_sub(1) };
@@ -388,28 +391,38 @@ pub fn beside(dims: [u32; 3], cell: usize, grid: &[u8]) -> Vec<u8> {
     (0..6).map(|face| neighbour(dims, cell, face).map_or(OUTSIDE, |other| grid[other])).collect()
 }
 
-/// The cubes that the log adds.
+/// An entry that is true of the grid, which has the voxel `after` in its cell then.
+pub fn true_entry(cell: usize, change: u8, after: u8, dims: [u32; 3], grid: &mut [u8]) -> Vec<u8> {
+    let neighbours = beside(dims, cell, grid);
+    let before = std::mem::replace(&mut grid[cell], after);
+    match change {
+        BROKEN => entry(cell, BROKEN, before, &neighbours),
+        REPLACED => replaced(cell, before, after, &neighbours),
+        _ => entry(cell, change, after, &neighbours),
+    }
+}
+
+/// The cubes that the log adds, in place of others too.
 pub fn added_cubes(case: &Case) -> impl Iterator<Item = u8> + '_ {
-    let added = case.log.chunks_exact(ENTRY).filter(|entry| entry[4] == ADDED).map(|entry| entry[5]);
+    let adds = |entry: &&[u8]| matches!(entry[CHANGE], ADDED | REPLACED);
+    let added = case.log.chunks_exact(ENTRY).filter(adds).map(|entry| entry[VOXEL]);
     added.filter(|&voxel| case.types.is_cube(voxel))
 }
 
-/// The case with its log made true of its grid, and the grid that the log leaves, if all it does is to break and to put cubes into
-/// empty cells. Of these logs demand 3 speaks in the new mode; in the source's the cubes have to cover opposite sides alike too.
+/// The case with its log made true of its grid, and the grid that the log leaves, if all it does is to break, to put cubes into empty cells, and to replace
+/// by cubes. Of these logs demand 3 speaks in the new mode; in the source's the cubes have to cover opposite sides alike too.
 pub fn made_honest(case: &Case) -> Option<(Case, Vec<u8>)> {
     let t = &case.types;
     let (mut honest, mut grid) = (case.clone(), case.grid.clone());
     for entry in honest.log.chunks_exact_mut(ENTRY) {
-        let cell = cell_of(entry);
-        entry[6..].copy_from_slice(&beside(case.dims, cell, &grid));
-        grid[cell] = match entry[4] {
-            BROKEN => {
-                entry[5] = grid[cell];
-                t.lowest_empty()?
-            }
-            ADDED if t.is_cube(entry[5]) && t.is_empty(grid[cell]) => entry[5],
+        let (cell, change, voxel) = (cell_of(entry), entry[CHANGE], entry[VOXEL]);
+        let after = match change {
+            BROKEN => t.lowest_empty()?,
+            ADDED if t.is_cube(voxel) && t.is_empty(grid[cell]) => voxel,
+            REPLACED if t.is_cube(voxel) => voxel,
             _ => return None,
         };
+        entry.copy_from_slice(&true_entry(cell, change, after, case.dims, &mut grid));
     }
     Some((honest, grid))
 }
@@ -454,9 +467,17 @@ pub fn simpler(case: &Case) -> Vec<Case> {
     for cell in 0..case.grid.len() {
         add(&|c| c.grid[cell] = 0);
     }
-    for byte in (0..case.log.len()).filter(|byte| byte % ENTRY >= 6) {
-        let simplest = if is_sides(&case.log[byte / ENTRY * ENTRY..]) { KEEP } else { OUTSIDE };
-        add(&|c| c.log[byte] = simplest);
+    for (number, entry) in case.log.chunks_exact(ENTRY).enumerate() {
+        let at = number * ENTRY;
+        for half in halves(entry) {
+            add(&|c| c.log[at..at + ENTRY].copy_from_slice(&half));
+        }
+        for byte in GIVEN {
+            add(&|c| c.log[at + byte] = if is_sides(entry) { KEEP } else { OUTSIDE });
+        }
+        if is_replaced(entry) {
+            add(&|c| c.log[at + FORMER] = 0);
+        }
     }
     for axis in 0..3 {
         for layer in [case.dims[axis] - 1, 0] {
@@ -464,7 +485,7 @@ pub fn simpler(case: &Case) -> Vec<Case> {
         }
     }
     let last = case.types.kinds.len() - 1;
-    let voxels = |entry: &[u8]| if is_sides(entry) { entry[5..6].to_vec() } else { entry[5..].to_vec() };
+    let voxels = |entry: &[u8]| if is_sides(entry) { vec![entry[VOXEL]] } else { entry[VOXEL..=FORMER].to_vec() };
     let logged: Vec<u8> = case.log.chunks_exact(ENTRY).flat_map(voxels).collect();
     if last > 0 && case.grid.iter().chain(&logged).all(|&voxel| voxel as usize != last) {
         add(&|c| {

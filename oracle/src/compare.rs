@@ -2,11 +2,11 @@
 
 use crate::calls::{Answer, Calls, Plain};
 use crate::cases::{added_cubes, made_honest, Case};
-use crate::entries::{is_sides, sides_in, split, ENTRY};
+use crate::entries::{count_of, is_replaced, split, CHANGE, ENTRY, PAIRED, VOXEL};
 use crate::faults::Faulty;
 use crate::room::{front, laid, room_for, room_of, SPARE};
 use crate::rust::{self, CubeParameters, Registry, Words};
-use plain::{Tested, NO_ROOM, WRONG_SET};
+use plain::{Tested, NO_ROOM, REPLACED, WRONG_SET};
 
 /// The source's mode, and the new one.
 pub const MODES: [Tested; 2] = [Tested::Opposite, Tested::Itself];
@@ -20,10 +20,10 @@ pub struct Tally {
     pub cubes: u64,
     pub grids: u64,
     pub log_entries: u64,
-    /// Of them Sides, each a pair for the Rust.
-    pub sides: u64,
-    /// Of these, on small grids, those that hid a quad and drew one.
-    pub hid_and_drew: u64,
+    /// Of them those that are pairs for the Rust, in the order of `PAIRED`.
+    pub pairs: [Pairs; 2],
+    /// Of the Replaced ones those whose new type is no cube.
+    pub replaced_by_no_cube: u64,
     pub quads: u64,
     pub index_entries: u64,
     pub words: u64,
@@ -33,13 +33,23 @@ pub struct Tally {
     pub updates: [Updates; 2],
     /// Logs that add cubes, all of which cover opposite sides alike.
     pub same_in_both: u64,
-    /// Honest logs of other cubes put into empty cells, and those of them that the source's mode leaves wrong.
+    /// Honest logs that add other cubes, and those of them that the source's mode leaves wrong.
     pub not_alike: u64,
     pub left_wrong: u64,
-    /// Logs done as they are, and with every Sides entry split in two.
+    /// Mended meshes of registries without an empty type.
+    pub mended_without_empty: u64,
+}
+
+/// Entries of a change that is two for the Rust.
+#[derive(Default)]
+pub struct Pairs {
+    pub log_entries: u64,
+    /// Of them, on small grids, those by which a quad went and one was drawn.
+    pub went_and_drew: u64,
+    /// Logs done as they are, and with each such entry in two.
     pub split: u64,
-    /// Updates that found no room for a Sides entry.
-    pub sides_without_room: u64,
+    /// Updates that found no room for one.
+    pub without_room: u64,
 }
 
 /// Updates compared with the plain reading, in one mode.
@@ -52,9 +62,16 @@ pub struct Updates {
     pub quads: u64,
     /// Logs after which the mesh passed the check, as demand 3 says.
     pub mended: u64,
+    /// Of these the logs with Replaced entries.
+    pub mended_replaced: u64,
 }
 
 impl Tally {
+    /// By the changes that are pairs, with each change's code.
+    fn pairs(&mut self) -> impl Iterator<Item = (u8, &mut Pairs)> {
+        PAIRED.iter().map(|&(_, change)| change).zip(&mut self.pairs)
+    }
+
     fn call(&mut self, answer: Answer) {
         self.plain_calls += 1;
         self.refusals[answer.number as usize] += 1;
@@ -62,7 +79,10 @@ impl Tally {
 
     fn update(&mut self, case: &Case, answer: Answer) {
         self.call(answer);
-        self.sides_without_room += (answer.number == NO_ROOM && is_sides(&case.log[answer.place as usize * ENTRY..])) as u64;
+        if answer.number == NO_ROOM {
+            let without_room = case.log[answer.place as usize * ENTRY + CHANGE];
+            self.pairs().for_each(|(change, pairs)| pairs.without_room += (change == without_room) as u64);
+        }
         let updates = &mut self.updates[case.tested as usize];
         updates.calls += 1;
         updates.answers[answer.number as usize] += 1;
@@ -193,14 +213,18 @@ impl<'a> Comparison<'a> {
     fn updated_by_the_rust(&mut self, case: &Case, answer: Answer, room: &Words, expected: &Words) -> Compared {
         self.with_the_rust("update", case, answer, room, expected)?;
         self.tally.log_entries += (case.log.len() / ENTRY) as u64;
-        self.tally.sides += sides_in(&case.log) as u64;
+        self.tally.pairs().for_each(|(change, pairs)| pairs.log_entries += count_of(change, &case.log));
+        let by_no_cube = |entry: &&[u8]| is_replaced(entry) && !case.types.is_cube(entry[VOXEL]);
+        self.tally.replaced_by_no_cube += case.log.chunks_exact(ENTRY).filter(by_no_cube).count() as u64;
         Ok(())
     }
 
-    /// The Rust an entry a call, beside itself: what each Sides entry did can be seen.
+    /// The Rust an entry a call, beside itself: what each entry did can be seen.
     fn by_entry(&mut self, case: &Case, registry: &Registry, updated: &Words) -> Compared {
         let mut meshed = rust::mesh(case.dims, &case.outer, &case.grid, registry, case.naive);
-        self.tally.hid_and_drew += meshed.update_by_entry(registry, &case.log);
+        for (entry, both) in case.log.chunks_exact(ENTRY).zip(meshed.update_by_entry(registry, &case.log)) {
+            self.tally.pairs().for_each(|(change, pairs)| pairs.went_and_drew += (both && change == entry[CHANGE]) as u64);
+        }
         agree_words("the Rust, an entry a call and the log in one", &meshed.words(), updated)
     }
 
@@ -222,7 +246,7 @@ impl<'a> Comparison<'a> {
         Ok(ends)
     }
 
-    /// The log in the case's mode, in one call and in two, and with its Sides split.
+    /// The log in the case's mode, in one call and in two, and with its pairs split.
     fn log(&mut self, case: &Case, start: &Words, count: u64) -> Compared<End> {
         let what = format!("update, {:?} tested", case.tested);
         let end = self.update(&what, case, start, count)?;
@@ -235,15 +259,15 @@ impl<'a> Comparison<'a> {
         Ok(end)
     }
 
-    /// Every Sides entry as two, one that hides and one that draws, leaves the same, where the log as it is was done.
+    /// Every Sides and every Replaced entry in two leaves the same, where the log as it is was done.
     fn split(&mut self, what: &str, case: &Case, start: &Words, count: u64, end: &End) -> Compared {
-        if end.0.number != 0 || sides_in(&case.log) == 0 {
+        if end.0.number != 0 || PAIRED.iter().all(|&(_, change)| count_of(change, &case.log) == 0) {
             return Ok(());
         }
-        let what = format!("{what}, Sides split");
+        let what = format!("{what}, Sides and Replaced split");
         let halves = Case { log: split(&case.log), ..case.clone() };
         let split_end = self.update(&what, &halves, start, count)?;
-        self.tally.split += 1;
+        self.tally.pairs().for_each(|(change, pairs)| pairs.split += (count_of(change, &case.log) > 0) as u64);
         agree_ends(&what, &split_end, end)
     }
 
@@ -324,7 +348,10 @@ impl<'a> Comparison<'a> {
             agree(&what, number, 0)?;
         }
         if !case.log.is_empty() {
-            self.tally.updates[case.tested as usize].mended += mends as u64;
+            let updates = &mut self.tally.updates[case.tested as usize];
+            updates.mended += mends as u64;
+            updates.mended_replaced += (mends && count_of(REPLACED, &case.log) > 0) as u64;
+            self.tally.mended_without_empty += (mends && case.types.lowest_empty().is_none()) as u64;
             self.tally.not_alike += !mends as u64;
             self.tally.left_wrong += (number == WRONG_SET) as u64;
         }

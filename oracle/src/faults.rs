@@ -1,10 +1,10 @@
 //! Inputs made wrong, short of room, or at a limit.
 
 use crate::cases::{paper_types, Case, Random};
-use crate::entries::{entry, is_sides, ENTRY, OUTSIDE};
+use crate::entries::{entry, is_sides, CHANGE, ENTRY, FORMER, GIVEN, OUTSIDE, VOXEL, ZEROS};
 use crate::room::{laid, room_for, SPARE};
 use crate::rust::{self, floats, CubeParameters, Registry, Words, NONE};
-use plain::{ADDED, DRAW, KEEP, SIDES};
+use plain::{DRAW, KEEP, NO_FORMER, REPLACED, SIDES};
 
 const MOST_ENTRIES: usize = 16_777_216;
 
@@ -48,9 +48,14 @@ fn any_entry<'a>(random: &mut Random, log: &'a mut [u8]) -> Option<&'a mut [u8]>
     (entries > 0).then(|| log.chunks_exact_mut(ENTRY).nth(random.below(entries)).unwrap())
 }
 
-/// A change at the edge of those that there are, or past it.
+/// A change at the edge of those that there are, or past it, with a former type that it may have.
 fn spoil_change(random: &mut Random, entry: &mut [u8]) {
-    entry[4] = random.pick(&[ADDED, SIDES, 3, 4, 255]);
+    entry[CHANGE] = random.pick(&[SIDES, REPLACED, 4, 5, 255]);
+    entry[FORMER] = match entry[CHANGE] {
+        SIDES => NO_FORMER,
+        REPLACED => entry[VOXEL],
+        _ => random.pick(&[entry[VOXEL], NO_FORMER]),
+    };
 }
 
 /// A byte given by face: a side at the edge of what Sides does or past it, a neighbour at the edge of the types.
@@ -59,7 +64,19 @@ fn spoil_given(random: &mut Random, entry: &mut [u8], types: usize) {
         true => random.pick(&[DRAW, 3, 4, 254, 255]),
         false => random.pick(&[types.wrapping_sub(1) as u8, types as u8, 254, OUTSIDE]),
     };
-    set(any(random, &mut entry[6..]), spoiled);
+    set(any(random, &mut entry[GIVEN]), spoiled);
+}
+
+/// A former type at the edge of those that the change may have: its own, the one beside it, the last and what is past that.
+fn spoil_former(random: &mut Random, entry: &mut [u8], types: usize) {
+    let voxel = entry[VOXEL];
+    entry[FORMER] = random.pick(&[voxel, voxel ^ 1, types.wrapping_sub(1) as u8, types as u8, 254, NO_FORMER]);
+}
+
+/// One of the bytes that have to be zero.
+fn spoil_zero(random: &mut Random, entry: &mut [u8]) {
+    let spoiled = random.pick(&[1, 2, 128, 255]);
+    set(any(random, &mut entry[ZEROS]), spoiled);
 }
 
 fn attribute<'a>(random: &mut Random, room: &'a mut Words) -> &'a mut Vec<u32> {
@@ -96,7 +113,7 @@ impl Faulty {
         let Faulty { parameters, out, case, room, count } = self;
         let r = random;
         let not_finite = r.pick(&[0x7F80_0000, 0xFF80_0000, 0x7FC0_0000, 0x7F80_0001]);
-        match r.below(36) {
+        match r.below(39) {
             0 => set(any(r, &mut parameters.d), not_finite),
             1 => set(any(r, &mut parameters.centre), not_finite),
             2 => parameters.padding = not_finite,
@@ -129,7 +146,9 @@ impl Faulty {
             29 => { let byte = r.pick(&[0, 1, 3, 4, 5, 254, 255]); set(any(r, &mut case.log), byte) }
             30 | 31 => { if let Some(entry) = any_entry(r, &mut case.log) { spoil_change(r, entry) } }
             32 | 33 => { if let Some(entry) = any_entry(r, &mut case.log) { spoil_given(r, entry, case.types.kinds.len()) } }
-            34 => { let ragged = r.below(12); case.log.extend(r.bytes(ragged, 256)) }
+            34 | 35 => { if let Some(entry) = any_entry(r, &mut case.log) { spoil_former(r, entry, case.types.kinds.len()) } }
+            36 => { if let Some(entry) = any_entry(r, &mut case.log) { spoil_zero(r, entry) } }
+            37 => { let ragged = r.below(ENTRY); case.log.extend(r.bytes(ragged, 256)) }
             _ => { let (list, word) = (attribute(r, room), r.word()); set(any(r, list), word) }
         }
     }

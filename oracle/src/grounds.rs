@@ -1,10 +1,11 @@
 //! Grounds to mesh and logs to mend them by, from a seed: what the benches time.
 
-use crate::cases::{beside, coordinates, cube_of, paper_types, Case, Random};
+use crate::cases::{coordinates, cube_of, paper_types, true_entry, Case, Random};
 use crate::entries::entry;
 use crate::rust::{cube, Types};
-use plain::{ADDED, BROKEN, SIDES};
+use plain::{ADDED, BROKEN, REPLACED, SIDES};
 
+const AIR: u8 = 0;
 /// The ground that fills air.
 pub const ROCK: u8 = 1;
 
@@ -72,21 +73,36 @@ pub fn edits(random: &mut Random, case: &Case, cubes: &[u8], entries: usize) -> 
     let mut log = vec![];
     for _ in 0..entries {
         let cell = random.below(grid.len());
-        let neighbours = beside(case.dims, cell, &grid);
-        let filling = cubes[cell % cubes.len()];
-        let (change, voxel, after) = if grid[cell] == 0 { (ADDED, filling, filling) } else { (BROKEN, grid[cell], 0) };
-        grid[cell] = after;
-        log.extend(entry(cell, change, voxel, &neighbours));
+        let (change, after) = if grid[cell] == AIR { (ADDED, cubes[cell % cubes.len()]) } else { (BROKEN, AIR) };
+        log.extend(true_entry(cell, change, after, case.dims, &mut grid));
     }
     log
 }
 
-/// Sides of cubes drawn from the whole grid, each side kept, hidden or drawn as a die falls.
-pub fn sides(random: &mut Random, case: &Case, entries: usize) -> Vec<u8> {
-    let cubes: Vec<usize> = (0..case.grid.len()).filter(|&cell| case.types.is_cube(case.grid[cell])).collect();
+/// An honest log that replaces cubes, drawn from the whole grid, by the next of the cubes.
+pub fn replacements(random: &mut Random, case: &Case, entries: usize) -> Vec<u8> {
+    let (cubes, mut grid) = (cubes_of(case), case.grid.clone());
+    let cells = cube_cells(case);
     let mut log = vec![];
     for _ in 0..entries {
-        let cell = random.pick(&cubes);
+        let cell = random.pick(&cells);
+        let next = cubes.iter().copied().find(|&cube| cube > grid[cell]).unwrap_or(cubes[0]);
+        log.extend(true_entry(cell, REPLACED, next, case.dims, &mut grid));
+    }
+    log
+}
+
+/// The cells with a cube.
+fn cube_cells(case: &Case) -> Vec<usize> {
+    (0..case.grid.len()).filter(|&cell| case.types.is_cube(case.grid[cell])).collect()
+}
+
+/// Sides of cubes drawn from the whole grid, each side kept, hidden or drawn as a die falls.
+pub fn sides(random: &mut Random, case: &Case, entries: usize) -> Vec<u8> {
+    let cells = cube_cells(case);
+    let mut log = vec![];
+    for _ in 0..entries {
+        let cell = random.pick(&cells);
         log.extend(entry(cell, SIDES, case.grid[cell], &random.bytes(6, 3)));
     }
     log

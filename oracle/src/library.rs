@@ -2,12 +2,9 @@
 
 use crate::calls::{Answer, Calls};
 use crate::cases::Case;
-use crate::entries::ENTRY;
+use crate::entries::{ENTRY, LEVEL};
 use crate::rust::{CubeParameters, Words};
 use plain::Tested;
-
-/// The level of the C interface that is called here. A library of level 1 lacks `meshem_abi`, and does not link.
-const LEVEL: u32 = 4;
 
 /// Words for the side itself: any but 0 is one.
 const ITSELF: [u32; 6] = [1, 2, 0x100, 0x1_0000, 0x8000_0000, u32::MAX];
@@ -106,6 +103,7 @@ macro_rules! linked {
                     unsafe { meshem_abi() }
                 }
 
+                /// A library of level 1 lacks `meshem_abi`, and does not link.
                 pub fn assert_level() {
                     assert_eq!(Self::level(), LEVEL, "the level of the C interface of {}", stringify!($library));
                 }
@@ -196,8 +194,8 @@ macro_rules! linked {
                     $joined
                 }
 
-                fn takes_pairs(&self) -> bool {
-                    Self::level() <= 3
+                fn log_level(&self) -> u32 {
+                    Self::level()
                 }
             }
         };
@@ -217,7 +215,7 @@ pub mod placed {
     linked!(Now48, "placed", "now48_");
 }
 
-/// A former one likewise, called as its level says, and the two at each place. Levels 3 and 4 differ in the log's entries alone.
+/// A former one likewise, called as its level says, and the two at each place. Levels 3 to 5 differ in the log's entries alone.
 #[cfg(feature = "beside")]
 pub mod former {
     use super::placed::*;
@@ -249,8 +247,8 @@ pub mod former {
     pub fn places() -> Places<'static> {
         let formers: [&dyn Calls; 4] = match level() {
             2 => [&joined::Former0, &joined::Former16, &joined::Former32, &joined::Former48],
-            3 | 4 => [&apart::Former0, &apart::Former16, &apart::Former32, &apart::Former48],
-            level => panic!("the former library is of level {level}, and this program knows 2 to 4"),
+            3..=LEVEL => [&apart::Former0, &apart::Former16, &apart::Former32, &apart::Former48],
+            level => panic!("the former library is of level {level}, and this program knows 2 to {LEVEL}"),
         };
         let now: [&dyn Calls; 4] = [&Now0, &Now16, &Now32, &Now48];
         std::array::from_fn(|place| [now[place], formers[place]])

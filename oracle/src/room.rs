@@ -7,9 +7,12 @@ use crate::rust::{floats, Words};
 /// What a place holds that no call has written.
 pub const SPARE: u32 = 0xA5A5_A5A5;
 
+/// The most quads that an entry draws: Replaced, six of its own and six that face them.
+pub const MOST_DRAWN: usize = 12;
+
 /// Room for a mesh of `quads` and all that the case's log can draw, and for one more.
 pub fn room_of(case: &Case, quads: usize) -> Words {
-    let most = (quads + 6 * (case.log.len() / ENTRY)).min(6 * case.grid.len());
+    let most = (quads + MOST_DRAWN * (case.log.len() / ENTRY)).min(6 * case.grid.len());
     room_for(most + 1, case)
 }
 

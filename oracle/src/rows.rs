@@ -5,12 +5,12 @@
 //! rounds' ratios; more exactly the geometric mean over who is first and the four places. Its times are the mean of the places' medians.
 //! Before a row is timed, both answer all its calls, and after each the two answers and all lists are compared whole.
 //!
-//! A library of level 2 is lent its vertices in one list. They are joined before a call and parted after it, off the clock. A library of level 2 or 3
-//! takes two entries for one of Sides; they are made off the clock too.
+//! A library of level 2 is lent its vertices in one list. They are joined before a call and parted after it, off the clock. Each library is given the
+//! log as its level has it, with two entries for one of Replaced up to level 4, and for one of Sides up to level 3; it is made off the clock too.
 
 use crate::calls::{Answer, Calls};
 use crate::cases::{cube_of, Case};
-use crate::entries::{former, ENTRY};
+use crate::entries::{at_level, ENTRY};
 use crate::room::{joined, laid, parted, room_for, room_of};
 use crate::rust::{self, floats, CubeParameters, Registry, Words};
 use crate::timing::{median, timed};
@@ -37,12 +37,12 @@ pub struct Run {
 enum Work {
     Cube(CubeParameters),
     Fresh(Case),
-    /// The parts of a log in calls one after the other. The cases have the log of the call at hand, as it is and in pairs.
+    /// The parts of a log in calls one after the other. The cases have the log of the call at hand, as each of the two takes it.
     Update(Box<[Case; 2]>, Vec<Part>),
     Check(Case, u64),
 }
 
-/// A part of a log, as it is and with every Sides entry as a pair, and the quads that it finds.
+/// A part of a log, as each of the two takes it, and the quads that it finds.
 struct Part {
     logs: [Vec<u8>; 2],
     quads: u64,
@@ -73,17 +73,18 @@ impl Row {
         Row::of_mesh(quads, room_for(quads, case), Work::Fresh(case.clone()))
     }
 
-    /// A log in calls of so many entries each; of an empty log there is one call.
-    pub fn update(library: &dyn Calls, case: Case, mesh: &Words, each: usize) -> Row {
+    /// A log in calls of so many entries each, by two libraries; of an empty log there is one call.
+    pub fn update([ours, other]: Two, case: Case, mesh: &Words, each: usize) -> Row {
         let quads = mesh.links.len();
         let start = laid(mesh, room_of(&case, quads));
         let (mut room, mut found) = (start.clone(), quads as u64);
         let mut call = Case { grid: vec![], ..case.clone() };
         let mut part_of = |part: &[u8]| {
-            call.log = part.to_vec();
+            let logs = [ours, other].map(|library| at_level(library.log_level(), part));
+            call.log.clone_from(&logs[0]);
             let quads = found;
-            found = library.update_mesh(&call, &mut room, quads).quads;
-            Part { logs: [part.to_vec(), former(part)], quads }
+            found = ours.update_mesh(&call, &mut room, quads).quads;
+            Part { logs, quads }
         };
         let parts = match case.log.is_empty() {
             true => vec![part_of(&[])],
@@ -139,11 +140,13 @@ impl Row {
         }
     }
 
-    fn call(&self, library: &dyn Calls, in_pairs: bool, step: usize, lent: &mut Lent) -> Answer {
+    /// A call of one of the two, by its number.
+    fn call(&self, libraries: Two, which: usize, step: usize, lent: &mut Lent) -> Answer {
+        let library = libraries[which];
         match &self.work {
             Work::Cube(parameters) => library.generate_voxel_mesh(parameters, &mut lent.cube),
             Work::Fresh(case) => library.mesh_grid(case, &mut lent.mesh),
-            Work::Update(cases, parts) => library.update_mesh(&cases[in_pairs as usize], &mut lent.mesh, parts[step].quads),
+            Work::Update(cases, parts) => library.update_mesh(&cases[which], &mut lent.mesh, parts[step].quads),
             Work::Check(case, quads) => library.check_mesh(case, &lent.mesh, *quads),
         }
     }
@@ -157,16 +160,15 @@ impl Row {
     }
 
     /// Fails unless both take every call, with the same answers and lists.
-    pub fn compare(&mut self, [ours, other]: Two, name: &str) {
-        let mut rooms = [ours, other].map(|library| self.start_for(library));
-        let in_pairs = [ours, other].map(|library| library.takes_pairs());
+    pub fn compare(&mut self, libraries: Two, name: &str) {
+        let mut rooms = libraries.map(|library| self.start_for(library));
         for step in 0..self.calls() {
             self.ready(step);
-            let answer = self.call(ours, in_pairs[0], step, &mut rooms[0]);
-            let other_answer = self.call(other, in_pairs[1], step, &mut rooms[1]);
+            let answer = self.call(libraries, 0, step, &mut rooms[0]);
+            let other_answer = self.call(libraries, 1, step, &mut rooms[1]);
             assert_eq!(answer, other_answer, "{name}: the two answers of call {step} differ");
             assert_eq!(answer.number, 0, "{name}: call {step} is refused");
-            let left = [self.left_by(ours, &rooms[0]), self.left_by(other, &rooms[1])];
+            let left = [0, 1].map(|which| self.left_by(libraries[which], &rooms[which]));
             assert_same(&left, &format!("{name}: after call {step}"));
         }
     }
@@ -182,7 +184,6 @@ impl Row {
     fn time_at(&mut self, libraries: Two, share: Duration) -> Run {
         let same_layout = libraries[0].takes_joined() == libraries[1].takes_joined();
         let starts = libraries.map(|library| self.start_for(library));
-        let in_pairs = libraries.map(|library| library.takes_pairs());
         let mut rooms = starts.clone();
         let mut times = [vec![], vec![]];
         let start = Instant::now();
@@ -200,7 +201,7 @@ impl Row {
                 if step == 0 && matches!(self.work, Work::Update(..)) {
                     lists.clone_from(&starts[whose]);
                 }
-                let call = |lists: &mut Lent| self.call(libraries[which], in_pairs[which], step, lists);
+                let call = |lists: &mut Lent| self.call(libraries, which, step, lists);
                 let all = timed(|| (0..self.times()).for_each(|_| _ = call(lists)));
                 times[which].push(all.as_secs_f64() / self.times() as f64);
             }

@@ -1,6 +1,9 @@
 //! The Rust's answers, in document 01's layout: Meshem run on byte-coded voxels over type tables.
 
-use crate::entries::{cell_of, former, is_sides, ADD_FACES, CULL_FACES, ENTRY, OUTSIDE};
+use crate::cases::neighbour;
+use crate::entries::{
+    at_level, cell_of, ADD_FACES, CHANGE, CULL_FACES, ENTRY, FORMER_ENTRY, GIVEN, MESHEMS_LEVEL, OUTSIDE, VOXEL,
+};
 use bevy::mesh::{Indices, MeshVertexAttribute, VertexAttributeValues};
 use bevy::prelude::Mesh;
 use meshem::prelude::{
@@ -138,43 +141,50 @@ pub fn mesh(dims: [u32; 3], outer: &[u8], grid: &[u8], registry: &Registry, naiv
 }
 
 impl Meshed {
-    /// `update_mesh` with the entries of a log, Sides as the pairs that they equal.
+    /// `update_mesh` with the entries of a log, Sides and Replaced as the pairs that they equal.
     pub fn update(&mut self, registry: &Registry, log: &[u8]) {
-        self.update_by_former(registry, &former(log));
+        self.update_by_meshems(registry, &at_level(MESHEMS_LEVEL, log));
     }
 
-    /// `update_mesh` with the entries of a log that has pairs already.
-    pub fn update_by_former(&mut self, registry: &Registry, log: &[u8]) {
-        for entry in log.chunks_exact(ENTRY) {
-            let change = match entry[4] {
+    /// `update_mesh` with a log that has Meshem's entries.
+    pub fn update_by_meshems(&mut self, registry: &Registry, log: &[u8]) {
+        for entry in log.chunks_exact(FORMER_ENTRY) {
+            let change = match entry[CHANGE] {
                 BROKEN => VoxelChange::Broken,
                 ADDED => VoxelChange::Added,
                 CULL_FACES => VoxelChange::CullFaces,
                 ADD_FACES => VoxelChange::AddFaces,
                 other => panic!("change {other}"),
             };
-            let neighbours = std::array::from_fn(|face| Some(entry[6 + face]).filter(|&voxel| voxel != OUTSIDE));
-            self.metadata.log(change, cell_of(entry), entry[5], neighbours);
+            let neighbours = std::array::from_fn(|face| Some(entry[GIVEN][face]).filter(|&voxel| voxel != OUTSIDE));
+            self.metadata.log(change, cell_of(entry), entry[VOXEL], neighbours);
         }
         update_mesh(&mut self.mesh, &mut self.metadata, registry);
     }
 
-    /// `update_mesh` with a log, an entry a call. Tells how many Sides entries hid a quad and drew one.
-    pub fn update_by_entry(&mut self, registry: &Registry, log: &[u8]) -> u64 {
-        let mut both = 0;
-        for entry in log.chunks_exact(ENTRY) {
-            let before = self.quads_of(cell_of(entry));
-            self.update(registry, entry);
-            let after = self.quads_of(cell_of(entry));
-            let differs = |from: bool, to: bool| (0..6).any(|face| (before[face], after[face]) == (from, to));
-            both += (is_sides(entry) && differs(true, false) && differs(false, true)) as u64;
-        }
-        both
+    /// `update_mesh` with a log, one of Meshem's entries a call. Tells of each of the log's whether a quad went by it and one was drawn.
+    pub fn update_by_entry(&mut self, registry: &Registry, log: &[u8]) -> Vec<bool> {
+        let mut went_and_drew = |entry: &[u8]| {
+            let (mut went, mut drew) = (0, 0);
+            for meshems in at_level(MESHEMS_LEVEL, entry).chunks_exact(FORMER_ENTRY) {
+                let before = self.quads_around(cell_of(entry));
+                self.update_by_meshems(registry, meshems);
+                let after = self.quads_around(cell_of(entry));
+                went |= before & !after;
+                drew |= after & !before;
+            }
+            went != 0 && drew != 0
+        };
+        log.chunks_exact(ENTRY).map(&mut went_and_drew).collect()
     }
 
-    /// Which sides of a cell have a quad.
-    fn quads_of(&self, cell: usize) -> [bool; 6] {
-        std::array::from_fn(|face| index::quad_of(&self.metadata, cell, Face::from(face)).is_some())
+    /// Which sides of a cell have a quad, and which sides of its neighbours that face it: a set of twelve.
+    fn quads_around(&self, cell: usize) -> u16 {
+        let (width, height, length) = self.metadata.dims;
+        let dims = [width, height, length].map(|size| size as u32);
+        let is_there = |cell: usize, face: usize| index::quad_of(&self.metadata, cell, Face::from(face)).is_some();
+        let faced = |face: usize| neighbour(dims, cell, face).is_some_and(|other| is_there(other, plain::opposite(face)));
+        (0..6).fold(0, |set, face| set << 2 | (is_there(cell, face) as u16) << 1 | faced(face) as u16)
     }
 
     /// Everything there is to compare. Panics where the index contradicts itself or the mesh.

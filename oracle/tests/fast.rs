@@ -2,12 +2,12 @@
 
 use oracle::calls::{Answer, Calls, Reading};
 use oracle::cases::{paper_types, Added, Case, Random};
-use oracle::compare::{Compared, Comparison, Tally, MODES};
-use oracle::entries::{entry, ENTRY};
+use oracle::compare::{Compared, Comparison, Pairs, MODES};
+use oracle::entries::{entry, replaced, CHANGE, ENTRY, FORMER, PAIRED, ZEROS};
 use oracle::faults::limits;
 use oracle::rows::mesh_of;
 use oracle::rust::{Types, Words};
-use plain::{BAD_ENTRY, BAD_LINKS, BROKEN, DRAW, KEEP, NO_ROOM, SIDES};
+use plain::{ADDED, BAD_ENTRY, BAD_LINKS, BROKEN, DRAW, KEEP, NO_ROOM, OUTSIDE, REPLACED, SIDES};
 
 /// The numbers that an update answers.
 const NUMBERS: [usize; 11] = [0, 2, 3, 4, 6, 9, 10, 11, 12, 13, 14];
@@ -42,14 +42,16 @@ fn fast_answers_as_the_reading_does() {
     for (name, mut case) in limits() {
         comparison.limit(&case).unwrap_or_else(|difference| panic!("{name}: {difference}"));
         if let Some(entry) = case.log.chunks_exact_mut(ENTRY).last() {
-            entry[4] = SIDES + 1;
+            entry[CHANGE] = REPLACED + 1;
             comparison.limit(&case).unwrap_or_else(|difference| panic!("{name}, the last entry bad: {difference}"));
         }
     }
-    let Tally { sides, hid_and_drew, split, sides_without_room, .. } = comparison.tally;
     println!("{coloured} of 24000 cases with colour");
-    println!("{sides} Sides entries, {hid_and_drew} hid and drew, {sides_without_room} without room; {split} logs split");
-    assert!([sides, hid_and_drew, split, sides_without_room].iter().all(|&times| times > 0));
+    for ((change, _), pairs) in PAIRED.iter().zip(&comparison.tally.pairs) {
+        let &Pairs { log_entries, went_and_drew, split, without_room } = pairs;
+        println!("{log_entries} {change} entries, a quad went and one was drawn by {went_and_drew}, {without_room} without room; {split} logs split");
+        assert!([log_entries, went_and_drew, split, without_room].iter().all(|&times| times > 0));
+    }
     for (tested, updates) in MODES.iter().zip(&comparison.tally.updates) {
         println!(
             "{tested:?} tested: {} calls, by number {:?}, {} log entries",
@@ -73,23 +75,69 @@ fn a_code_over_five_is_refused() {
     }
 }
 
-/// Every byte that can be given in Broken, and in Sides, of registries with one type to seven.
+/// Registries with one type to seven, and how many types each has.
+fn registries() -> impl Iterator<Item = (Types, u8)> {
+    let all = paper_types(1.0);
+    (1..=all.kinds.len()).map(move |count| {
+        let (kinds, covers) = (all.kinds[..count].to_vec(), all.covers[..count].to_vec());
+        (Types { kinds, covers, cubes: all.cubes[..count * 24 * 8].to_vec(), ..all.clone() }, count as u8)
+    })
+}
+
+/// Both updates take a log of one entry, if there is room for it or not, or refuse it.
+fn assert_taken(good: bool, types: &Types, log: Vec<u8>) {
+    let case = Case { dims: [1; 3], grid: vec![0], types: types.clone(), log, ..Case::default() };
+    let answer = Reading::FAST.update_mesh(&case, &mut mesh_of(&case), 0);
+    assert_eq!(answer.number != BAD_ENTRY, good, "{:?}, {} types", case.log, types.kinds.len());
+    assert_eq!(answer, Reading::PLAIN.update_mesh(&case, &mut mesh_of(&case), 0));
+}
+
+/// Every byte that can be given in Broken, in Sides and in Replaced.
 #[test]
 fn bytes_given_are_refused_as_the_reading_does() {
-    let all = paper_types(1.0);
-    for types in 1..=all.kinds.len() {
-        let (kinds, covers) = (all.kinds[..types].to_vec(), all.covers[..types].to_vec());
-        let types = Types { kinds, covers, cubes: all.cubes[..types * 24 * 8].to_vec(), ..all.clone() };
-        let count = types.kinds.len() as u8;
-        for (change, byte) in [BROKEN, SIDES].into_iter().flat_map(|change| (0..=255).map(move |byte| (change, byte))) {
+    for (types, count) in registries() {
+        for byte in 0..=255 {
             let mut given = [KEEP; 6];
             given[byte as usize % 6] = byte;
-            let log = entry(0, change, 0, &given);
-            let case = Case { dims: [1; 3], grid: vec![0], types: types.clone(), log, ..Case::default() };
-            let good = if change == SIDES { byte <= DRAW } else { byte < count || byte == 255 };
-            let answer = Reading::FAST.update_mesh(&case, &mut mesh_of(&case), 0);
-            assert_eq!(answer.number, if good { 0 } else { BAD_ENTRY }, "change {change}, byte {byte}, {count} types");
-            assert_eq!(answer, Reading::PLAIN.update_mesh(&case, &mut mesh_of(&case), 0));
+            let is_neighbour = byte < count || byte == OUTSIDE;
+            assert_taken(is_neighbour, &types, entry(0, BROKEN, 0, &given));
+            assert_taken(byte <= DRAW, &types, entry(0, SIDES, 0, &given));
+            assert_taken(is_neighbour, &types, replaced(0, 0, 0, &given));
+        }
+    }
+}
+
+/// Every former type of every change and of the one past the last, of the lowest voxel and the highest, which are one voxel in a registry of one type.
+#[test]
+fn former_types_are_refused_as_the_reading_does() {
+    for (types, count) in registries() {
+        for (voxel, former) in [0, count - 1].into_iter().flat_map(|voxel| (0..=255).map(move |former| (voxel, former))) {
+            for (change, good) in [
+                (BROKEN, former == voxel),
+                (ADDED, former == 255),
+                (SIDES, former == 255),
+                (REPLACED, former < count),
+                (REPLACED + 1, false),
+            ] {
+                let mut log = entry(0, change, voxel, &[0; 6]);
+                log[FORMER] = former;
+                assert_taken(good, &types, log);
+            }
+        }
+    }
+}
+
+/// Every byte where there has to be a zero.
+#[test]
+fn spare_bytes_are_refused_as_the_reading_does() {
+    let types = paper_types(1.0);
+    for entry in
+        [entry(0, BROKEN, 1, &[1; 6]), entry(0, ADDED, 1, &[1; 6]), entry(0, SIDES, 1, &[1; 6]), replaced(0, 2, 1, &[1; 6])]
+    {
+        for (place, byte) in ZEROS.flat_map(|place| (0..=255).map(move |byte| (place, byte))) {
+            let mut log = entry.clone();
+            log[place] = byte;
+            assert_taken(byte == 0, &types, log);
         }
     }
 }

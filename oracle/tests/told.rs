@@ -3,11 +3,16 @@
 use oracle::calls::{Answer, Calls, Plain, Reading};
 use oracle::cases::{paper_types, Added, Case, Random};
 use oracle::compare::{Comparison, MODES};
-use oracle::entries::{alone, changed, entry, is_sides, ADD_FACES, ENTRY, OUTSIDE};
+use oracle::entries::{
+    alone, broken_and_added, cell_of, changed, entry, halves, is_replaced, is_sides, replaced, CHANGE, ENTRY, FORMER, GIVEN,
+    OUTSIDE, VOXEL, ZEROS,
+};
 use oracle::rust::{CubeParameters, Words};
-use plain::{Tested, ADDED, BAD_ENTRY, DRAW, HIDE, KEEP, NO_ROOM, SIDES};
+use plain::{Tested, ADDED, BAD_ENTRY, BROKEN, DRAW, HIDE, KEEP, NO_FORMER, NO_ROOM, REPLACED, SIDES};
 
 const RIGHT: Reading = Reading::PLAIN;
+
+type Update = fn(&Case, &mut Words, u64) -> Answer;
 
 /// The new mode never, and always.
 const NEVER_NEW: Reading = Reading { update: |case, room, count| in_mode(Tested::Opposite, case, room, count), ..RIGHT };
@@ -65,11 +70,54 @@ fn read_as(case: &Case, room: &mut Words, count: u64, other: impl Fn(&[u8]) -> V
     }
 }
 
-/// The same with Sides entries alone taken for others, and only those that are not refused.
-fn sides_read_as(case: &Case, room: &mut Words, count: u64, other: impl Fn(&[u8]) -> Vec<u8>) -> Answer {
-    let is_good = |entry: &[u8]| is_sides(entry) && entry[6..].iter().all(|&side| side <= DRAW);
-    read_as(case, room, count, |entry| if is_good(entry) { other(entry) } else { entry.to_vec() })
+/// The plain reading's refusal, if it is another than NO_ROOM.
+fn refused(case: &Case, room: &Words, count: u64) -> Option<Answer> {
+    let right = Plain.update_mesh(case, &mut room.clone(), count);
+    (!matches!(right.number, 0 | NO_ROOM)).then_some(right)
 }
+
+/// The plain reading with entries of one change taken for others, in logs that are not refused.
+fn change_read_as(change: u8, case: &Case, room: &mut Words, count: u64, other: impl Fn(&[u8]) -> Vec<u8>) -> Answer {
+    let taken_for = |entry: &[u8]| if entry[CHANGE] == change { other(entry) } else { entry.to_vec() };
+    refused(case, room, count).unwrap_or_else(|| read_as(case, room, count, taken_for))
+}
+
+fn sides_read_as(case: &Case, room: &mut Words, count: u64, other: impl Fn(&[u8]) -> Vec<u8>) -> Answer {
+    change_read_as(SIDES, case, room, count, other)
+}
+
+fn replaced_read_as(case: &Case, room: &mut Words, count: u64, other: impl Fn(&[u8]) -> Vec<u8>) -> Answer {
+    change_read_as(REPLACED, case, room, count, other)
+}
+
+/// A log that is not refused, an entry at a time, by a reading of one entry that does it or finds no room.
+fn by_entry(case: &Case, room: &mut Words, count: u64, one: impl Fn(&Case, &mut Words, u64) -> Answer) -> Answer {
+    if let Some(refused) = refused(case, room, count) {
+        return refused;
+    }
+    let mut told = Answer { quads: count, ..Answer::default() };
+    for (number, entry) in case.log.chunks_exact(ENTRY).enumerate() {
+        let done = one(&Case { log: entry.to_vec(), ..case.clone() }, room, told.quads);
+        if done.number != 0 {
+            return Answer { number: NO_ROOM, place: number as u64, ..told };
+        }
+        told = Answer { moved: told.moved + done.moved, ..done };
+    }
+    told
+}
+
+/// An entry that is done if there is room for another.
+fn asking_for(asked: Vec<u8>, one: &Case, room: &mut Words, count: u64) -> Answer {
+    let asked = Plain.update_mesh(&Case { log: asked, ..one.clone() }, &mut room.clone(), count);
+    if asked.number == 0 {
+        Plain.update_mesh(one, room, count)
+    } else {
+        asked
+    }
+}
+
+/// How many times a case is made wrong.
+const FAULTS: usize = 8;
 
 const WHOLE: usize = 0;
 const FAULTY: usize = 1;
@@ -82,12 +130,14 @@ fn told(reading: &dyn Calls) -> [usize; 4] {
     let mut comparison = Comparison::of(reading);
     let mut told = [0; 4];
     for _ in 0..300 {
-        let (parameters, case, fault) = (random.cube(), random.case(), random.word() as u64);
-        let faulty = Case { tested: random.pick(&MODES), ..case.clone() };
+        let (parameters, case) = (random.cube(), random.case());
         let mendable = random.mendable(Added::AnyCubes);
         let (foolish, spare) = (random.foolish_case(), random.below(6));
         told[WHOLE] += comparison.case(&case).is_err() as usize;
-        told[FAULTY] += comparison.faults(&parameters, &faulty, fault).is_err() as usize;
+        for _ in 0..FAULTS {
+            let (faulty, fault) = (Case { tested: random.pick(&MODES), ..case.clone() }, random.word() as u64);
+            told[FAULTY] += comparison.faults(&parameters, &faulty, fault).is_err() as usize;
+        }
         told[MENDED] += comparison.mended(&mendable, usize::MAX).is_err() as usize;
         told[LITTLE_ROOM] += comparison.in_little_room(&foolish, spare).is_err() as usize;
     }
@@ -108,8 +158,13 @@ fn assert_told(wrong: impl Calls) {
 fn nothing_is_told_of_the_right_reading() {
     assert_eq!(told(&RIGHT), [0; 4]);
     assert_eq!(told(&Lent(|_, _| ())), [0; 4]);
-    let update = |case: &Case, room: &mut Words, count: u64| read_as(case, room, count, <[u8]>::to_vec);
-    assert_eq!(told(&Reading { update, ..RIGHT }), [0; 4]);
+    let same: [Update; 2] = [
+        |case, room, count| read_as(case, room, count, <[u8]>::to_vec),
+        |case, room, count| by_entry(case, room, count, |one, room, quads| Plain.update_mesh(one, room, quads)),
+    ];
+    for update in same {
+        assert_eq!(told(&Reading { update, ..RIGHT }), [0; 4]);
+    }
 }
 
 #[test]
@@ -179,6 +234,12 @@ fn a_colour_list_touched_without_colour_is_told() {
 /// Room for every mesh that is tried here.
 const PLENTY: usize = 1 << 14;
 
+/// Finds room for everything.
+const ROOMY: Lent = Lent(|_, room| {
+    let Words { positions, normals, uvs, colours, triangles, links, slots: _ } = room;
+    [positions, normals, uvs, colours, triangles, links].into_iter().for_each(|list| list.resize(PLENTY.max(list.len()), 0));
+});
+
 /// Only a room that is short tells of it, and those are among the faulty cases.
 #[test]
 fn a_list_forgotten_in_the_room_is_told() {
@@ -205,7 +266,7 @@ fn drawing_before_hiding_is_told() {
 
 /// Each Sides entry as two: where there is no room, what hides is done, and what draws is not.
 fn half_done(case: &Case, room: &mut Words, count: u64) -> Answer {
-    sides_read_as(case, room, count, |entry| [HIDE, DRAW].map(|way| alone(entry, way)).concat())
+    sides_read_as(case, room, count, |entry| halves(entry).concat())
 }
 
 /// Only a room that is short tells of it.
@@ -227,8 +288,8 @@ fn sides_of_no_cube_that_draw_are_told() {
     let update = |case: &Case, room: &mut Words, count: u64| {
         sides_read_as(case, room, count, |entry| {
             let cube = case.types.kinds.iter().position(|&kind| kind == 1);
-            let drawn = cube.filter(|_| case.types.kinds.get(entry[5] as usize).is_some_and(|&kind| kind != 1));
-            [&entry[..5], &[drawn.map_or(entry[5], |cube| cube as u8)], &entry[6..]].concat()
+            let drawn = cube.filter(|_| case.types.kinds.get(entry[VOXEL] as usize).is_some_and(|&kind| kind != 1));
+            [&entry[..VOXEL], &[drawn.map_or(entry[VOXEL], |cube| cube as u8)], &entry[VOXEL + 1..]].concat()
         })
     };
     assert_told_by(&[WHOLE, FAULTY, LITTLE_ROOM], Reading { update, ..RIGHT });
@@ -254,21 +315,10 @@ fn sides_tested_as_types_are_told() {
 
 /// Asks for the room of what a Sides entry draws, whatever it hides.
 fn forgets_the_hidden(case: &Case, room: &mut Words, count: u64) -> Answer {
-    let whole = Plain.update_mesh(case, &mut room.clone(), count);
-    if whole.number != 0 && whole.number != NO_ROOM {
-        return whole;
-    }
-    let call = |log: Vec<u8>, room: &mut Words, quads: u64| Plain.update_mesh(&Case { log, ..case.clone() }, room, quads);
-    let mut told = Answer { quads: count, ..Answer::default() };
-    for (number, entry) in case.log.chunks_exact(ENTRY).enumerate() {
-        let asking = if is_sides(entry) { alone(entry, DRAW) } else { entry.to_vec() };
-        if call(asking, &mut room.clone(), told.quads).number == NO_ROOM {
-            return Answer { number: NO_ROOM, place: number as u64, ..told };
-        }
-        let done = call(entry.to_vec(), room, told.quads);
-        told = Answer { moved: told.moved + done.moved, ..done };
-    }
-    told
+    by_entry(case, room, count, |one, room, quads| {
+        let asked = if is_sides(&one.log) { alone(&one.log, DRAW) } else { one.log.clone() };
+        asking_for(asked, one, room, quads)
+    })
 }
 
 /// Only a room that is short tells of it.
@@ -299,10 +349,143 @@ fn a_side_of_three_that_is_taken_is_told() {
 }
 
 #[test]
-fn the_former_code_three_that_is_taken_is_told() {
+fn a_change_of_four_that_is_taken_is_told() {
     let update = |case: &Case, room: &mut Words, count: u64| {
-        let draws = |entry: &[u8]| changed(entry, SIDES, |voxel| if voxel == OUTSIDE { KEEP } else { DRAW });
-        read_as(case, room, count, |entry| if entry[4] == ADD_FACES { draws(entry) } else { entry.to_vec() })
+        let replaces = |entry: &[u8]| [&entry[..CHANGE], &[REPLACED], &entry[VOXEL..]].concat();
+        read_as(case, room, count, |entry| if entry[CHANGE] == REPLACED + 1 { replaces(entry) } else { entry.to_vec() })
+    };
+    assert_told_by(&[FAULTY], Reading { update, ..RIGHT });
+}
+
+/// Broken and then Added, of other types than a Replaced entry says.
+fn pair_of(replaced: &[u8], broken: u8, added: u8) -> Vec<u8> {
+    let of = |change: u8, voxel: u8| entry(cell_of(replaced), change, voxel, &replaced[GIVEN]);
+    [of(BROKEN, broken), of(ADDED, added)].concat()
+}
+
+/// The halves alone, the second one first, of the former type both, of the new type both, the two types exchanged.
+#[test]
+fn replaced_read_as_another_pair_is_told() {
+    let wrong: [Update; 6] = [
+        |case, room, count| replaced_read_as(case, room, count, |entry| broken_and_added(entry)[0].clone()),
+        |case, room, count| replaced_read_as(case, room, count, |entry| broken_and_added(entry)[1].clone()),
+        |case, room, count| replaced_read_as(case, room, count, |entry| halves(entry).into_iter().rev().flatten().collect()),
+        |case, room, count| replaced_read_as(case, room, count, |entry| pair_of(entry, entry[FORMER], entry[FORMER])),
+        |case, room, count| replaced_read_as(case, room, count, |entry| pair_of(entry, entry[VOXEL], entry[VOXEL])),
+        |case, room, count| replaced_read_as(case, room, count, |entry| pair_of(entry, entry[VOXEL], entry[FORMER])),
+    ];
+    for update in wrong {
+        assert_told_by(&[WHOLE, FAULTY, MENDED, LITTLE_ROOM], Reading { update, ..RIGHT });
+    }
+}
+
+/// As Added does nothing of such a type. No honest log of demand 3 has one.
+#[test]
+fn replaced_by_no_cube_that_does_nothing_is_told() {
+    let update = |case: &Case, room: &mut Words, count: u64| {
+        replaced_read_as(case, room, count, |entry| if case.types.is_cube(entry[VOXEL]) { entry.to_vec() } else { vec![] })
+    };
+    assert_told_by(&[WHOLE, FAULTY, LITTLE_ROOM], Reading { update, ..RIGHT });
+}
+
+/// Of the moves of a Replaced entry only those of its second half are told.
+#[test]
+fn moves_of_half_a_replaced_entry_are_told() {
+    let update = |case: &Case, room: &mut Words, count: u64| {
+        by_entry(case, room, count, |one, room, quads| {
+            let done = Plain.update_mesh(one, &mut room.clone(), quads);
+            let first = Case { log: halves(&one.log)[0].clone(), ..one.clone() };
+            let moved = if is_replaced(&one.log) { Plain.update_mesh(&first, &mut room.clone(), quads).moved } else { 0 };
+            Answer { moved: done.moved - moved, ..Plain.update_mesh(one, room, quads) }
+        })
+    };
+    assert_told_by(&[WHOLE, FAULTY, MENDED, LITTLE_ROOM], Reading { update, ..RIGHT });
+}
+
+/// Each Replaced entry as two: where there is no room, the former type is broken, and the new one is not there.
+fn half_replaced(case: &Case, room: &mut Words, count: u64) -> Answer {
+    replaced_read_as(case, room, count, |entry| halves(entry).concat())
+}
+
+/// Asks for the room of a Replaced entry's first half, and does both.
+fn asks_for_the_first_half(case: &Case, room: &mut Words, count: u64) -> Answer {
+    by_entry(case, room, count, |one, room, quads| {
+        let first = Case { log: halves(&one.log)[0].clone(), ..one.clone() };
+        let asked = Plain.update_mesh(&first, &mut room.clone(), quads);
+        match asked.number {
+            0 if is_replaced(&one.log) => ROOMY.update_mesh(one, room, quads),
+            _ => Plain.update_mesh(one, room, quads),
+        }
+    })
+}
+
+/// Asks for the room of a cube's sides, even if the new type is none.
+fn asks_for_a_cube(case: &Case, room: &mut Words, count: u64) -> Answer {
+    by_entry(case, room, count, |one, room, quads| {
+        let cube = one.types.kinds.iter().position(|&kind| kind == 1).filter(|_| is_replaced(&one.log));
+        let asked = cube.map(|cube| replaced(cell_of(&one.log), one.log[FORMER], cube as u8, &one.log[GIVEN]));
+        asking_for(asked.unwrap_or(one.log.clone()), one, room, quads)
+    })
+}
+
+/// Only a room that is short tells of these three.
+#[test]
+fn replaced_without_room_is_told() {
+    for update in [half_replaced as Update, asks_for_the_first_half, asks_for_a_cube] {
+        assert_told_by(&[LITTLE_ROOM], Reading { update, ..RIGHT });
+    }
+}
+
+/// The middle one of three cubes, of which two cubes show a side then: one entry is enough, by a cube, and by air.
+#[test]
+fn one_replaced_entry_in_little_room_is_told() {
+    let compared = |voxel: u8, update| {
+        let log = replaced(1, 1, voxel, &[OUTSIDE, OUTSIDE, 1, 1, OUTSIDE, OUTSIDE]);
+        let row = Case { dims: [3, 1, 1], grid: vec![1; 3], types: paper_types(1.0), log, ..Case::default() };
+        Comparison::of(&Reading { update, ..RIGHT }).in_little_room(&row, 0)
+    };
+    for voxel in [0, 1] {
+        compared(voxel, RIGHT.update).unwrap();
+    }
+    compared(1, half_replaced).unwrap_err();
+    compared(1, asks_for_the_first_half).unwrap_err();
+    compared(0, asks_for_a_cube).unwrap_err();
+}
+
+/// The plain reading that takes any former type of one change for one that it may have.
+fn taking_former_types(of: u8, case: &Case, room: &mut Words, count: u64) -> Answer {
+    let is_type = |voxel: u8| (voxel as usize) < case.types.kinds.len();
+    read_as(case, room, count, |entry| {
+        let mut other = entry.to_vec();
+        match entry[CHANGE] {
+            change if change != of => (),
+            BROKEN => other[FORMER] = entry[VOXEL],
+            REPLACED if is_type(entry[FORMER]) => (),
+            REPLACED => other[FORMER] = entry[VOXEL],
+            _ => other[FORMER] = NO_FORMER,
+        }
+        other
+    })
+}
+
+/// Only an entry made wrong tells of these.
+#[test]
+fn a_wrong_former_type_that_is_taken_is_told() {
+    let taking: [Update; 4] = [
+        |case, room, count| taking_former_types(BROKEN, case, room, count),
+        |case, room, count| taking_former_types(ADDED, case, room, count),
+        |case, room, count| taking_former_types(SIDES, case, room, count),
+        |case, room, count| taking_former_types(REPLACED, case, room, count),
+    ];
+    for update in taking {
+        assert_told_by(&[FAULTY], Reading { update, ..RIGHT });
+    }
+}
+
+#[test]
+fn a_spare_byte_that_is_taken_is_told() {
+    let update = |case: &Case, room: &mut Words, count: u64| {
+        read_as(case, room, count, |entry| [&entry[..ZEROS.start], &[0; ZEROS.end - ZEROS.start]].concat())
     };
     assert_told_by(&[FAULTY], Reading { update, ..RIGHT });
 }

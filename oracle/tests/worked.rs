@@ -2,7 +2,7 @@
 
 use oracle::calls::{Answer, Calls, Plain};
 use oracle::cases::{cube_of, paper_types, Case, Random};
-use oracle::entries::{entry, former, ADD_FACES, CULL_FACES};
+use oracle::entries::{at_level, entry, replaced, split, ADD_FACES, CULL_FACES, FORMER_ENTRY, MESHEMS_LEVEL};
 use oracle::room::{self, joined, laid, parted};
 use oracle::rows::mesh_of;
 use oracle::rust::{self, Registry, Types, Words};
@@ -131,14 +131,80 @@ fn sides_hidden_and_drawn() {
     assert_eq!(quads(&case([2, 1, 1], &[CUBE; 2], &[entry(0, SIDES, CUBE, &sides)])), (10, 9, 2));
     assert_eq!(quads(&case([2, 1, 1], &[CUBE; 2], &[entry(0, SIDES, DARK, &sides)])), (10, 8, 2));
     assert_eq!(quads(&case([2, 1, 1], &[CUBE; 2], &[entry(0, SIDES, CUBE, &[KEEP; 6])])), (10, 10, 0));
-    assert_eq!(
-        former(&entry(5, SIDES, CUBE, &sides)),
-        [
-            entry(5, CULL_FACES, CUBE, &[CUBE, OUT, OUT, CUBE, OUT, OUT]),
-            entry(5, ADD_FACES, CUBE, &[OUT, OUT, CUBE, OUT, CUBE, OUT])
-        ]
-        .concat()
-    );
+}
+
+/// A log of four entries as each level takes it, byte for byte.
+#[test]
+#[rustfmt::skip]
+fn a_log_at_each_level() {
+    let log = [
+        entry(0x0102, BROKEN, 3, &[OUT, 1, 2, 3, 4, 5]),
+        entry(7, ADDED, 4, &[OUT; 6]),
+        entry(5, SIDES, 6, &[HIDE, KEEP, DRAW, HIDE, DRAW, KEEP]),
+        replaced(9, 2, 1, &[3, OUT, 4, 5, 6, 0]),
+    ].concat();
+    assert_eq!(log, [
+        2, 1, 0, 0, 0, 3, OUT, 1, 2, 3, 4, 5, 3, 0, 0, 0,
+        7, 0, 0, 0, 1, 4, OUT, OUT, OUT, OUT, OUT, OUT, 255, 0, 0, 0,
+        5, 0, 0, 0, 2, 6, 1, 0, 2, 1, 2, 0, 255, 0, 0, 0,
+        9, 0, 0, 0, 3, 1, 3, OUT, 4, 5, 6, 0, 2, 0, 0, 0,
+    ]);
+    let before = [2, 1, 0, 0, 0, 3, OUT, 1, 2, 3, 4, 5, 7, 0, 0, 0, 1, 4, OUT, OUT, OUT, OUT, OUT, OUT];
+    let sides = [5, 0, 0, 0, 2, 6, 1, 0, 2, 1, 2, 0];
+    let pair = [5, 0, 0, 0, 2, 6, 6, OUT, OUT, 6, OUT, OUT, 5, 0, 0, 0, 3, 6, OUT, OUT, 6, OUT, 6, OUT];
+    let both = [9, 0, 0, 0, 0, 2, 3, OUT, 4, 5, 6, 0, 9, 0, 0, 0, 1, 1, 3, OUT, 4, 5, 6, 0];
+    assert_eq!(at_level(5, &log), log);
+    assert_eq!(at_level(4, &log), [&before[..], &sides, &both].concat());
+    for level in [2, 3] {
+        assert_eq!(at_level(level, &log), [&before[..], &pair, &both].concat());
+    }
+    assert_eq!(split(&log), [
+        &log[..32],
+        &entry(5, SIDES, 6, &[HIDE, KEEP, KEEP, HIDE, KEEP, KEEP]),
+        &entry(5, SIDES, 6, &[KEEP, KEEP, DRAW, KEEP, DRAW, KEEP]),
+        &entry(9, BROKEN, 2, &[3, OUT, 4, 5, 6, 0]),
+        &entry(9, ADDED, 1, &[3, OUT, 4, 5, 6, 0]),
+    ].concat());
+}
+
+/// Two cubes, ten quads; cell 0 becomes another type. Its five go, by which 14 move. The other's Left comes if the former type covers Right. Cell 0's five open
+/// sides come from a cube; its Right is covered. The other's Left goes if the new type covers Right, or, by the source, Left: it is quad 5 of 11, and
+/// five move. The former type counts as it is given.
+#[test]
+fn a_cube_replaced() {
+    let beside = [OUT, OUT, CUBE, OUT, OUT, OUT];
+    for (former, voxel, due) in [
+        (CUBE, CUBE, (10, 10, 19)),
+        (CUBE, BOTTOM, (10, 11, 14)),
+        (CUBE, DARK, (10, 6, 14)),
+        (AIR, CUBE, (10, 10, 14)),
+        (TOP, AIR, (10, 5, 14)),
+    ] {
+        let one = replaced(0, former, voxel, &beside);
+        for log in [split(&one), one] {
+            assert_eq!(quads(&case([2, 1, 1], &[CUBE; 2], &[log])), due);
+        }
+    }
+}
+
+/// A slab for a slab on a cube: the mesh passes for the new grid where the side itself is tested, and has as many quads as a fresh one.
+#[test]
+fn a_slab_replaced() {
+    let above = [OUT, CUBE, OUT, OUT, OUT, OUT];
+    for (former, voxel, quads_left) in [(BOTTOM, TOP, 11), (TOP, BOTTOM, 10), (CUBE, BOTTOM, 10), (TOP, CUBE, 10), (AIR, TOP, 11)]
+    {
+        let log = replaced(1, former, voxel, &above);
+        assert_eq!(mended(&case([1, 2, 1], &[CUBE, former], &[log]), &[CUBE, voxel]), quads_left);
+        assert_eq!(quads(&case([1, 2, 1], &[CUBE, voxel], &[])).0, quads_left);
+    }
+}
+
+/// The middle one of 27 cubes: six that face it come, and go again if it is a cube: five move for the first of them, none for the last.
+#[test]
+fn the_middle_replaced() {
+    let grid = [CUBE; 27];
+    assert_eq!(quads(&case([3, 3, 3], &grid, &[replaced(13, CUBE, CUBE, &[CUBE; 6])])), (54, 54, 15));
+    assert_eq!(quads(&case([3, 3, 3], &grid, &[replaced(13, CUBE, AIR, &[CUBE; 6])])), (54, 60, 0));
 }
 
 /// Room for eight quads: beside the cube's six two are drawn; they go and two others come; then one may not go for two.
@@ -162,6 +228,26 @@ fn room_for_sides() {
     }
 }
 
+/// The middle one of 27 cubes is replaced, after a quad is hidden, by which one moves: 53. Six that face it come. Five of its own come then, from a cube alone;
+/// the neighbour below, given as one that covers Top, hides the sixth. Both are asked for before anything is done. Of 64 the six that face it go: the last takes the
+/// place of each of three, then four, three and two shift.
+#[test]
+fn room_for_replaced() {
+    let hide = entry(0, SIDES, CUBE, &[KEEP, HIDE, KEEP, KEEP, KEEP, KEEP]);
+    let refused = Answer { number: plain::NO_ROOM, place: 1, quads: 53, moved: 1 };
+    for (room, voxel, due) in [
+        (64, CUBE, Answer { quads: 58, moved: 13, ..Answer::default() }),
+        (63, CUBE, refused),
+        (59, AIR, Answer { quads: 59, moved: 1, ..Answer::default() }),
+        (58, AIR, refused),
+    ] {
+        let case = case([3, 3, 3], &[CUBE; 27], &[hide.clone(), replaced(13, CUBE, voxel, &[TOP; 6])]);
+        let mut lists = room_for(&case, room);
+        assert_eq!(Plain.mesh_grid(&case, &mut lists).quads, 54);
+        assert_eq!(Plain.update_mesh(&case, &mut lists, 54), due);
+    }
+}
+
 /// Of the neighbours in CullFaces and AddFaces Meshem asks whether they are there, and not of what type; without one nothing is done.
 #[test]
 fn a_pair_with_any_neighbours() {
@@ -169,16 +255,17 @@ fn a_pair_with_any_neighbours() {
     let registry = Registry::of(&two.types);
     let updated = |log: &[u8]| {
         let mut meshed = rust::mesh(two.dims, &[], &two.grid, &registry, false);
-        meshed.update_by_former(&registry, log);
+        meshed.update_by_meshems(&registry, log);
         meshed.words()
     };
     let pair = |voxel: u8, neighbour: u8| {
         let cull = entry(0, CULL_FACES, voxel, &[neighbour, OUT, OUT, neighbour, OUT, OUT]);
-        [cull, entry(0, ADD_FACES, voxel, &[OUT, OUT, neighbour, OUT, neighbour, OUT])].concat()
+        let add = entry(0, ADD_FACES, voxel, &[OUT, OUT, neighbour, OUT, neighbour, OUT]);
+        [cull, add].map(|entry| entry[..FORMER_ENTRY].to_vec()).concat()
     };
     let sides = [HIDE, KEEP, DRAW, HIDE, DRAW, KEEP];
     for voxel in 0..7 {
-        let due = updated(&former(&entry(0, SIDES, voxel, &sides)));
+        let due = updated(&at_level(MESHEMS_LEVEL, &entry(0, SIDES, voxel, &sides)));
         assert_eq!(due.links.len(), if two.types.is_cube(voxel) { 9 } else { 8 });
         for neighbour in 0..7 {
             assert_eq!(updated(&pair(voxel, neighbour)), due);

@@ -6,7 +6,7 @@ use plain::{Buffers, Cube, Held, Refusal, Sizes, Tested, Types};
 /// The level of the C interface that this stands for.
 #[no_mangle]
 pub extern "C" fn meshem_abi() -> u32 {
-    4
+    5
 }
 
 unsafe fn lent<'a, T>(data: *const T, len: usize) -> &'a [T] {

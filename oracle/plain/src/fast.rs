@@ -4,13 +4,13 @@
 //! is. Triangle words and freed places depend on the counts alone, and are written last.
 
 use crate::mesh::pattern;
-use crate::update::{ADDED, BROKEN, DRAW, ENTRY, HIDE, MOST_ENTRIES, SIDES};
+use crate::update::{ADDED, BROKEN, DRAW, ENTRY, HIDE, MOST_ENTRIES, NO_FORMER, REPLACED, SIDES};
 use crate::*;
 
 /// What a neighbour's coordinates have more than a cell's, by face; the fourth is none.
 const BESIDE: [[i32; 4]; FACES] = [[0, 1, 0, 0], [0, -1, 0, 0], [1, 0, 0, 0], [-1, 0, 0, 0], [0, 0, 1, 0], [0, 0, -1, 0]];
 
-/// A log, and the side that its Added voxels are tested by.
+/// A log, and the side that its Added and Replaced voxels are tested by.
 #[derive(Clone, Copy)]
 pub struct Log<'a> {
     pub entries: &'a [u8],
@@ -63,8 +63,19 @@ fn log_verdict(log: &[u8], cells: usize, types: usize) -> Result<(), Refusal> {
         let (cell, rest) = bytes.split_at(4);
         // Of a neighbour, 255 and 1 wrap to 0, which is over no number of types
         let (more, most) = if rest[0] == SIDES { (0, DRAW) } else { (1, types as u8) };
-        let given = rest[2..].iter().fold(false, |bad, given| bad | (given.wrapping_add(more) > most));
-        (u32_of(cell) as usize >= cells) | (rest[0] > SIDES) | (rest[1] as usize >= types) | given
+        let given = rest[2..8].iter().fold(false, |bad, given| bad | (given.wrapping_add(more) > most));
+        let (former, spare) = (rest[8], u32_of(&rest[8..]) >> 8);
+        let wrong_former = match rest[0] {
+            BROKEN => former != rest[1],
+            REPLACED => former as usize >= types,
+            _ => former != NO_FORMER,
+        };
+        (u32_of(cell) as usize >= cells)
+            | (rest[0] > REPLACED)
+            | (rest[1] as usize >= types)
+            | given
+            | wrong_former
+            | (spare != 0)
     };
     refuse_lowest(BAD_ENTRY, log.chunks_exact(ENTRY).take(MOST_ENTRIES).map(is_bad))?;
     refuse_if(entries > MOST_ENTRIES, BAD_ENTRY, MOST_ENTRIES as u64)?;
@@ -156,7 +167,7 @@ impl<'a> Rules<'a> {
         ahead(y, height) | behind(y) << 1 | ahead(x, width) << 2 | behind(x) << 3 | ahead(z, length) << 4 | behind(z) << 5
     }
 
-    /// The sides of an Added voxel's neighbours that are hidden, where they face it.
+    /// The sides of an Added or Replaced voxel's neighbours that are hidden, where they face it.
     fn hides(&self, cover: u8) -> u8 {
         match self.tested {
             Tested::Opposite => exchanged(cover),
@@ -245,7 +256,7 @@ impl<const FLOATS: usize> Mesh<'_, FLOATS> {
     #[inline(always)]
     fn apply(&mut self, entry: &[u8], rules: &Rules) -> Option<usize> {
         let cell = u32_of(entry);
-        let (change, voxel) = (entry[4], entry[5]);
+        let (change, voxel, former) = (entry[4], entry[5], entry[12]);
         let given: [u8; 6] = std::array::from_fn(|face| entry[6 + face]);
         let at = rules.coordinates(cell);
         let within = rules.within(at);
@@ -258,14 +269,18 @@ impl<const FLOATS: usize> Mesh<'_, FLOATS> {
         let filled = set_of(|face| own[face] != NONE);
         let faced = within & set_of(|face| self.slots[facing[face]] != NONE);
         let cover = rules.covers[voxel as usize];
+        let uncovered = |broken: u8| {
+            let cubes = set_of(|face| rules.is_cube[given[face] as usize]);
+            rules.covers[broken as usize] & cubes & within & !faced
+        };
+        let open = || set_of(|face| !covers(rules.covers[given[face] as usize], opposite(face)));
         let due = match (change, rules.is_cube[voxel as usize]) {
-            (BROKEN, _) => {
-                let shown = set_of(|face| rules.is_cube[given[face] as usize]);
-                Due { own: filled, shown: cover & shown & within & !faced, ..Due::default() }
-            }
-            (ADDED, true) => {
-                let drawn = set_of(|face| !covers(rules.covers[given[face] as usize], opposite(face)));
-                Due { own: filled, drawn, hidden: rules.hides(cover) & faced, ..Due::default() }
+            (BROKEN, _) => Due { own: filled, shown: uncovered(voxel), ..Due::default() },
+            (ADDED, true) => Due { own: filled, drawn: open(), hidden: rules.hides(cover) & faced, ..Due::default() },
+            (REPLACED, false) => Due { own: filled, shown: uncovered(former), ..Due::default() },
+            (REPLACED, true) => {
+                let shown = uncovered(former);
+                Due { own: filled, shown, drawn: open(), hidden: rules.hides(cover) & (faced | shown) }
             }
             (SIDES, is_cube) => {
                 let drawn = set_of(|face| is_cube & (given[face] == DRAW));

@@ -1,4 +1,4 @@
-//! Document 01's four calls, with document 02's second mode of the update, its attributes apart and its Sides, in plain safe Rust, written from their text alone.
+//! Document 01's four calls, with document 02's second mode of the update, its attributes apart, its Sides and its Replaced, in plain safe Rust, written from their text alone.
 //! It has no proof: it is the second reading that the differential holds refusals, `moved` and zeroed places to, where the Rust says nothing.
 //! `fast` has the update once more, written for speed.
 #![forbid(unsafe_code)]
@@ -14,7 +14,7 @@ pub use check::check_mesh;
 pub use cube::{generate_voxel_mesh, Cube};
 pub use mesh::{mesh_grid, Buffers, Held};
 pub use tables::{Sizes, Types};
-pub use update::{update_mesh, Tested, Updated, ADDED, BROKEN, DRAW, HIDE, KEEP, SIDES};
+pub use update::{update_mesh, Tested, Updated, ADDED, BROKEN, DRAW, HIDE, KEEP, NO_FORMER, REPLACED, SIDES};
 
 /// A refusal: its number and place.
 #[derive(Clone, Copy, Debug, PartialEq, Eq)]

@@ -3,20 +3,24 @@
 use crate::mesh::{linked, pattern};
 use crate::*;
 
-pub(crate) const ENTRY: usize = 12;
+pub(crate) const ENTRY: usize = 16;
 pub(crate) const MOST_ENTRIES: usize = 16_777_216;
 
 /// The changes of a log.
 pub const BROKEN: u8 = 0;
 pub const ADDED: u8 = 1;
 pub const SIDES: u8 = 2;
+pub const REPLACED: u8 = 3;
+
+/// The former type of a change that has none.
+pub const NO_FORMER: u8 = 255;
 
 /// What Sides does to a side.
 pub const KEEP: u8 = 0;
 pub const HIDE: u8 = 1;
 pub const DRAW: u8 = 2;
 
-/// The side of an Added voxel that decides whether the neighbour at a face loses its facing quad.
+/// The side of an Added or Replaced voxel that decides whether the neighbour at a face loses its facing quad.
 #[derive(Clone, Copy, Debug, Default, PartialEq, Eq)]
 pub enum Tested {
     /// The opposite of the face, as the source does.
@@ -50,12 +54,14 @@ struct Entry<'a> {
     voxel: u8,
     /// By face: the neighbours' types, or what Sides does.
     given: &'a [u8],
+    former: u8,
+    spare: &'a [u8],
 }
 
 impl<'a> Entry<'a> {
     fn read(bytes: &'a [u8]) -> Self {
         let cell = u32::from_le_bytes([bytes[0], bytes[1], bytes[2], bytes[3]]) as usize;
-        Entry { cell, change: bytes[4], voxel: bytes[5], given: &bytes[6..ENTRY] }
+        Entry { cell, change: bytes[4], voxel: bytes[5], given: &bytes[6..12], former: bytes[12], spare: &bytes[13..ENTRY] }
     }
 
     fn is_good(&self, cells: usize, types: &Types) -> bool {
@@ -63,10 +69,20 @@ impl<'a> Entry<'a> {
             SIDES => byte <= DRAW,
             _ => byte == OUTSIDE || types.is_type(byte),
         };
-        self.cell < cells && self.change <= SIDES && types.is_type(self.voxel) && self.given.iter().all(given)
+        let former = match self.change {
+            BROKEN => self.former == self.voxel,
+            REPLACED => types.is_type(self.former),
+            _ => self.former == NO_FORMER,
+        };
+        self.cell < cells
+            && self.change <= REPLACED
+            && types.is_type(self.voxel)
+            && self.given.iter().all(given)
+            && former
+            && self.spare.iter().all(|&byte| byte == 0)
     }
 
-    /// The neighbour's type, in Broken and Added.
+    /// The neighbour's type, in all changes but Sides.
     fn neighbour(&self, face: usize) -> Option<u8> {
         Some(self.given[face]).filter(|&voxel| voxel != OUTSIDE)
     }
@@ -136,30 +152,31 @@ impl Update<'_, '_> {
         let Entry { cell, voxel, .. } = *entry;
         let remove = |face| Step::Remove { cell, face };
         let draw = |face| Step::Draw { cell, face, voxel };
-        let faces = 0..FACES;
         let is_cube = self.types.is_cube(voxel);
+        let own = || (0..FACES).map(remove);
+        let uncovered = |broken| (0..FACES).filter_map(move |face| self.uncovered(entry, broken, face));
+        let is_open = |&face: &usize| entry.neighbour(face).map_or(true, |other| !self.types.covers(other, opposite(face)));
+        let open = || (0..FACES).filter(|face| is_cube && is_open(face)).map(draw);
         match entry.change {
-            BROKEN => faces.clone().map(remove).chain(faces.filter_map(|face| self.uncovered(entry, face))).collect(),
-            ADDED if is_cube => {
-                let shown = |&face: &usize| entry.neighbour(face).map_or(true, |other| !self.types.covers(other, opposite(face)));
-                faces.clone().map(remove).chain(faces.filter(shown).map(draw)).collect()
-            }
+            BROKEN => own().chain(uncovered(voxel)).collect(),
+            ADDED if is_cube => own().chain(open()).collect(),
+            REPLACED => own().chain(uncovered(entry.former)).chain(open()).collect(),
             SIDES => entry.sides(HIDE).map(remove).chain(entry.sides(DRAW).filter(|_| is_cube).map(draw)).collect(),
             _ => vec![],
         }
     }
 
-    /// What Broken draws at a side: the neighbour cell's opposite face, from the neighbour's type as given.
-    fn uncovered(&self, entry: &Entry, face: usize) -> Option<Step> {
+    /// What shows at a side when a voxel is broken: the neighbour cell's opposite face, from the neighbour's type as given.
+    fn uncovered(&self, entry: &Entry, broken: u8, face: usize) -> Option<Step> {
         let voxel = entry.neighbour(face)?;
         let cell = self.sizes.neighbour(entry.cell, face)?;
-        let drawn = self.types.covers(entry.voxel, face) && self.types.is_cube(voxel);
+        let drawn = self.types.covers(broken, face) && self.types.is_cube(voxel);
         drawn.then_some(Step::Draw { cell, face: opposite(face), voxel })
     }
 
-    /// What Added removes last: the neighbours' facing quads, where the voxel covers the side tested.
+    /// What Added and Replaced remove last: the neighbours' facing quads, where the voxel covers the side tested.
     fn facing_steps(&self, entry: &Entry) -> Vec<Step> {
-        if entry.change != ADDED || !self.types.is_cube(entry.voxel) {
+        if !matches!(entry.change, ADDED | REPLACED) || !self.types.is_cube(entry.voxel) {
             return vec![];
         }
         let facing = |face: usize| {

@@ -7,7 +7,7 @@
 //!
 //! The file is its head, then records one after another:
 //!
-//!     head      0x5348534D, version 3, number of records
+//!     head      0x5348534D, version 4, number of records
 //!     record    tag, number of words that follow, those words
 //!
 //! Tag 1, a cube: `generate_voxel_mesh` and its answer.
@@ -22,10 +22,11 @@
 //! Tag 3, a grid: `mesh_grid`, then `update_mesh` on that mesh.
 //!
 //!     width, height, length, algorithm (0 Naive, 1 Culling), outer faces o, cells c, log entries e,
-//!     outer (o bytes), grid (c bytes), log (12·e bytes),
+//!     outer (o bytes), grid (c bytes), log (16·e bytes),
 //!     the mesh after meshing, the mesh after the log
 //!
-//! A Sides entry of the log was two for the Rust: CullFaces with a neighbour given where it hides, then AddFaces with one given where it draws.
+//! A Sides entry of the log was two for the Rust: CullFaces with a neighbour given where it hides, then AddFaces with one given where it draws. A Replaced
+//! one was Broken of the former type, then Added of the new one.
 //!
 //! A mesh:
 //!
@@ -35,12 +36,12 @@
 //! Everything is accepted by document 01. `moved` is not in it: the Rust doesn't count.
 
 use oracle::cases::{cube_of, paper_types, Candour, Case, Random};
-use oracle::entries::{entry, sides_in, ENTRY};
+use oracle::entries::{entry, replaced, CHANGE, ENTRY, PAIRED};
 use oracle::rust::{cube, mesh, CubeParameters, Registry, Types, Words};
 use plain::{ADDED, BROKEN, DRAW, HIDE, KEEP, SIDES};
 
 const MAGIC: u32 = u32::from_le_bytes(*b"MSHS");
-const VERSION: u32 = 3;
+const VERSION: u32 = 4;
 const SEED: u64 = 2_026;
 /// The most words of the file: 400,000 bytes.
 const MOST_WORDS: usize = 100_000;
@@ -58,16 +59,17 @@ fn main() {
     other_registries(&mut file, &mut random);
     let bytes = file.bytes();
     println!(
-        "{path}: {} bytes; {} cubes, {} registries, {} grids, {} quads; {} Sides entries, of which {} hid a quad and drew one",
+        "{path}: {} bytes; {} cubes, {} registries, {} grids, {} quads",
         bytes.len(),
         file.cubes,
         file.registries,
         file.grids,
-        file.quads,
-        file.sides,
-        file.hid_and_drew
+        file.quads
     );
-    assert!(file.hid_and_drew > 0, "the list is meant to have Sides");
+    for ((change, _), [entries, went_and_drew]) in PAIRED.iter().zip(file.pairs) {
+        println!("{entries} {change} entries; a quad went and one was drawn by {went_and_drew}");
+        assert!(went_and_drew > 0, "the list is meant to have {change}");
+    }
     assert!(file.words.len() <= MOST_WORDS, "the list is meant to be small");
     std::fs::write(path, bytes).expect("the file to write");
 }
@@ -79,8 +81,8 @@ struct File {
     registries: u32,
     grids: u32,
     quads: usize,
-    sides: usize,
-    hid_and_drew: u64,
+    /// In the order of `PAIRED`: entries, and those by which a quad went and one was drawn.
+    pairs: [[u64; 2]; 2],
 }
 
 impl File {
@@ -130,9 +132,13 @@ impl File {
         self.record(3, words);
         self.grids += 1;
         self.quads += fresh.links.len() + updated.links.len();
-        self.sides += sides_in(&case.log);
         let mut again = mesh(case.dims, &case.outer, &case.grid, &registry, case.naive);
-        self.hid_and_drew += again.update_by_entry(&registry, &case.log);
+        for (entry, both) in case.log.chunks_exact(ENTRY).zip(again.update_by_entry(&registry, &case.log)) {
+            if let Some(pair) = PAIRED.iter().position(|&(_, change)| change == entry[CHANGE]) {
+                self.pairs[pair][0] += 1;
+                self.pairs[pair][1] += both as u64;
+            }
+        }
         true
     }
 }
@@ -221,6 +227,16 @@ fn worked_grids(file: &mut File) {
     put([1, 1, 2], &[], &[CUBE, AIR], false, &log);
     let both = [HIDE, KEEP, DRAW, HIDE, DRAW, KEEP];
     put([2, 1, 1], &[], &[CUBE, CUBE], false, &[entry(0, SIDES, ODD, &both), entry(1, SIDES, DARK, &both)]);
+    // a cube for a cube, in the middle of others too; slabs for each other; a cube for air, and twice; what is no cube for a cube, and the other way
+    put([2, 1, 1], &[], &[CUBE, CUBE], false, &[replaced(0, CUBE, ODD, &beside)]);
+    put([3, 3, 3], &[], &[CUBE; 27], false, &[replaced(13, CUBE, BOTTOM, &[CUBE; 6])]);
+    put([1, 2, 1], &[], &[CUBE, BOTTOM], false, &[replaced(1, BOTTOM, TOP, &above), replaced(1, TOP, BOTTOM, &above)]);
+    put([1, 2, 1], &[], &[CUBE, AIR], false, &[replaced(1, AIR, CUBE, &above), replaced(1, AIR, ODD, &above)]);
+    put([2, 1, 1], &[], &[CUBE, CUBE], false, &[replaced(0, CUBE, CUSTOM, &beside), replaced(0, CUSTOM, CUBE, &beside)]);
+    put([2, 1, 1], &[], &[DARK, CUBE], false, &[replaced(0, DARK, DARK, &beside), replaced(0, DARK, AIR, &beside)]);
+    // as another type than it is; neighbours given where the grid ends, and the other way
+    put([2, 1, 1], &[], &[CUBE, CUBE], false, &[replaced(1, AIR, TOP, &[OUT, OUT, OUT, ODD, OUT, OUT])]);
+    put([2, 1, 1], &[], &[AIR, CUBE], false, &[replaced(0, CUBE, BOTTOM, &[TOP; 6]), replaced(1, ODD, CUBE, &[OUT; 6])]);
 }
 
 /// Three times a tenth, which isn't exact, plus a corner: the product is rounded first.

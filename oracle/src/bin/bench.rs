@@ -9,17 +9,17 @@
 
 use oracle::calls::Calls;
 use oracle::cases::{cube_of, Case, Random};
-use oracle::entries::{former, ENTRY};
-use oracle::grounds::{edits, half_full, sides, terrain, ROCK};
+use oracle::entries::{at_level, split, ENTRY, MESHEMS_LEVEL};
+use oracle::grounds::{edits, half_full, replacements, sides, terrain, ROCK};
 use oracle::library::Library;
-use oracle::room::laid;
+use oracle::room::{laid, MOST_DRAWN};
 use oracle::rust::{self, cube, Registry, Words};
 use oracle::timing::{median, time, timed};
 use plain::Tested;
 use std::hint::black_box;
 use std::time::{Duration, Instant};
 
-const ROWS: u32 = 17;
+const ROWS: u32 = 21;
 const MOST_ROUNDS: usize = 201;
 const RUNS: usize = 4;
 
@@ -39,7 +39,7 @@ fn main() {
 
 const WHAT_IS_DONE: &str = "\
 The Rust: `mesh_grid` into lists that it allocates, and `update_mesh` after the log has been handed to `MeshMD::log`. A Sides entry is two for it,
-CullFaces and then AddFaces.
+CullFaces and then AddFaces, and so is a Replaced one, Broken and then Added.
 The library: the C calls on lent lists; each tests its whole input first, an update the whole mesh it is given.
 Those bytes: for a fresh mesh and a cube, setting every byte that the call writes; for an update and the check, summing every word that
 its tests read, once a call. Rust and library start from equal meshes and end with equal ones. Freeing what the Rust allocated is timed
@@ -145,6 +145,12 @@ fn rows(bench: &Bench, random: &mut Random) -> Vec<Row> {
         let case = Case { log: sides(random, &ground, entries), ..ground.clone() };
         rows.push(bench.update(format!("{name} in one log"), &case, case.log.len()));
     }
+    for (name, entries) in [("200 Replaced", 200), ("5,000 Replaced", 5_000)] {
+        let case = Case { log: replacements(random, &ground, entries), ..ground.clone() };
+        rows.push(bench.update(format!("{name} in one log"), &case, case.log.len()));
+        let pairs = Case { log: split(&case.log), ..case };
+        rows.push(bench.update(format!("{name} in one log, as Broken and Added"), &pairs, pairs.log.len()));
+    }
     rows.push(bench.check("check, 32³ terrain".into(), &ground));
     rows.push(bench.cube());
     assert_eq!(rows.len(), ROWS as usize);
@@ -198,8 +204,8 @@ impl Bench {
         let fresh = meshed.words();
         meshed.update(&registry, &case.log);
         let expected = meshed.words();
-        let parts: Vec<Vec<u8>> = case.log.chunks_exact(step).map(former).collect();
-        let most = fresh.links.len() + 6 * case.log.len() / ENTRY;
+        let parts: Vec<Vec<u8>> = case.log.chunks_exact(step).map(|part| at_level(MESHEMS_LEVEL, part)).collect();
+        let most = fresh.links.len() + MOST_DRAWN * case.log.len() / ENTRY;
         let start = laid(&fresh, room_for(most, case));
         let mut call = Case { grid: vec![], log: vec![0; step], ..case.clone() };
         let mut mend = |room: &mut Words| {
@@ -224,7 +230,7 @@ impl Bench {
         let ([rust, library, plain], rounds) = self.interleaved([
             &mut || {
                 let mut meshed = rust_mesh(case, &registry);
-                timed(|| parts.iter().for_each(|part| meshed.update_by_former(&registry, part)))
+                timed(|| parts.iter().for_each(|part| meshed.update_by_meshems(&registry, part)))
             },
             &mut || {
                 room.clone_from(&start);

@@ -5,13 +5,14 @@
 //! How a row is timed stands in `src/rows.rs`; both libraries' code lies alike at each of the four places. A row that is slower than BOUND is timed
 //! twice more, and the median of its three ratios counts. SECONDS (110) is shared out among the rows.
 //!
-//! The former library may be of level 2: its vertices are then joined and parted off the clock, and compared attribute by attribute. One of level 2 or
-//! 3 is given the pair that a Sides entry equals, CullFaces and then AddFaces: 5,000 Sides are 10,000 entries for it.
+//! The former library may be of level 2: its vertices are then joined and parted off the clock, and compared attribute by attribute. One up to level 4
+//! has entries of twelve bytes, and is given the pair that a Replaced entry equals, Broken and then Added: 5,000 Replaced are 10,000 entries for it. One of
+//! level 2 or 3 is given the pair that a Sides entry equals too, CullFaces and then AddFaces.
 //!
 //! The exit status is 0 if no row is slower than BOUND, else 1. The program panics if the two differ in a word.
 
 use oracle::cases::{Case, Random};
-use oracle::grounds::{cubes_of, edits, half_full, noise, sides, terrain};
+use oracle::grounds::{cubes_of, edits, half_full, noise, replacements, sides, terrain};
 use oracle::library::former;
 use oracle::library::placed::Now0;
 use oracle::rows::{mesh_of, Places, Row};
@@ -21,7 +22,7 @@ use std::process::ExitCode;
 use std::time::Duration;
 
 const BOUND: f64 = 1.05;
-const ROWS: u32 = 58;
+const ROWS: u32 = 62;
 /// The calls of a log that is done an entry a call.
 const WALK: usize = 200;
 
@@ -59,6 +60,11 @@ fn all_rows(bench: &mut Bench, random: &mut Random) {
     bench.sides("200 Sides, 32³ terrain", &terrain(random, [32; 3]), 200, random);
     bench.sides("5,000 Sides, 32³ terrain", &terrain(random, [32; 3]), 5000, random);
     bench.sides("5,000 Sides, 32³ half full", &half_full(random, [32; 3]), 5000, random);
+    let ground = terrain(random, [32; 3]);
+    bench.replaced("200 Replaced, 32³ terrain", &ground, 200, Tested::Opposite, random);
+    bench.replaced("5,000 Replaced, 32³ terrain", &ground, 5000, Tested::Opposite, random);
+    bench.replaced("5,000 Replaced, 32³ half full", &half_full(random, [32; 3]), 5000, Tested::Opposite, random);
+    bench.replaced("5,000 Replaced, 32³ noise, itself", &noise(random, [32; 3]), 5000, Tested::Itself, random);
 }
 
 struct Bench {
@@ -86,7 +92,7 @@ impl Bench {
             let log = edits(random, ground, &cubes, entries);
             for (mode, tested) in [("opposite", Tested::Opposite), ("itself", Tested::Itself)] {
                 let case = Case { log: log.clone(), tested, ..ground.clone() };
-                self.row(format!("{what}, {name}, {mode}"), Row::update(&Now0, case, &mesh, each));
+                self.row(format!("{what}, {name}, {mode}"), Row::update(self.places[0], case, &mesh, each));
             }
         }
         self.row(format!("check, {name}"), Row::check(ground, mesh));
@@ -95,7 +101,18 @@ impl Bench {
     /// Sides entries in one log; the side tested is nothing to them.
     fn sides(&mut self, name: &str, ground: &Case, entries: usize, random: &mut Random) {
         let case = Case { log: sides(random, ground, entries), ..ground.clone() };
-        self.row(name.into(), Row::update(&Now0, case, &mesh_of(ground), entries));
+        self.in_one_log(name, case, entries);
+    }
+
+    /// Replaced entries in one log.
+    fn replaced(&mut self, name: &str, ground: &Case, entries: usize, tested: Tested, random: &mut Random) {
+        let case = Case { log: replacements(random, ground, entries), tested, ..ground.clone() };
+        self.in_one_log(name, case, entries);
+    }
+
+    fn in_one_log(&mut self, name: &str, case: Case, entries: usize) {
+        let mesh = mesh_of(&case);
+        self.row(name.into(), Row::update(self.places[0], case, &mesh, entries));
     }
 
     fn row(&mut self, name: String, mut row: Row) {

@@ -8,14 +8,14 @@
 
 use oracle::calls::{Calls, Reading};
 use oracle::cases::{Case, Random};
-use oracle::grounds::{cubes_of, edits, half_full, noise, sides, terrain};
+use oracle::grounds::{cubes_of, edits, half_full, noise, replacements, sides, terrain};
 use oracle::library::placed::{Now0, Now16, Now32, Now48};
 use oracle::rows::{mesh_of, Places, Row, Run};
 use oracle::timing::time;
 use plain::Tested;
 use std::time::Duration;
 
-const ROWS: u32 = 37;
+const ROWS: u32 = 38;
 const FAST: &dyn Calls = &Reading::FAST;
 const PLACES: Places = [[&Now0, FAST], [&Now16, FAST], [&Now32, FAST], [&Now48, FAST]];
 
@@ -38,7 +38,7 @@ fn all_rows(bench: &mut Bench, random: &mut Random) {
         bench.updates(&format!("{name} terrain"), &terrain(random, dims), random);
     }
     bench.updates("128×16×64 terrain", &terrain(random, [128, 16, 64]), random);
-    bench.sides("another 32³ terrain", &terrain(random, [32; 3]), random);
+    bench.others("another 32³ terrain", &terrain(random, [32; 3]), random);
 }
 
 struct Bench {
@@ -59,17 +59,19 @@ impl Bench {
         }
     }
 
-    /// The tests alone, and Sides entries.
-    fn sides(&mut self, name: &str, ground: &Case, random: &mut Random) {
+    /// The tests alone, Sides entries, and Replaced ones.
+    fn others(&mut self, name: &str, ground: &Case, random: &mut Random) {
         let tests = self.row(format!("tests alone (empty log), {name}"), ground.clone(), None);
-        let case = Case { log: sides(random, ground, 5000), ..ground.clone() };
-        self.row(format!("5,000 Sides in one log, {name}"), case, Some((&tests, 5000)));
+        for (what, log) in [("Sides", sides(random, ground, 5000)), ("Replaced", replacements(random, ground, 5000))] {
+            let case = Case { log, ..ground.clone() };
+            self.row(format!("5,000 {what} in one log, {name}"), case, Some((&tests, 5000)));
+        }
     }
 
     /// The case's log in one call. What the tests alone took and the number of edits tell the time of one.
     fn row(&mut self, name: String, case: Case, edits: Option<(&Run, usize)>) -> Run {
         let mesh = mesh_of(&case);
-        let mut row = Row::update(&Now0, case, &mesh, edits.map_or(1, |(_, edits)| edits));
+        let mut row = Row::update(PLACES[0], case, &mesh, edits.map_or(1, |(_, edits)| edits));
         row.compare(PLACES[0], &name);
         let run = row.time(&PLACES, self.share);
         let of_one = |of: fn(&Run) -> f64| {

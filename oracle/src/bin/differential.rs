@@ -3,16 +3,17 @@
 //!     differential [CASES [SEED]]
 //!
 //! Against the Rust: a cube's floats; a fresh mesh; a mesh that the Rust built after a log, honest or foolish, in the source's mode of
-//! the update. A Sides entry is a pair for the Rust, CullFaces and then AddFaces. Every quad, float bit, triangle word and index entry is
-//! compared, and a panic of the Rust counts as a disagreement.
+//! the update. A Sides entry is a pair for the Rust, CullFaces and then AddFaces, and a Replaced one is Broken and then Added. Every quad,
+//! float bit, triangle word and index entry is compared, and a panic of the Rust counts as a disagreement.
 //! Against the plain reading, where the Rust says nothing: `moved`, zeroed and spare places, the new mode of the update, the check, and
-//! refusals, with every buffer whole. A Sides entry split in two, which hide and draw, has to leave the same. And demand 3, tried: the mesh passes the check after an honest log of cubes put into empty cells;
-//! in the source's mode they have to cover opposite sides alike. A case that fails is shrunk and printed; ten failing cases end the run.
+//! refusals, with every buffer whole. A Sides entry split in two, which hide and draw, has to leave the same, and so does a Replaced one, split into
+//! Broken and Added. And demand 3, tried: the mesh passes the check after an honest log of cubes put into empty cells or in place of others; in the
+//! source's mode they have to cover opposite sides alike. A case that fails is shrunk and printed; ten failing cases end the run.
 //! A run of a thousand cases that never met something it is there for has failed too.
 
 use oracle::cases::{simpler, simpler_to_mend, Added, Case, Random};
-use oracle::compare::{Compared, Comparison, Tally, Updates, MODES};
-use oracle::entries::ENTRY;
+use oracle::compare::{Compared, Comparison, Pairs, Tally, Updates, MODES};
+use oracle::entries::{ENTRY, PAIRED};
 use oracle::faults::{limits, Faulty};
 use oracle::library::Library;
 use oracle::rust::Words;
@@ -120,18 +121,22 @@ impl Run {
 
     /// What never came up in a run is a disagreement: nothing was tried.
     fn met_all(&mut self) {
-        let Tally { updates, same_in_both, left_wrong, sides, hid_and_drew, split, sides_without_room, .. } =
+        let Tally { updates, same_in_both, left_wrong, mended_without_empty, pairs, replaced_by_no_cube, .. } =
             &self.comparison.tally;
         let by_mode = |count: fn(&Updates) -> u64| updates.iter().map(count).min().unwrap();
+        let by_change = |count: fn(&Pairs) -> u64| pairs.iter().map(count).min().unwrap();
         let met = [
             ("a log that the source's mode leaves wrong", *left_wrong),
             ("a log that gives the same in both modes", *same_in_both),
             ("a mended mesh in each mode", by_mode(|updates| updates.mended)),
+            ("a mesh mended by Replaced entries in each mode", by_mode(|updates| updates.mended_replaced)),
+            ("a mesh mended without an empty type", *mended_without_empty),
             ("NO_ROOM in each mode", by_mode(|updates| updates.answers[NO_ROOM as usize])),
-            ("a Sides entry beside the Rust's pair", *sides),
-            ("a Sides entry that hid a quad and drew one", *hid_and_drew),
-            ("a log with its Sides entries split", *split),
-            ("NO_ROOM for a Sides entry", *sides_without_room),
+            ("a Sides entry and a Replaced one beside the Rust's pair", by_change(|pairs| pairs.log_entries)),
+            ("a Sides entry and a Replaced one by which a quad went and one was drawn", by_change(|pairs| pairs.went_and_drew)),
+            ("a log with its Sides entries split, and one with its Replaced ones", by_change(|pairs| pairs.split)),
+            ("NO_ROOM for a Sides entry and for a Replaced one", by_change(|pairs| pairs.without_room)),
+            ("a Replaced entry whose new type is no cube", *replaced_by_no_cube),
         ];
         for (what, _) in met.iter().filter(|(_, times)| *times == 0) {
             self.disagreements += 1;
@@ -204,10 +209,11 @@ fn print(case: &Case) {
 fn print_tally(tally: &Tally) {
     let Tally { cubes, grids, log_entries, quads, index_entries, words, plain_calls, refusals, .. } = tally;
     println!("with the Rust: {cubes} cubes, {grids} grids, {log_entries} log entries; {quads} quads, {index_entries} index entries, {words} words");
-    let Tally { sides, hid_and_drew, split, sides_without_room, .. } = tally;
-    println!(
-        "of them Sides, each a pair for the Rust: {sides} log entries; on small grids {hid_and_drew} hid a quad and drew one"
-    );
+    for ((change, _), pairs) in PAIRED.iter().zip(&tally.pairs) {
+        let Pairs { log_entries, went_and_drew, .. } = pairs;
+        println!("of them {change}, each a pair for the Rust: {log_entries} log entries; on small grids a quad went and one was drawn by {went_and_drew}");
+    }
+    println!("Replaced by what is no cube: {} log entries", tally.replaced_by_no_cube);
     println!("with 01 read plainly: {plain_calls} calls, refusals 2 to 16: {:?}", &refusals[2..]);
     for (tested, updates) in MODES.iter().zip(&tally.updates) {
         let Updates { calls, answers, log_entries, quads, .. } = updates;
@@ -215,10 +221,14 @@ fn print_tally(tally: &Tally) {
         println!("of them updates, {tested:?} tested: {calls} calls, {refused} refused ({no_room} NO_ROOM); {log_entries} log entries, {quads} quads");
     }
     for (tested, updates) in MODES.iter().zip(&tally.updates) {
-        println!("demand 3, {tested:?} tested: {} logs leave a mesh that passes the check", updates.mended);
+        let Updates { mended, mended_replaced, .. } = updates;
+        println!("demand 3, {tested:?} tested: {mended} logs, {mended_replaced} with Replaced entries, leave a mesh that passes the check");
     }
-    let Tally { same_in_both, not_alike, left_wrong, .. } = tally;
+    let Tally { same_in_both, not_alike, left_wrong, mended_without_empty, .. } = tally;
+    println!("of them with no empty type: {mended_without_empty} logs");
     println!("cubes that cover opposite sides alike: {same_in_both} logs, the same in both modes");
     println!("other cubes: {not_alike} honest logs, {left_wrong} left wrong by the source's mode");
-    println!("Sides entries split in two: {split} logs, the same; NO_ROOM for a Sides entry: {sides_without_room} times");
+    for ((change, _), Pairs { split, without_room, .. }) in PAIRED.iter().zip(&tally.pairs) {
+        println!("{change} entries split in two: {split} logs, the same; NO_ROOM for one: {without_room} times");
+    }
 }

@@ -18,7 +18,7 @@ fn main() {
     assert_eq!(bytes.len() % 4, 0, "whole words");
     let words: Vec<u32> = bytes.chunks(4).map(|four| u32::from_le_bytes(four.try_into().unwrap())).collect();
     let mut file = Reader(&words);
-    assert_eq!(file.many(2), [u32::from_le_bytes(*b"MSHS"), 3], "the head");
+    assert_eq!(file.many(2), [u32::from_le_bytes(*b"MSHS"), 4], "the head");
     let records = file.one();
     let mut types = Types::default();
     let mut counts = [0; 4];
