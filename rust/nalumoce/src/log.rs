@@ -7,6 +7,12 @@ pub enum VoxelChange {
     Broken,
     /// The voxel is put: it shows what nothing covers, and hides its neighbours' faces.
     Added,
+    /// The voxel takes the place of another, as gravel takes that of clay. It is `Broken` of the former voxel and then `Added` of the new one, with
+    /// the same neighbours, in one entry, which is done completely or not at all.
+    Replaced {
+        /// The voxel that was there.
+        former: u8,
+    },
     /// The voxel's sides with a neighbour given are hidden. Only whether one is given counts, and not of what type it is.
     /// [`MeshMD::log_sides`](crate::MeshMD::log_sides) says this and `AddFaces` in one entry, which is done completely or not at all.
     CullFaces,
@@ -28,7 +34,7 @@ pub enum Side {
     Draw,
 }
 
-/// Changes in the order in which they happened, kept as the twelve bytes an entry that the library reads.
+/// Changes in the order in which they happened, kept as the sixteen bytes an entry that the library reads.
 #[derive(Clone, Debug, Default, PartialEq, Eq)]
 pub struct Log {
     bytes: Vec<u8>,
@@ -38,53 +44,51 @@ pub struct Log {
 const BROKEN: u8 = 0;
 const ADDED: u8 = 1;
 const SIDES: u8 = 2;
+const REPLACED: u8 = 3;
 
-/// A neighbour outside; no type has this code.
-const OUTSIDE: u8 = 255;
+/// A neighbour outside, or the former voxel of a change that has none; no type has this code.
+const NONE: u8 = 255;
 
 impl Log {
-    /// The bytes of an entry.
-    pub const ENTRY: usize = 12;
+    /// The bytes of an entry: the cell, four; the change; the voxel; six by face; the former voxel; three zeros.
+    pub const ENTRY: usize = 16;
 
     /// A log without entries.
     pub const fn new() -> Log {
         Log { bytes: vec![] }
     }
 
-    /// Appends a change: the cell, the voxel that was broken or added there, and what stands around it by face, `None` outside.
+    /// Appends a change: the cell, the voxel that was broken or put there, and what stands around it by face, `None` outside.
     /// Nothing is tested here; an update refuses a log with an entry that names no cell or no type.
     ///
     /// Of `CullFaces` and `AddFaces` the entry keeps which neighbours are given, and not their types: it is the one of [`Log::push_sides`]
     /// that hides these sides, or draws them. A neighbour that is no type is as good as any other there.
     pub fn push(&mut self, change: VoxelChange, cell: usize, voxel: u8, neighboring_voxels: [Option<u8>; 6]) {
         let sides = |way: Side| neighboring_voxels.map(|beside| beside.map_or(Side::Keep, |_| way));
+        let around = neighboring_voxels.map(|beside| beside.unwrap_or(NONE));
+        // 255 is no type, yet as a neighbour's byte it would mean outside: the entry says 255 where it is refused
+        let amid = if neighboring_voxels.contains(&Some(NONE)) { NONE } else { voxel };
         match change {
-            VoxelChange::Broken => self.push_amid(cell, BROKEN, voxel, neighboring_voxels),
-            VoxelChange::Added => self.push_amid(cell, ADDED, voxel, neighboring_voxels),
+            VoxelChange::Broken => self.push_bytes(cell, BROKEN, amid, around, amid),
+            VoxelChange::Added => self.push_bytes(cell, ADDED, amid, around, NONE),
+            VoxelChange::Replaced { former } => self.push_bytes(cell, REPLACED, amid, around, former),
             VoxelChange::CullFaces => self.push_sides(cell, voxel, sides(Side::Hide)),
             VoxelChange::AddFaces => self.push_sides(cell, voxel, sides(Side::Draw)),
         }
-    }
-
-    /// Appends a change whose neighbours' types count.
-    fn push_amid(&mut self, cell: usize, change: u8, voxel: u8, neighboring_voxels: [Option<u8>; 6]) {
-        // 255 is no type, yet as a neighbour's byte it would mean outside: the entry says 255 where it is refused
-        let no_type = neighboring_voxels.contains(&Some(OUTSIDE));
-        let voxel = if no_type { OUTSIDE } else { voxel };
-        self.push_bytes(cell, change, voxel, neighboring_voxels.map(|beside| beside.unwrap_or(OUTSIDE)));
     }
 
     /// Appends what becomes of a cell's own sides, by face: first the quads of those to hide go, then those to draw get one from the voxel, if
     /// it is a cube. Nothing is tested here; an update refuses a log with an entry that names no cell or no type. The library refuses a byte
     /// over 2 for a side too. No [`Side`] has one, so that this can't be met through this crate.
     pub fn push_sides(&mut self, cell: usize, voxel: u8, sides: [Side; 6]) {
-        self.push_bytes(cell, SIDES, voxel, sides.map(|side| side as u8));
+        self.push_bytes(cell, SIDES, voxel, sides.map(|side| side as u8), NONE);
     }
 
-    fn push_bytes(&mut self, cell: usize, change: u8, voxel: u8, given: [u8; 6]) {
+    fn push_bytes(&mut self, cell: usize, change: u8, voxel: u8, given: [u8; 6], former: u8) {
         self.bytes.extend(u32::try_from(cell).unwrap_or(u32::MAX).to_le_bytes());
         self.bytes.extend([change, voxel]);
         self.bytes.extend(given);
+        self.bytes.extend([former, 0, 0, 0]);
     }
 
     /// How many entries there are.
@@ -119,10 +123,11 @@ mod tests {
     }
 
     #[test]
-    fn an_entry_is_twelve_bytes() {
+    fn an_entry_is_sixteen_bytes() {
         let mut log = Log::new();
         log.push(VoxelChange::Broken, 0x0102_0304, 9, [None, Some(1), None, None, Some(0), Some(7)]);
-        assert_eq!(log.as_bytes(), [4, 3, 2, 1, 0, 9, 255, 1, 255, 255, 0, 7]);
+        assert_eq!(log.as_bytes(), [4, 3, 2, 1, 0, 9, 255, 1, 255, 255, 0, 7, 9, 0, 0, 0]);
+        assert_eq!(log.as_bytes().len(), Log::ENTRY);
         log.push_sides(5, 6, [Side::Keep; 6]);
         assert_eq!(log.len(), 2);
         log.clear();
@@ -134,26 +139,28 @@ mod tests {
         use Side::*;
         let beside = [None, Some(1), None, Some(254), Some(0), None];
         let pushed = |change| bytes_of(|log| log.push(change, 0x0102, 3, beside));
-        assert_eq!(pushed(VoxelChange::Broken), [2, 1, 0, 0, 0, 3, 255, 1, 255, 254, 0, 255]);
-        assert_eq!(pushed(VoxelChange::Added), [2, 1, 0, 0, 1, 3, 255, 1, 255, 254, 0, 255]);
-        assert_eq!(pushed(VoxelChange::CullFaces), [2, 1, 0, 0, 2, 3, 0, 1, 0, 1, 1, 0]);
-        assert_eq!(pushed(VoxelChange::AddFaces), [2, 1, 0, 0, 2, 3, 0, 2, 0, 2, 2, 0]);
+        assert_eq!(pushed(VoxelChange::Broken), [2, 1, 0, 0, 0, 3, 255, 1, 255, 254, 0, 255, 3, 0, 0, 0]);
+        assert_eq!(pushed(VoxelChange::Added), [2, 1, 0, 0, 1, 3, 255, 1, 255, 254, 0, 255, 255, 0, 0, 0]);
+        assert_eq!(pushed(VoxelChange::Replaced { former: 6 }), [2, 1, 0, 0, 3, 3, 255, 1, 255, 254, 0, 255, 6, 0, 0, 0]);
+        assert_eq!(pushed(VoxelChange::CullFaces), [2, 1, 0, 0, 2, 3, 0, 1, 0, 1, 1, 0, 255, 0, 0, 0]);
+        assert_eq!(pushed(VoxelChange::AddFaces), [2, 1, 0, 0, 2, 3, 0, 2, 0, 2, 2, 0, 255, 0, 0, 0]);
         let sides = bytes_of(|log| log.push_sides(0x0908_0706, 5, [Draw, Hide, Keep, Keep, Hide, Draw]));
-        assert_eq!(sides, [6, 7, 8, 9, 2, 5, 2, 1, 0, 0, 1, 2]);
+        assert_eq!(sides, [6, 7, 8, 9, 2, 5, 2, 1, 0, 0, 1, 2, 255, 0, 0, 0]);
     }
 
-    /// The voxel and the neighbour's byte, where the neighbour's code can be a type's, where it can't, and where none is given.
+    /// The voxel, the neighbour's byte and the former voxel, where the neighbour's code can be a type's, where it can't, and where none is given.
     #[test]
     fn a_neighbour_of_code_255_is_no_type_where_types_count() {
         for (change, due) in [
-            (VoxelChange::Broken, [[3, 254], [255, 255], [3, 255]]),
-            (VoxelChange::Added, [[3, 254], [255, 255], [3, 255]]),
-            (VoxelChange::CullFaces, [[3, 1], [3, 1], [3, 0]]),
-            (VoxelChange::AddFaces, [[3, 2], [3, 2], [3, 0]]),
+            (VoxelChange::Broken, [[3, 254, 3], [255, 255, 255], [3, 255, 3]]),
+            (VoxelChange::Added, [[3, 254, 255], [255, 255, 255], [3, 255, 255]]),
+            (VoxelChange::Replaced { former: 4 }, [[3, 254, 4], [255, 255, 4], [3, 255, 4]]),
+            (VoxelChange::CullFaces, [[3, 1, 255], [3, 1, 255], [3, 0, 255]]),
+            (VoxelChange::AddFaces, [[3, 2, 255], [3, 2, 255], [3, 0, 255]]),
         ] {
             let told = [Some(254), Some(255), None].map(|beside| {
                 let bytes = bytes_of(|log| log.push(change, 0, 3, [None, None, beside, None, None, None]));
-                [bytes[5], bytes[8]]
+                [bytes[5], bytes[8], bytes[12]]
             });
             assert_eq!(told, due);
         }

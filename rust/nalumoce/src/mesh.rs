@@ -77,8 +77,27 @@ pub struct MeshMD {
 }
 
 impl MeshMD {
-    /// Logs a change, as in Meshem: the cell, the voxel that was broken or added there, and what stands around it by face as the
+    /// Logs a change, as in Meshem: the cell, the voxel that was broken or put there, and what stands around it by face as the
     /// grid is at that moment ([`neighboring_voxels`](crate::neighboring_voxels)). [`update_mesh`] or [`mend_mesh`] does it.
+    ///
+    /// Meshem has no [`Replaced`](VoxelChange::Replaced). There a voxel that takes the place of another is `Broken` and then `Added`. Here one
+    /// entry says it, with the former voxel:
+    ///
+    /// ```
+    /// # use nalumoce::*;
+    /// # let mut registry = VoxelRegistry::new([1.0; 3], [0.0; 3], false);
+    /// # let texture = Face::ALL.map(|face| (face, [0, 0]));
+    /// # let cube = generate_voxel_mesh([1.0; 3], [1, 1], texture, [0.0; 3], 0.0, None, 1.0)?;
+    /// let clay = registry.add(VoxelMesh::NormalCube(&cube), Sides::ALL)?;
+    /// let gravel = registry.add(VoxelMesh::NormalCube(&cube), Sides::NONE)?;
+    /// let mut grid = [clay, clay];
+    /// let (mut mesh, mut metadata) = mesh_grid((2, 1, 1), &[], &grid, &registry, MeshingAlgorithm::Culling)?;
+    /// metadata.log(VoxelChange::Replaced { former: clay }, 0, gravel, neighboring_voxels(&grid, 0, metadata.dims));
+    /// grid[0] = gravel;
+    /// assert_eq!(update_mesh(&mut mesh, &mut metadata, &registry)?.quads, 11); // gravel covers nothing here: the clay's Left shows
+    /// check_mesh(&mesh, &metadata, &[], &grid, &registry)?;
+    /// # Ok::<(), Refusal>(())
+    /// ```
     pub fn log(&mut self, voxel_change: VoxelChange, voxel_index: usize, voxel: u8, neighboring_voxels: [Option<u8>; 6]) {
         self.log.push(voxel_change, voxel_index, voxel, neighboring_voxels);
     }
@@ -209,8 +228,8 @@ fn same_attributes(mesh: &Mesh, reg: &VoxelRegistry) -> Result<(), Refusal> {
 
 /// Mends a mesh by the changes logged, as Meshem does, and empties the log. The lists grow if they must.
 ///
-/// Added takes the neighbour's quad at a face if the voxel covers the opposite of that face. That is Meshem's rule, and wrong for
-/// slabs: [`mend_mesh`] has the right one.
+/// Added and Replaced take the neighbour's quad at a face if the new voxel covers the opposite of that face. That is Meshem's rule, and wrong
+/// for slabs: [`mend_mesh`] has the right one.
 ///
 /// ```
 /// # use nalumoce::*;
@@ -247,8 +266,8 @@ pub fn update_mesh(mesh: &mut Mesh, metadata: &mut MeshMD, reg: &VoxelRegistry) 
 
 /// Mends a mesh by the changes logged, slabs too, and empties the log.
 ///
-/// It is [`update_mesh`] but for one thing: Added takes the neighbour's quad at a face if the voxel covers that face itself. So a slab
-/// that covers its underside hides the ground beneath it, and nothing above it.
+/// It is [`update_mesh`] but for one thing: Added and Replaced take the neighbour's quad at a face if the new voxel covers that face itself. So
+/// a slab that covers its underside hides the ground beneath it, and nothing above it.
 ///
 /// ```
 /// # use nalumoce::*;
@@ -275,8 +294,9 @@ pub fn update_mesh(mesh: &mut Mesh, metadata: &mut MeshMD, reg: &VoxelRegistry) 
 /// call shows which of the two it is. A setting would have to be made again for each chunk, and one forgotten would not be noticed.
 ///
 /// What is proved of the library: a mesh that passes [`check_mesh`] with no outer layer passes it again for the new grid, if the log is
-/// of Added and Broken alone, each entry true of the grid at its moment, where Added puts a cube into a cell that held a Null covering
-/// nothing, and Broken leaves the lowest such type. Of [`update_mesh`] that is proved if the cubes added cover opposite sides alike.
+/// of Added, Broken and Replaced alone, each entry true of the grid at its moment, where Added puts a cube into a cell that held a Null covering
+/// nothing, Broken leaves the lowest such type, and Replaced names what the cell held and puts a cube. Of [`update_mesh`] that is proved if the
+/// cubes put cover opposite sides alike.
 ///
 /// # Errors
 ///

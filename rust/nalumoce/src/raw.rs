@@ -81,7 +81,7 @@ pub fn meshem_abi() -> u32 {
     unsafe { meshem_abi() }
 }
 
-/// The side of an Added voxel that decides whether the neighbour at a face loses its facing quad.
+/// The side of an Added or Replaced voxel that decides whether the neighbour at a face loses its facing quad.
 #[derive(Clone, Copy)]
 pub(crate) enum Tested {
     /// The opposite of the face, as Meshem does.

@@ -40,7 +40,7 @@ reasons! {
     BadCount "BAD_COUNT" 10 "the mesh is said to have more quads than its lists hold";
     BadLinks "BAD_LINKS" 11 "place: the lowest quad whose link and slot disagree; the count of quads if more slots are filled";
     BadTriangles "BAD_TRIANGLES" 12 "place: the lowest quad whose triangle words are not its own";
-    BadEntry "BAD_ENTRY" 13 "place: the lowest log entry with a cell, change, type, neighbour or side that is none, or past 16,777,216 entries";
+    BadEntry "BAD_ENTRY" 13 "place: the lowest log entry with a cell, change, type, neighbour, side or former type that is none, or past 16,777,216 entries";
     NoRoom "NO_ROOM" 14 "more quads are needed than the lists hold; an update tells its entry, and keeps those before it";
     WrongSet "WRONG_SET" 15 "the check: place is the lowest 6 · cell + face that is missing or should not be there";
     WrongVertex "WRONG_VERTEX" 16 "the check: place is the first quad with a float that differs in a bit";

@@ -125,6 +125,11 @@ fn starts(metadata: &MeshMD) -> Vec<Option<u32>> {
     (0..width * height * length).flat_map(of_cell).collect()
 }
 
+/// All there is of a mesh.
+fn whole(mesh: &Mesh, metadata: &MeshMD) -> impl PartialEq + std::fmt::Debug {
+    (attributes(mesh), mesh.indices().to_vec(), links(mesh, metadata), starts(metadata))
+}
+
 /// Of ten quads Top and Left of cell 0 go, each for the last one. Right comes from a cube alone; Back is there already.
 #[test]
 fn sides_in_one_entry_are_cull_faces_and_then_add_faces() {
@@ -149,8 +154,48 @@ fn sides_in_one_entry_are_cull_faces_and_then_add_faces() {
                 }
             }
             assert_eq!(moved, 2);
-            assert_eq!((attributes(&other), other.indices()), (attributes(&mesh), mesh.indices()));
-            assert_eq!((links(&other, &of_other), starts(&of_other)), (links(&mesh, &metadata), starts(&metadata)));
+            assert_eq!(whole(&other, &of_other), whole(&mesh, &metadata));
+        }
+    }
+}
+
+type Update = fn(&mut Mesh, &mut MeshMD, &VoxelRegistry) -> Result<Updated, Refusal>;
+
+/// The middle one of three in a column, of any type that it is said to have been, becomes any other. Each update does it as it does the two entries.
+#[test]
+fn a_voxel_replaced_in_one_entry_is_broken_and_then_added() {
+    let (registry, dims, grid) = (registry(), (1, 3, 1), [ROCK, ROCK, SLAB]);
+    let around = neighboring_voxels(&grid, 1, dims);
+    let updated = |update: Update, log: &[(VoxelChange, u8)]| {
+        let (mut mesh, mut metadata) = meshed(dims, &grid);
+        log.iter().for_each(|&(change, voxel)| metadata.log(change, 1, voxel, around));
+        assert_eq!(metadata.logged().len(), log.len());
+        (update(&mut mesh, &mut metadata, &registry).unwrap(), whole(&mesh, &metadata))
+    };
+    for update in [update_mesh as Update, mend_mesh] {
+        for former in [AIR, ROCK, SLAB] {
+            for voxel in [AIR, ROCK, SLAB] {
+                let one = [(VoxelChange::Replaced { former }, voxel)];
+                let two = [(VoxelChange::Broken, former), (VoxelChange::Added, voxel)];
+                assert_eq!(updated(update, &one), updated(update, &two));
+            }
+        }
+    }
+}
+
+/// Of ten quads of two rocks cell 0's five go, by which 14 move; the other's Left comes; five come if cell 0 is a cube then; the other's Left goes if it is
+/// rock, and five move. Each time the mesh is the new grid's.
+#[test]
+fn rock_replaced_by_each_type() {
+    let (registry, dims) = (registry(), (2, 1, 1));
+    for (voxel, quads, moved) in [(AIR, 6, 14), (ROCK, 10, 19), (SLAB, 11, 14)] {
+        for update in [update_mesh as Update, mend_mesh] {
+            let mut grid = [ROCK; 2];
+            let (mut mesh, mut metadata) = meshed(dims, &grid);
+            metadata.log(VoxelChange::Replaced { former: ROCK }, 0, voxel, neighboring_voxels(&grid, 0, dims));
+            grid[0] = voxel;
+            assert_eq!(update(&mut mesh, &mut metadata, &registry), Ok(Updated { quads, moved }));
+            assert_eq!(check_mesh(&mesh, &metadata, &[], &grid, &registry), Ok(()));
         }
     }
 }
@@ -159,12 +204,12 @@ fn sides_in_one_entry_are_cull_faces_and_then_add_faces() {
 fn sides_that_are_all_kept_change_nothing() {
     let registry = registry();
     let (mut mesh, mut metadata) = meshed((2, 1, 1), &[ROCK; 2]);
-    let before = (attributes(&mesh), links(&mesh, &metadata), starts(&metadata));
+    let before = whole(&mesh, &metadata);
     metadata.log_sides(1, ROCK, [Side::Keep; 6]);
     metadata.log(VoxelChange::CullFaces, 1, ROCK, [None; 6]);
     metadata.log(VoxelChange::AddFaces, 1, ROCK, [None; 6]);
     assert_eq!(mend_mesh(&mut mesh, &mut metadata, &registry), Ok(Updated { quads: 10, moved: 0 }));
-    assert_eq!((attributes(&mesh), links(&mesh, &metadata), starts(&metadata)), before);
+    assert_eq!(whole(&mesh, &metadata), before);
 }
 
 /// The middle one of three has four quads of fourteen. One that goes makes room for one, and not for two; then it stays.
@@ -184,6 +229,32 @@ fn sides_are_done_completely_or_not_at_all() {
     log.push_sides(1, ROCK, [Hide, Keep, Draw, Keep, Keep, Keep]);
     let done = Updated { quads: 14, moved: 1 };
     assert_eq!(lent::update_mesh(&mut kept.room(), 14, dims, &log, &registry), Ok(done));
+}
+
+/// Three rocks, fourteen quads, and room for that many. One is hidden: the last takes its place, thirteen. The middle one is replaced: its four go, and
+/// two come, for which there is room; four more, if it is a cube, are one too many.
+#[test]
+fn replaced_is_done_completely_or_not_at_all() {
+    use Side::*;
+    let (registry, dims, grid) = (registry(), (3, 1, 1), [ROCK; 3]);
+    let updated = |room: usize, voxel: Option<u8>| {
+        let mut kept = Kept::new(room, 3);
+        assert_eq!(lent::mesh_grid(dims, &[], &grid, &registry, MeshingAlgorithm::Culling, &mut kept.room()), Ok(14));
+        let mut log = Log::new();
+        log.push_sides(0, ROCK, [Hide, Keep, Keep, Keep, Keep, Keep]);
+        if let Some(voxel) = voxel {
+            log.push(VoxelChange::Replaced { former: ROCK }, 1, voxel, neighboring_voxels(&grid, 1, dims));
+        }
+        (lent::update_mesh(&mut kept.room(), 14, dims, &log, &registry), kept)
+    };
+    let (first, left) = updated(14, None);
+    let kept = Updated { quads: 13, moved: 1 };
+    assert_eq!(first, Ok(kept));
+    for voxel in [ROCK, SLAB] {
+        assert_eq!(updated(14, Some(voxel)), (Err(UpdateError::NoRoom { entry: 1, kept }), left.clone()));
+    }
+    let quads = |room, voxel| updated(room, Some(voxel)).0.map(|updated| updated.quads);
+    assert_eq!((quads(15, ROCK), quads(15, SLAB), quads(14, AIR)), (Ok(13), Ok(15), Ok(11)));
 }
 
 #[test]
@@ -245,6 +316,9 @@ fn a_refused_log_is_kept_and_nothing_is_done() {
         (0, 3, [None; 6]),
         (0, ROCK, [None, None, Some(255), None, None, None]),
     ];
+    let changes = [VoxelChange::Broken, VoxelChange::Added, VoxelChange::Replaced { former: SLAB }];
+    let mut bad: Vec<_> = bad.iter().flat_map(|&bad| changes.map(|change| (change, bad))).collect();
+    bad.extend([3, 254, 255].map(|former| (VoxelChange::Replaced { former }, (0, ROCK, [None; 6]))));
     let kept_sides = |metadata: &mut MeshMD, cell: usize, voxel: u8| metadata.log_sides(cell, voxel, [Side::Keep; 6]);
     for (cell, voxel) in [(2, ROCK), (usize::MAX, ROCK), (0, 3), (0, 255)] {
         kept_sides(&mut metadata, 1, SLAB);
@@ -252,9 +326,9 @@ fn a_refused_log_is_kept_and_nothing_is_done() {
         assert_eq!(refused(update_mesh(&mut mesh, &mut metadata, &registry)), (Reason::BadEntry, 1));
         metadata.clear_log();
     }
-    for (cell, voxel, around) in bad {
+    for (change, (cell, voxel, around)) in bad {
         metadata.log(VoxelChange::Broken, 0, ROCK, neighboring_voxels(&grid, 0, (2, 1, 1)));
-        metadata.log(VoxelChange::Broken, cell, voxel, around);
+        metadata.log(change, cell, voxel, around);
         assert_eq!(refused(update_mesh(&mut mesh, &mut metadata, &registry)), (Reason::BadEntry, 1));
         assert_eq!((attributes(&mesh), metadata.logged().len()), (before.clone(), 2));
         metadata.clear_log();

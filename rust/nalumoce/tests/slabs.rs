@@ -38,12 +38,13 @@ fn meshed(dims: Dimensions, grid: &[u8], registry: &VoxelRegistry) -> (Mesh, Mes
     mesh_grid(dims, &[], grid, registry, MeshingAlgorithm::Culling).unwrap()
 }
 
-/// Logs a voxel for a cell, as the grid is, and puts it there.
+/// Logs a voxel for a cell, as the grid is, and puts it there: it is dug, put into air, or takes the place of another.
 fn put(metadata: &mut MeshMD, grid: &mut [u8], cell: usize, voxel: u8) {
     let around = neighboring_voxels(grid, cell, metadata.dims);
-    match voxel {
-        AIR => metadata.log(VoxelChange::Broken, cell, grid[cell], around),
-        _ => metadata.log(VoxelChange::Added, cell, voxel, around),
+    match (grid[cell], voxel) {
+        (former, AIR) => metadata.log(VoxelChange::Broken, cell, former, around),
+        (AIR, _) => metadata.log(VoxelChange::Added, cell, voxel, around),
+        (former, _) => metadata.log(VoxelChange::Replaced { former }, cell, voxel, around),
     }
     grid[cell] = voxel;
 }
@@ -99,6 +100,24 @@ fn a_slab_and_a_panel_added_above_rock() {
     assert_eq!(meshed(dims, &[ROCK, PANEL], &registry).0.quads(), 11);
     assert_eq!(above_rock(PANEL, update_mesh), (10, Err(the_rocks_top)));
     assert_eq!(above_rock(PANEL, mend_mesh), (11, Ok(())));
+}
+
+/// A slab for a panel above rock, and the reverse: the rock's top goes and comes.
+#[test]
+fn a_slab_and_a_panel_replaced_above_rock() {
+    let (registry, dims) = (registry(), (1, 2, 1));
+    for (former, voxel, quads) in [(PANEL, SLAB, 10), (SLAB, PANEL, 11), (ROCK, PANEL, 11), (ROCK, SLAB, 10), (PANEL, ROCK, 10)] {
+        let mut grid = [ROCK, former];
+        let (mut mesh, mut metadata) = meshed(dims, &grid, &registry);
+        let (mut source, mut of_source) = (mesh.clone(), metadata.clone());
+        put(&mut metadata, &mut grid.clone(), 1, voxel);
+        put(&mut of_source, &mut grid, 1, voxel);
+        assert_eq!(mend_mesh(&mut mesh, &mut metadata, &registry).unwrap().quads, quads);
+        assert_eq!(check_mesh(&mesh, &metadata, &[], &grid, &registry), Ok(()));
+        // Meshem's rule is right of rock alone
+        update_mesh(&mut source, &mut of_source, &registry).unwrap();
+        assert_eq!(check_mesh(&source, &of_source, &[], &grid, &registry).is_ok(), voxel == ROCK);
+    }
 }
 
 #[test]
@@ -186,37 +205,70 @@ fn every_set() -> VoxelRegistry {
     registry
 }
 
+/// The codes of `every_set` whose cubes cover 0 as 1, 2 as 3 and 4 as 5.
+fn alike() -> Vec<u8> {
+    let alike: Vec<u8> = (0..64).filter(|set| set & 21 == set >> 1 & 21).map(|set| 1 + set).collect();
+    assert_eq!(alike.len(), 8);
+    alike
+}
+
+/// Half the entries dig, or put into air; half put another voxel in the place of one, or of air.
 #[test]
-fn a_true_log_of_any_cubes_is_mended() {
+fn a_true_log_is_mended_of_any_cubes_and_updated_of_those_that_cover_alike() {
     let (registry, dims, mut dice) = (every_set(), (5, 4, 3), Dice(1));
-    for _ in 0..50 {
-        let mut grid: Vec<u8> = (0..60).map(|_| dice.below(130).saturating_sub(65) as u8).collect();
-        let (mut mesh, mut metadata) = meshed(dims, &grid, &registry);
-        for _ in 0..40 {
-            let cell = dice.below(60);
-            let voxel = if grid[cell] == AIR { 1 + dice.below(64) as u8 } else { AIR };
-            put(&mut metadata, &mut grid, cell, voxel);
+    let any: Vec<u8> = (1..65).collect();
+    for (update, cubes) in [(mend_mesh as Update, any), (update_mesh, alike())] {
+        for _ in 0..50 {
+            let mut grid: Vec<u8> = (0..60).map(|_| dice.below(130).saturating_sub(65) as u8).collect();
+            let (mut mesh, mut metadata) = meshed(dims, &grid, &registry);
+            for _ in 0..40 {
+                let (cell, cube) = (dice.below(60), dice.one_of(&cubes));
+                if dice.below(2) == 0 {
+                    let former = std::mem::replace(&mut grid[cell], cube);
+                    metadata.log(VoxelChange::Replaced { former }, cell, cube, neighboring_voxels(&grid, cell, dims));
+                } else {
+                    let voxel = if grid[cell] == AIR { cube } else { AIR };
+                    put(&mut metadata, &mut grid, cell, voxel);
+                }
+            }
+            update(&mut mesh, &mut metadata, &registry).unwrap();
+            assert_eq!(check_mesh(&mesh, &metadata, &[], &grid, &registry), Ok(()));
         }
-        mend_mesh(&mut mesh, &mut metadata, &registry).unwrap();
-        assert_eq!(check_mesh(&mesh, &metadata, &[], &grid, &registry), Ok(()));
     }
+}
+
+/// No type is empty: what is replaced is true all the same.
+#[test]
+fn cubes_are_replaced_without_air_in_the_registry() {
+    let mut registry = VoxelRegistry::new([1.0; 3], [0.0; 3], false);
+    for covers in [Sides::ALL, only(Face::Bottom), Sides::NONE] {
+        registry.add(VoxelMesh::NormalCube(&cube_between(-0.5, 0.5, None)), covers).unwrap();
+    }
+    let (dims, mut grid) = ((2, 3, 2), [0; 12]);
+    let (mut mesh, mut metadata) = meshed(dims, &grid, &registry);
+    for (cell, voxel) in [(4, 1), (5, 2), (8, 1), (4, 2), (0, 1), (5, 0), (8, 0), (7, 1)] {
+        let former = std::mem::replace(&mut grid[cell], voxel);
+        metadata.log(VoxelChange::Replaced { former }, cell, voxel, neighboring_voxels(&grid, cell, dims));
+    }
+    assert_eq!(mend_mesh(&mut mesh, &mut metadata, &registry).unwrap().quads, meshed(dims, &grid, &registry).0.quads());
+    assert_eq!(check_mesh(&mesh, &metadata, &[], &grid, &registry), Ok(()));
 }
 
 /// Of any log, true of the grid or not, whose added voxels cover 0 as 1, 2 as 3 and 4 as 5.
 #[test]
 fn what_covers_opposite_sides_alike_is_updated_alike() {
     let (registry, dims, mut dice) = (every_set(), (5, 4, 3), Dice(2));
-    let alike: Vec<u8> = (0..64).filter(|set| set & 21 == set >> 1 & 21).map(|set| 1 + set).collect();
-    assert_eq!(alike.len(), 8);
+    let alike = alike();
     for _ in 0..50 {
         let grid: Vec<u8> = (0..60).map(|_| dice.below(65) as u8).collect();
         let mut log = Log::new();
         for _ in 0..40 {
             let around = Face::ALL.map(|_| Some(dice.below(66) as u8).filter(|&voxel| voxel < 65));
-            let (change, voxel) = match dice.below(5) {
+            let (change, voxel) = match dice.below(7) {
                 0 => (VoxelChange::Broken, dice.below(65) as u8),
                 1 => (VoxelChange::CullFaces, dice.below(65) as u8),
                 2 => (VoxelChange::AddFaces, dice.below(65) as u8),
+                3 | 4 => (VoxelChange::Replaced { former: dice.below(65) as u8 }, dice.one_of(&alike)),
                 _ => (VoxelChange::Added, dice.one_of(&alike)),
             };
             log.push(change, dice.below(60), voxel, around);
@@ -230,9 +282,9 @@ fn what_covers_opposite_sides_alike_is_updated_alike() {
     }
 }
 
-/// Of any log: an entry of sides, and the two that Meshem has for it.
+/// Of any log: an entry of sides or one that replaces, and the two that Meshem has for it.
 #[test]
-fn sides_do_what_meshems_two_changes_do() {
+fn one_entry_does_what_meshems_two_do() {
     let (registry, dims, mut dice) = (every_set(), (5, 4, 3), Dice(3));
     let mut moved = 0;
     for _ in 0..50 {
@@ -240,11 +292,16 @@ fn sides_do_what_meshems_two_changes_do() {
         let (mut ours, mut meshems) = (Log::new(), Log::new());
         for _ in 0..40 {
             let (cell, voxel) = (dice.below(60), dice.below(65) as u8);
-            if dice.below(3) == 0 {
-                let around = Face::ALL.map(|_| Some(dice.below(66) as u8).filter(|&voxel| voxel < 65));
+            let around = Face::ALL.map(|_| Some(dice.below(66) as u8).filter(|&voxel| voxel < 65));
+            if dice.below(4) == 0 {
                 let change = dice.one_of(&[VoxelChange::Broken, VoxelChange::Added]);
                 ours.push(change, cell, voxel, around);
                 meshems.push(change, cell, voxel, around);
+            } else if dice.below(2) == 0 {
+                let former = dice.below(65) as u8;
+                ours.push(VoxelChange::Replaced { former }, cell, voxel, around);
+                meshems.push(VoxelChange::Broken, cell, former, around);
+                meshems.push(VoxelChange::Added, cell, voxel, around);
             } else {
                 let sides = Face::ALL.map(|_| dice.one_of(&[Side::Keep, Side::Hide, Side::Draw]));
                 ours.push_sides(cell, voxel, sides);
@@ -253,13 +310,15 @@ fn sides_do_what_meshems_two_changes_do() {
                 }
             }
         }
-        let updated = |log: &Log| {
-            let mut kept = Kept::new(360, 60);
-            let quads = lent::mesh_grid(dims, &[], &grid, &registry, MeshingAlgorithm::Culling, &mut kept.room()).unwrap();
-            (lent::mend_mesh(&mut kept.room(), quads, dims, log, &registry).unwrap(), kept)
-        };
-        assert_eq!(updated(&ours), updated(&meshems));
-        moved += updated(&ours).0.moved;
+        for update in [lent::update_mesh as LentUpdate, lent::mend_mesh] {
+            let updated = |log: &Log| {
+                let mut kept = Kept::new(360, 60);
+                let quads = lent::mesh_grid(dims, &[], &grid, &registry, MeshingAlgorithm::Culling, &mut kept.room()).unwrap();
+                (update(&mut kept.room(), quads, dims, log, &registry).unwrap(), kept)
+            };
+            assert_eq!(updated(&ours), updated(&meshems));
+            moved += updated(&ours).0.moved;
+        }
     }
     assert!(moved > 0);
 }

@@ -316,6 +316,45 @@ fn an_updates_words() {
     }
 }
 
+/// The rock at the edge becomes a slab. Its four quads, 5 to 8, go: the last takes the place of two, then five and four shift. The Right behind it comes. The slab's five
+/// come last, Right too, which the fresh mesh was told to leave out. Its Bottom, which it covers, has no neighbour, nor a quad above it.
+#[rustfmt::skip]
+const WITH_THE_EDGE_REPLACED: [(usize, Face); 17] = [
+    (7, Top), (7, Bottom), (7, Left), (7, Back), (7, Forward), (15, Forward), (15, Back),
+    (15, Top), (15, Bottom), (15, Right), (15, Left), (7, Right),
+    (8, Top), (8, Bottom), (8, Right), (8, Back), (8, Forward),
+];
+
+/// In the room that it needs, and in one less, in which nothing changes.
+#[test]
+fn a_replaced_voxels_words() {
+    let (sides, grid) = (WITH_THE_EDGE_REPLACED, grid_of(&[(7, ROCK), (8, SLAB), (15, SLAB)]));
+    let mut log = Log::new();
+    let around = [Some(AIR), None, None, Some(ROCK), Some(AIR), Some(AIR)];
+    log.push(VoxelChange::Replaced { former: ROCK }, 8, SLAB, around);
+    for coloured in [false, true] {
+        let registry = registry_of(D, CENTRE, coloured);
+        for update in [lent::update_mesh as LentUpdate, lent::mend_mesh] {
+            let fresh = meshed(MeshingAlgorithm::Culling, &registry).0;
+            for room in [sides.len(), sides.len() - 1] {
+                let mut kept = fresh.clone();
+                kept.links.truncate(room);
+                let mut due = if room < sides.len() { fresh.clone() } else { lists_due(&sides, sides.len(), &grid, coloured) };
+                due.links.truncate(room);
+                let answer = update(&mut kept.room(), FRESH.len(), DIMS, &log, &registry);
+                hold(&kept, &due);
+                if room < sides.len() {
+                    let kept = Updated { quads: FRESH.len(), moved: 0 };
+                    assert_eq!(answer, Err(UpdateError::NoRoom { entry: 0, kept }));
+                } else {
+                    assert_eq!(answer, Ok(Updated { quads: sides.len(), moved: 11 }));
+                    assert_eq!(lent::check_mesh(DIMS, &[], &grid, &registry, kept.lists(), sides.len()), Ok(()));
+                }
+            }
+        }
+    }
+}
+
 fn exchanged<T: Copy>(numbers: [T; 3], i: usize) -> [T; 3] {
     let mut numbers = numbers;
     numbers.swap(i, (i + 1) % 3);
