@@ -4,6 +4,7 @@ Run what imports it at the repository's root.
 """
 import struct
 
+from entries import ENTRY_BYTES
 from sure import sure
 
 CUBE, REGISTRY, GRID = 1, 2, 3
@@ -61,7 +62,7 @@ def grid(r, types):
     m = dict(types, dims=r.many(3), culling=r.one() == 1)
     outer, cells, entries = r.many(3)
     m.update(outer=list(r.bytes(outer)), grid=list(r.bytes(cells)))
-    log = r.bytes(12 * entries)
+    log = r.bytes(ENTRY_BYTES * entries)
     return m, log, mesh(r, m), mesh(r, m)
 
 
@@ -70,7 +71,7 @@ def answers():
     with open("oracle/vectors/rust_answers.bin", "rb") as file:
         data = file.read()
     words = Reader(list(struct.unpack("<%dI" % (len(data) // 4), data)))
-    sure(words.many(2) == [int.from_bytes(b"MSHS", "little"), 3])
+    sure(words.many(2) == [int.from_bytes(b"MSHS", "little"), 4])
     cubes, grids, types = [], [], None
     for _ in range(words.one()):
         tag = words.one()
