@@ -393,10 +393,10 @@ fn replaced_by_no_cube_that_does_nothing_is_told() {
 fn moves_of_half_a_replaced_entry_are_told() {
     let update = |case: &Case, room: &mut Words, count: u64| {
         by_entry(case, room, count, |one, room, quads| {
-            let done = Plain.update_mesh(one, &mut room.clone(), quads);
             let first = Case { log: halves(&one.log)[0].clone(), ..one.clone() };
             let moved = if is_replaced(&one.log) { Plain.update_mesh(&first, &mut room.clone(), quads).moved } else { 0 };
-            Answer { moved: done.moved - moved, ..Plain.update_mesh(one, room, quads) }
+            let done = Plain.update_mesh(one, room, quads);
+            Answer { moved: done.moved.saturating_sub(moved), ..done }
         })
     };
     assert_told_by(&[WHOLE, FAULTY, MENDED, LITTLE_ROOM], Reading { update, ..RIGHT });
