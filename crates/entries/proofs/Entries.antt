@@ -1,7 +1,7 @@
 -- Laws of log entries. Assumes nothing.
 use mathlib.Core.Path.{_≡_, refl, sym, ap, _∙_}
 use mathlib.Core.Logic.{_≢_}
-use mathlib.Core.Bool.{Bool, true, false, not, _&&_}
+use mathlib.Core.Bool.{Bool, true, false, cond, not, _&&_}
 use mathlib.Core.List.{List, [], _∷_}
 use Prim.Native.Nat.{ℕ, zero, suc, _+_, _-_, _%_, _≤_, _<_, min}
 use native.Mathlib.Omega.{arith}
@@ -12,7 +12,7 @@ use lib.Dec.{eqb, leb, ltb}
 use borrow.Author.Tests.{lt-ltb, le-ltb, leb-true, leb-false, eqb-true, eqb-false, ne-eqb}
 use Rattle.rules.specs.Lists.{each, table, part, every, lowestFrom}
 use Rattle.rules.specs.Update as rule
-use Rattle.rules.specs.Answers.{badNeighbour}
+use Rattle.rules.specs.Answers.{badNeighbour, badFormerBy}
 use Rattle.rules.proofs.ListLaws.{getD-table, table-is}
 use Rattle.vav.proofs.Laws.{length-part, part-at}
 use Rattle.entries.specs.declared.Entry.{Entry}
@@ -24,6 +24,19 @@ change-last zero a b c = absurd (a refl)
 change-last (suc zero) a b c = absurd (b refl)
 change-last (suc (suc zero)) a b c = absurd (c refl)
 change-last (suc (suc (suc n))) a b c = refl
+
+-- the former type of a change that is not Replaced, and of Replaced
+pub former-own : (types type former n : ℕ) → n < 3 → not (eqb former (cond (eqb n 0) type 255)) ≡ badFormerBy types type former (rule.changeOf n)
+former-own types type former zero h = refl
+former-own types type former (suc zero) h = refl
+former-own types type former (suc (suc zero)) h = refl
+former-own types type former (suc (suc (suc n))) h = absurd (omega arith)
+
+pub former-last : (types type former n : ℕ) → 3 ≤ n → leb types former ≡ badFormerBy types type former (rule.changeOf n)
+former-last types type former zero h = absurd (omega arith)
+former-last types type former (suc zero) h = absurd (omega arith)
+former-last types type former (suc (suc zero)) h = absurd (omega arith)
+former-last types type former (suc (suc (suc n))) h = refl
 
 -- a byte that says neither
 pub side-kept : (n : ℕ) → n ≢ 1 → n ≢ 2 → Keep ≡ sideOf n

@@ -3,9 +3,10 @@ use face::Cell;
 use face::Face;
 use std::num::wrapping_add_u8;
 ghost use mathlib.Core.Path.{_≡_};
+ghost use mathlib.Core.Bool.{cond};
 ghost use Prim.Native.Nat.{_+_, _-_, _*_, _/_, _≤_, _<_, min};
 ghost use lib.ListN.{length};
-ghost use lib.Dec.{ltb};
+ghost use lib.Dec.{eqb, ltb};
 ghost use Rattle.rules.specs.Lists.{lowest};
 ghost use Rattle.rules.specs.Update.{BYTES, u32At, changeOf, entryAt, givenAt};
 ghost use Rattle.rules.specs.Answers.{badNeighbour, badNeighbours, badSides, badBytes, badFormerBy, badSpare, badEntry};
@@ -42,6 +43,8 @@ pub struct Entry {
 }
 
 impl VoxelChange {
+    pub const BROKEN: u8 = 0;
+
     pub const SIDES: u8 = 2;
 
     // The highest code.
@@ -197,16 +200,25 @@ fn bad_bytes(log: &[u8], at: usize, types: u32) -> bool
     bad_neighbours(log, at, types)
 }
 
-// Whether the former type is none that the change takes.
-fn bad_former(change: VoxelChange, voxel: u8, former: u8, types: u32) -> bool
-    ensures { λ r. ⌜ r ≡ badFormerBy types voxel former (changeIn change) ⌝ }
+// The former type of a change that is not Replaced.
+fn own_former(code: u8, voxel: u8) -> u8
+    ensures { λ r. ⌜ r ≡ cond (eqb code 0) voxel 255 ⌝ }
 {
-    match change {
-        VoxelChange::Broken => former != voxel,
-        VoxelChange::Added => former != Entry::NO_TYPE,
-        VoxelChange::Sides => former != Entry::NO_TYPE,
-        VoxelChange::Replaced => types <= former as u32,
+    if code == VoxelChange::BROKEN {
+        voxel
+    } else {
+        Entry::NO_TYPE
     }
+}
+
+// Whether the former type is none that the change takes. By the code, which asks for no jump.
+fn bad_former(code: u8, voxel: u8, former: u8, types: u32) -> bool
+    ensures { λ r. ⌜ r ≡ badFormerBy types voxel former (changeOf code) ⌝ }
+{
+    if code < VoxelChange::REPLACED {
+        return former != own_former(code, voxel);
+    }
+    types <= former as u32
 }
 
 // Whether one of the last three bytes is not zero.
@@ -227,12 +239,7 @@ fn bad_entry(log: &[u8], k: usize, cells: u32, types: u32) -> bool
         | (VoxelChange::REPLACED < log[at + 4])
         | (types <= wide_byte(log[at + 5]))
         | bad_bytes(log, at, types)
-        | bad_former(
-            VoxelChange::from_u8(log[at + 4]),
-            log[at + 5],
-            log[at + 12],
-            types,
-        )
+        | bad_former(log[at + 4], log[at + 5], log[at + 12], types)
         | bad_spare(log, at)
 }
 

@@ -12,7 +12,6 @@ use Rattle.rules.specs.Mesh.{Quad, World, NONE, isNormalCube, covering}
 use Rattle.rules.specs.Update.{Entry, Change, Broken, Added, Sides, Replaced, Tested, givenAt, toHide, draws, isOpen}
 use Rattle.steps.specs.Steps.{Deed, show, hide, quadBy}
 use Rattle.works.specs.declared.Work.{Work}
-use Rattle.works.specs.declared.Stroke.{Stroke}
 
 -- the types alone
 abbrev pub typesBy : List ℕ → List ℕ → World
@@ -49,12 +48,18 @@ meantBy tested W e Replaced = let cube = isNormalCube W (e .type) in sets 63 (sh
 abbrev pub meant : Tested → World → Entry → Work
 meant tested W e = meantBy tested (typesBy (W .kinds) (W .covers)) e (e .change)
 
--- a change of what stands in the cell: whether something goes, whether something is put, and the type that goes
-abbrev pub strokeBy : Entry → Change → Stroke
-strokeBy e Broken = record { breaks = true; adds = false; gone = e .type }
-strokeBy e Added = record { breaks = false; adds = true; gone = e .type }
-strokeBy e Sides = record { breaks = false; adds = false; gone = e .type }
-strokeBy e Replaced = record { breaks = true; adds = true; gone = e .former }
+-- whether what stands in the cell goes, and whether something is put there
+abbrev pub isBreaking : Change → Bool
+isBreaking Broken = true
+isBreaking Added = false
+isBreaking Sides = false
+isBreaking Replaced = true
+
+abbrev pub isAdding : Change → Bool
+isAdding Broken = false
+isAdding Added = true
+isAdding Sides = false
+isAdding Replaced = true
 
 -- ---- the four parts: their sets, as one of 24, the faces that they are about, and what is done there
 abbrev pub setIn : Work → ℕ → ℕ

@@ -28,7 +28,7 @@ ghost use Rattle.face.specs.Face.{number};
 ghost use Rattle.util.specs.Grid.{sizeOf, tripleOf, Within, Inverts};
 ghost use Rattle.entries.specs.Log.{changeIn, entryIn};
 ghost use Rattle.terms.specs.Modes.{testedBy};
-ghost use Rattle.works.specs.Sets.{typesBy, isShown, strokeBy, meant, setIn, packed, keyOr, keysAround, cutting, typeDrawn};
+ghost use Rattle.works.specs.Sets.{typesBy, isShown, isBreaking, isAdding, meant, setIn, packed, keyOr, keysAround, cutting, typeDrawn};
 
 // All six sides.
 const ALL_SIDES: u8 = 63;
@@ -179,39 +179,35 @@ fn hidden_sides(on: bool, tested: Tested, cover: u8) -> u8
     0
 }
 
-// What becomes of what stands in the cell, and the type that goes. Sides leaves it as it is.
-struct Stroke {
-    breaks: bool,
-    adds: bool,
-    gone: u8,
+// Whether what stands in the cell goes.
+fn breaks(change: VoxelChange) -> bool
+    ensures { λ r. ⌜ r ≡ isBreaking (changeIn change) ⌝ }
+{
+    match change {
+        VoxelChange::Broken => true,
+        VoxelChange::Added => false,
+        VoxelChange::Sides => false,
+        VoxelChange::Replaced => true,
+    }
 }
 
-fn stroke_of(entry: Entry) -> Stroke
-    ensures { λ r. ⌜ r ≡ strokeBy (entryIn entry) (changeIn (entry .change)) ⌝ }
+// Whether something is put there.
+fn adds(change: VoxelChange) -> bool
+    ensures { λ r. ⌜ r ≡ isAdding (changeIn change) ⌝ }
 {
-    let change = entry.change;
     match change {
-        VoxelChange::Broken => Stroke {
-            breaks: true,
-            adds: false,
-            gone: entry.voxel,
-        },
-        VoxelChange::Added => Stroke {
-            breaks: false,
-            adds: true,
-            gone: entry.voxel,
-        },
-        VoxelChange::Sides => Stroke {
-            breaks: false,
-            adds: false,
-            gone: entry.voxel,
-        },
-        VoxelChange::Replaced => Stroke {
-            breaks: true,
-            adds: true,
-            gone: entry.former,
-        },
+        VoxelChange::Broken => false,
+        VoxelChange::Added => true,
+        VoxelChange::Sides => false,
+        VoxelChange::Replaced => true,
     }
+}
+
+// The type that goes.
+fn gone(both: bool, entry: Entry) -> u8
+    ensures { λ r. ⌜ r ≡ cond both (entry .former) (entry .voxel) ⌝ }
+{
+    if both { entry.former } else { entry.voxel }
 }
 
 fn all_if(on: bool) -> u8
@@ -225,8 +221,10 @@ pub fn work_of(kinds: &[u8], covers: &[u8], tested: Tested, entry: Entry) -> Wor
     ensures { λ r. ⌜ r ≡ meant (testedBy tested) (typesBy (now (kinds .entry)) (now (covers .entry))) (entryIn entry) ⌝ }
 {
     let cube = code_of(kinds, entry.voxel) == 1;
-    let stroke = stroke_of(entry);
-    if !(stroke.breaks | stroke.adds) {
+    let change = entry.change;
+    let goes = breaks(change);
+    let put = adds(change);
+    if !(goes | put) {
         let own = sides_to_hide(entry);
         let drawn = sides_to_draw(cube, entry);
         return Work {
@@ -236,9 +234,9 @@ pub fn work_of(kinds: &[u8], covers: &[u8], tested: Tested, entry: Entry) -> Wor
             hidden: 0,
         };
     }
-    let comes = stroke.adds & cube;
-    let own = all_if(stroke.breaks | comes);
-    let shown = shown_sides(stroke.breaks, kinds, code_of(covers, stroke.gone), entry);
+    let comes = put & cube;
+    let own = all_if(goes | comes);
+    let shown = shown_sides(goes, kinds, code_of(covers, gone(goes & put, entry)), entry);
     let drawn = open_sides(comes, covers, entry);
     let hidden = hidden_sides(comes, tested, code_of(covers, entry.voxel));
     Work {
