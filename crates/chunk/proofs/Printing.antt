@@ -12,7 +12,7 @@ use lib.Dec.{eqb, ltb}
 use borrow.Author.Tests.{ltb-false}
 use Rattle.rules.specs.Cells.{cells, linkOf}
 use Rattle.rules.specs.Mesh.{Quad, Lists, decode, layout}
-use Rattle.rules.specs.Update.{BYTES, source, Course, entryAt, work, blank}
+use Rattle.rules.specs.Update.{ENTRY-BYTES, source, Course, entryAt, work, blank}
 use Rattle.rules.specs.Answers.{Verdict, fine, refuse, BAD-SIZE, SHORT-SLOTS, BAD-COUNT, BAD-ENTRY, NO-ROOM}
 use Rattle.rules.specs.Calls.{Answer, answered, refused, Scene, Outcome, world, span, faces, room, typesVerdict, freshMesh, inputVerdict, meshVerdict, meshedBy, meshGrid, lentVerdict, bookVerdict, updateVerdict, course, courseAnswer, updateBy, updateMesh}
 use Rattle.rules.specs.Program as rules
@@ -54,7 +54,7 @@ module _ (S : Scene) (log : List ℕ) (B : Lists) (Q : ℕ) where
         let l = then-fine (lentVerdict S B Q) (BAD-ENTRY (cells (S .size)) (length (S .types .kinds)) log) (t .1) in
         let s = then-fine (SHORT-SLOTS (S .size) B) _ (l .0) in
         let n = then-fine (BAD-COUNT (room S B) Q) (bookVerdict S B Q) (s .1) in
-        course-sane (faces S) (span S) (room S B) (λ k. work source (world S) (entryAt log k)) 0 (length log / BYTES) (decode (S .types .coloured) Q B) 0 Q
+        course-sane (faces S) (span S) (room S B) (λ k. work source (world S) (entryAt log k)) 0 (length log / ENTRY-BYTES) (decode (S .types .coloured) Q B) 0 Q
         (λ j x y. fits-new (world S) (sound S size-fine (t .0)) (span S) (words-sized S) source (entryAt log j)
         (entry-inside (cells (S .size)) (length (S .types .kinds)) log (l .1) j (omega arith)) ((entryAt log j) .change))
         (lent-sane S B Q size-fine (s .0) (n .0) (n .1))

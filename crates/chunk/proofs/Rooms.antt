@@ -6,7 +6,7 @@ use native.Mathlib.Omega.{arith}
 use lib.ListN.{length, take, drop, replicate, length-replicate, length-append, length-drop}
 use lib.Seq.{take-at, length-take-le}
 use Rattle.rules.specs.Lists.{table, filled}
-use Rattle.rules.specs.Update.{BYTES}
+use Rattle.rules.specs.Update.{ENTRY-BYTES}
 use Rattle.rules.specs.Cells.{cells}
 use Rattle.rules.specs.Program.{word, sizeIn, gridStart, gridIn}
 use Rattle.rules.proofs.ListLaws.{length-table}
@@ -48,7 +48,7 @@ module _ (file : List ℕ) where
     grid-long : length (gridIn file) ≡ cells (sizeIn file)
     grid-long =
         length-take-le (cells (sizeIn file)) (drop (gridStart file) file)
-        (rw length-drop (left (BYTES * word file 4) (gridStart file) (cells (sizeIn file)) (length file) (g .fills) (g .least)))
+        (rw length-drop (left (ENTRY-BYTES * word file 4) (gridStart file) (cells (sizeIn file)) (length file) (g .fills) (g .least)))
       where
         left : (log start n m : ℕ) → log + (start + n) ≡ m - 92 → 92 ≤ m → n ≤ m - start
         left log start n m e h = omega arith

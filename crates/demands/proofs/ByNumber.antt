@@ -10,7 +10,7 @@ use borrow.Author.Tests.{ne-eqb}
 use Rattle.rules.specs.Lists.{member}
 use Rattle.rules.specs.Cube.{Shape}
 use Rattle.rules.specs.Mesh.{Lists}
-use Rattle.rules.specs.Update.{BYTES, source, AddsAlike}
+use Rattle.rules.specs.Update.{ENTRY-BYTES, source, AddsAlike}
 use Rattle.rules.specs.Answers.{fine}
 use Rattle.rules.specs.Check.{Right}
 use Rattle.rules.specs.Calls.{Answer, CubeOutcome, Outcome, Scene, answered, world, lentVerdict, entriesOf, openVerdict, checkVerdict, checkMesh}
@@ -142,7 +142,7 @@ pub out-of-room-c-and-still-right : (tested : ℕ) (S : Scene) (log grid : List 
     → TellsUpdate tested S log B Q a exit → TellsCheck S [] (groundAfter S (firstOf (a .place) log) grid) exit (a .quads) number place → number ≡ 0
 out-of-room-c-and-still-right tested S log grid B Q before a exit number place p h alike z e c =
     let s = stopped-c tested S log B Q a exit z e in
-    let l : a .place ≤ length log / BYTES = omega (arith, s .first .inLog) in
+    let l : a .place ≤ length log / ENTRY-BYTES = omega (arith, s .first .inLog) in
     c-mended tested S (firstOf (a .place) log) grid B Q before (answer 0 0 (a .quads) (a .moved)) exit number place p
     (first-filling S log (a .place) l grid h) (first-alike S log (a .place) l (testedFrom tested) alike) refl (s .before) c
 

@@ -1,4 +1,4 @@
--- Demand 3, "a mesh that passes with no outer face named passes after any unrefused honest log", its Added as each mode asks (`LogFor`,
+-- Demand 3, "a mesh that passes with no outer face named passes after any unrefused honest log", its Added and Replaced as each mode asks (`LogFor`,
 -- specs/Chunks): mesh_grid, then any number of update_mesh calls, then check_mesh says Fine; out of room it says so for the entries that were done.
 -- And what is the same in both modes. Assumes nothing.
 use Prim.Native.Nat.{ℕ, _-_, _/_, _≤_}
@@ -10,7 +10,7 @@ use lib.ListN.{length}
 use Rattle.rules.specs.Lists.{each}
 use Rattle.rules.specs.Mesh.{Lists, isNormalCube}
 use Rattle.rules.specs.Update as rules
-use Rattle.rules.specs.Update.{BYTES, Entry, entryAt, source, itself, Honest, Mends, Alike, AddsAlike}
+use Rattle.rules.specs.Update.{ENTRY-BYTES, Entry, entryAt, source, itself, Honest, Mends, Alike, AddsAlike}
 use Rattle.rules.specs.Calls.{Answer, Scene, Outcome, world, entriesOf, updateMesh}
 use Rattle.rules.proofs.Courses.{honest-first, mends-first, alike-first}
 use Rattle.rules.proofs.Modes.{table-alike, itself-alike, modes-agree}
@@ -68,9 +68,9 @@ mended-passes mode S log grid B exit Q count r passed true-log mended checked =
 -- ---- out of room, and still right
 
 -- the first entries of a log of demand 3 are such a log
-module _ (S : Scene) (log : List ℕ) (k : ℕ) (inLog : k ≤ length log / BYTES) where
+module _ (S : Scene) (log : List ℕ) (k : ℕ) (inLog : k ≤ length log / ENTRY-BYTES) where
   abbrev rest : List Entry
-  rest = each (length log / BYTES - k) k (λ j. entryAt log j ∷ [])
+  rest = each (length log / ENTRY-BYTES - k) k (λ j. entryAt log j ∷ [])
 
   split : entriesOf log ≡ entriesOf (firstOf k log) ++ rest
   split = entries-first log k inLog
@@ -139,6 +139,6 @@ pub both-modes-agree : (S : Scene) (log : List ℕ) (B : Lists) (Q : ℕ) (a b :
     → Updates source S log B Q a x → Updates itself S log B Q b y → (a ≡ b) × (x ≡ y)
 both-modes-agree S log B Q a b x y h p q = one-update itself S log B Q a b x y (p ∙ modes-agree source S log B Q h) q
 
--- where all NormalCubes of the table cover opposite sides alike, so do those that a log adds: such a batch can change its mode, and nothing else changes
+-- where all NormalCubes of the table cover opposite sides alike, so do those that a log puts: such a batch can change its mode, and nothing else changes
 pub a-table-of-such-cubes-is-enough : (S : Scene) (log : List ℕ) → ((t : ℕ) → isNormalCube (world S) t ≡ true → Alike source (world S) t) → AlikeLog S log
 a-table-of-such-cubes-is-enough S log cubes = table-alike source (world S) cubes (entriesOf log)

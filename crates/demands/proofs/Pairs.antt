@@ -1,5 +1,5 @@
 -- 02, Q-6 and Q-7: what is done of a log is what 01's single changes do, two of them for each Sides and for each Replaced, of the Rattle call and of the C call; and when such an
--- entry is out of room. Assumes nothing.
+-- entry is out of room, of the Rattle call. Assumes nothing.
 use Prim.Native.Nat.{ℕ, _/_, _<_}
 use mathlib.Core.Path.{_≡_, refl, sym, ap, _∙_, subst}
 use mathlib.Core.Logic.{_↔_}
@@ -7,14 +7,14 @@ use mathlib.Core.List.{List}
 use lib.ListN.{length}
 use Rattle.rules.specs.Cells.{cells}
 use Rattle.rules.specs.Mesh.{Lists}
-use Rattle.rules.specs.Update.{BYTES, Sides, Replaced, Tested, entryAt, work, workBy, Work, needed}
+use Rattle.rules.specs.Update.{ENTRY-BYTES, Sides, Replaced, Tested, entryAt, work, workBy, Work, needed}
 use Rattle.rules.specs.Answers.{fine}
 use Rattle.rules.specs.Calls.{Answer, Outcome, Scene, world, room, entriesOf, updateVerdict}
-use Rattle.rules.specs.Pairs.{Single, pairs, singleUpdate}
+use Rattle.rules.specs.Pairs.{pairs, singleUpdate}
 use Rattle.rules.proofs.Quads.{Once}
 use Rattle.rules.proofs.Courses.{once-after}
 use Rattle.rules.proofs.Demands.{sound, asked-of, lent-sane, entry-inside}
-use Rattle.rules.proofs.Pairs.{update-by-pairs, sides-room, replaced-needed}
+use Rattle.rules.proofs.Pairs.{update-by-pairs, same-changes-same-update, sides-room, replaced-needed}
 use Rattle.answers.specs.declared.Refusal.the-variants.{NoRoom}
 use Rattle.terms.specs.declared.Count.{Count}
 use Rattle.update.specs.declared.Updated.{Updated}
@@ -23,7 +23,7 @@ use Rattle.update.specs.Outcome.{outcomeOf}
 use Rattle.telling.specs.Numbers.{testedFrom, outcome}
 use Rattle.demands.specs.Contracts.{Updates, TellsUpdate}
 use Rattle.demands.specs.Chunks.{firstOf}
-use Rattle.demands.specs.Room.{meshBefore, neededAt, sidesNeed, replacedNeed, FindsRoom}
+use Rattle.demands.specs.Room.{meshBefore, neededAt, sidesNeed, replacedNeed, OutOfRoom}
 use Rattle.demands.proofs.Answers.{what-an-update-call-says}
 use Rattle.demands.proofs.Room.{no-room-exactly}
 
@@ -32,12 +32,12 @@ pub pairs-do-the-same : (tested : Tested) (S : Scene) (log : List ℕ) (entry : 
     → Updates tested S log entry Q (updated.Done count) exit → outcomeOf (updated.Done count) exit ≡ singleUpdate tested S (pairs (entriesOf log)) entry Q
 pairs-do-the-same tested S log entry Q count exit e = e ∙ update-by-pairs tested S log entry Q (sym (ap (λ (o : Outcome). o .answer .number) e))
 
--- so two logs of the same single changes do the same, if neither is refused: one with Replaced, and one with Broken and Added in its place
-pub same-changes-do-the-same : (tested : Tested) (S : Scene) (one other : List ℕ) (entry : Lists) (Q : ℕ) (count count′ : Count) (exit exit′ : Lists)
-    → pairs (entriesOf one) ≡ pairs (entriesOf other) → Updates tested S one entry Q (updated.Done count) exit → Updates tested S other entry Q (updated.Done count′) exit′
-    → outcomeOf (updated.Done count) exit ≡ outcomeOf (updated.Done count′) exit′
-same-changes-do-the-same tested S one other entry Q count count′ exit exit′ same e e′ =
-    pairs-do-the-same tested S one entry Q count exit e ∙ ap (λ (es : List Single). singleUpdate tested S es entry Q) same ∙ sym (pairs-do-the-same tested S other entry Q count′ exit′ e′)
+-- so of two logs of the same single changes, one with Replaced and one with Broken and Added in its place: where one is Done, so is the other, if its input is accepted, with the
+-- same count and the same lists
+pub same-changes-do-the-same : (tested : Tested) (S : Scene) (one other : List ℕ) (entry : Lists) (Q : ℕ) (count : Count) (exit : Lists) → pairs (entriesOf one) ≡ pairs (entriesOf other)
+    → Updates tested S one entry Q (updated.Done count) exit → updateVerdict S other entry Q ≡ fine → Updates tested S other entry Q (updated.Done count) exit
+same-changes-do-the-same tested S one other entry Q count exit same e accepted =
+    e ∙ sym (same-changes-same-update tested S one other entry Q same (sym (ap (λ (o : Outcome). o .answer .number) e)) accepted)
 
 -- out of room at entry k: so were the entries before it
 pub out-of-room-after-what-the-pairs-do : (tested : Tested) (S : Scene) (log : List ℕ) (entry : Lists) (Q k : ℕ) (count : Count) (exit : Lists)
@@ -51,12 +51,8 @@ pairs-do-the-same-in-c tested S log entry Q a exit e done = e ∙ update-by-pair
 
 -- ---- entry k out of room
 module _ (tested : Tested) (S : Scene) (log : List ℕ) (entry : Lists) (Q k : ℕ) where
-  -- the log is accepted, the entries before it found their room, and what it needs exceeds the room
-  abbrev OutOfRoom : ℕ → Type 0
-  OutOfRoom need = (updateVerdict S log entry Q ≡ fine) × (k < length log / BYTES) × ((j : ℕ) → j < k → FindsRoom tested S log entry Q j) × (room S entry < need)
-
-  exactly : {need : ℕ} → (updateVerdict S log entry Q ≡ fine → k < length log / BYTES → neededAt tested S log entry Q k ≡ need) → (r : Updated) (exit : Lists) → Updates tested S log entry Q r exit
-      → ((count : Count) × (r ≡ updated.Refused NoRoom k count)) ↔ OutOfRoom need
+  exactly : {need : ℕ} → (updateVerdict S log entry Q ≡ fine → k < length log / ENTRY-BYTES → neededAt tested S log entry Q k ≡ need) → (r : Updated) (exit : Lists) → Updates tested S log entry Q r exit
+      → ((count : Count) × (r ≡ updated.Refused NoRoom k count)) ↔ OutOfRoom tested S log entry Q k need
   exactly is r exit e =
       let x = no-room-exactly tested S log entry Q r exit k e in (
         λ d. let y = x .0 d in (y .0, y .1 .inLog, y .1 .before, subst (λ n. room S entry < n) (is (y .0) (y .1 .inLog)) (y .1 .without)),
@@ -73,7 +69,7 @@ module _ (tested : Tested) (S : Scene) (log : List ℕ) (entry : Lists) (Q k : �
       let m = meshBefore tested S log entry Q k in
       ap (λ (w : Work). needed w m) (ap (workBy tested (world S) (entryAt log k)) is) ∙ sides-room (world S) (entryAt log k) m (once accepted)
 
-  pub what-replaced-needs : (entryAt log k) .change ≡ Replaced → updateVerdict S log entry Q ≡ fine → k < length log / BYTES
+  pub what-replaced-needs : (entryAt log k) .change ≡ Replaced → updateVerdict S log entry Q ≡ fine → k < length log / ENTRY-BYTES
       → neededAt tested S log entry Q k ≡ replacedNeed tested S log entry Q k
   what-replaced-needs is accepted inLog =
       let a = asked-of tested S log entry Q accepted in
@@ -82,9 +78,9 @@ module _ (tested : Tested) (S : Scene) (log : List ℕ) (entry : Lists) (Q k : �
       ap (λ (w : Work). needed w m) (ap (workBy tested (world S) (entryAt log k)) is) ∙ replaced-needed tested (world S) (sound S (a .size) (a .types)) (entryAt log k) inGrid m (once accepted)
 
   pub sides-out-of-room-exactly : (entryAt log k) .change ≡ Sides → (r : Updated) (exit : Lists) → Updates tested S log entry Q r exit
-      → ((count : Count) × (r ≡ updated.Refused NoRoom k count)) ↔ OutOfRoom (sidesNeed tested S log entry Q k)
+      → ((count : Count) × (r ≡ updated.Refused NoRoom k count)) ↔ OutOfRoom tested S log entry Q k (sidesNeed tested S log entry Q k)
   sides-out-of-room-exactly is = exactly (λ accepted inLog. what-sides-need is accepted)
 
   pub replaced-out-of-room-exactly : (entryAt log k) .change ≡ Replaced → (r : Updated) (exit : Lists) → Updates tested S log entry Q r exit
-      → ((count : Count) × (r ≡ updated.Refused NoRoom k count)) ↔ OutOfRoom (replacedNeed tested S log entry Q k)
+      → ((count : Count) × (r ≡ updated.Refused NoRoom k count)) ↔ OutOfRoom tested S log entry Q k (replacedNeed tested S log entry Q k)
   replaced-out-of-room-exactly is = exactly (what-replaced-needs is)

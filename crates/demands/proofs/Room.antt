@@ -13,7 +13,7 @@ use lib.Seq.{length-take-le}
 use Rattle.rules.specs.Lists.{member}
 use Rattle.rules.specs.Cells.{cells}
 use Rattle.rules.specs.Mesh.{Lists, decode}
-use Rattle.rules.specs.Update.{BYTES, Tested, Course, work, entryAt}
+use Rattle.rules.specs.Update.{ENTRY-BYTES, Tested, Course, work, entryAt}
 use Rattle.rules.specs.Answers.{Verdict, fine, refuse, _then_, BAD-ENTRY}
 use Rattle.rules.specs.Calls.{answered, Scene, world, room, lentVerdict, updateVerdict, course, checkBy}
 use Rattle.rules.proofs.ListLaws.{member-append}
@@ -44,12 +44,12 @@ skip p = rw p
 
 -- some log of k entries is answered Done with the same count and lists
 done-first : (tested : Tested) (S : Scene) (log : List ℕ) (entry : Lists) (Q : ℕ) {r : Updated} {k : ℕ} {count : Count} (exit : Lists)
-    → Did log r k count → Updates tested S log entry Q r exit → (l : List ℕ) × (length l / BYTES ≡ k) × Updates tested S l entry Q (updated.Done count) exit
+    → Did log r k count → Updates tested S log entry Q r exit → (l : List ℕ) × (length l / ENTRY-BYTES ≡ k) × Updates tested S l entry Q (updated.Done count) exit
 done-first tested S log entry Q exit (allDone count) e = (log, refl, e)
 done-first tested S log entry Q exit (stoppedAt k count) e =
     let s = what-an-update-call-says tested S log entry Q (updated.Refused NoRoom k count) exit e .stopped refl in
     let h = s .first .inLog in
-    (firstOf k log, omega (arith, length-take-le (BYTES * k) log (omega arith)), s .before)
+    (firstOf k log, omega (arith, length-take-le (ENTRY-BYTES * k) log (omega arith)), s .before)
 
 -- after any log, honest or foolish, that is answered Done or NO_ROOM, lists and count pass 9 to 12 again
 pub what-an-update-leaves-is-taken : (tested : Tested) (S : Scene) (log : List ℕ) (entry : Lists) (Q : ℕ) (r : Updated) (k : ℕ) (count : Count)
@@ -94,16 +94,16 @@ module _ (tested : Tested) (S : Scene) (log : List ℕ) (entry : Lists) (Q : ℕ
   -- Done means that the log is accepted and every entry found its room
   pub done-exactly : (r : Updated) (exit : Lists) → Updates tested S log entry Q r exit
       → ((count : Count) × (r ≡ updated.Done count))
-      ↔ ((updateVerdict S log entry Q ≡ fine) × ((j : ℕ) → j < length log / BYTES → FindsRoom tested S log entry Q j))
+      ↔ ((updateVerdict S log entry Q ≡ fine) × ((j : ℕ) → j < length log / ENTRY-BYTES → FindsRoom tested S log entry Q j))
   done-exactly r exit e = (λ d. told (d .0) (d .1), λ h. found (h .0) (h .1) (c .full) refl)
     where
       told : (count : Count) → r ≡ updated.Done count
-          → (updateVerdict S log entry Q ≡ fine) × ((j : ℕ) → j < length log / BYTES → FindsRoom tested S log entry Q j)
+          → (updateVerdict S log entry Q ≡ fine) × ((j : ℕ) → j < length log / ENTRY-BYTES → FindsRoom tested S log entry Q j)
       told count d =
           let a = what-an-update-call-says tested S log entry Q (updated.Done count) exit (ap (λ (x : Updated). outcomeOf x exit) (sym d) ∙ e) in
           (a .accepted, all-found tested S log entry Q (a .ended))
 
-      found : updateVerdict S log entry Q ≡ fine → ((j : ℕ) → j < length log / BYTES → FindsRoom tested S log entry Q j) → (o : Option ℕ) → c .full ≡ o
+      found : updateVerdict S log entry Q ≡ fine → ((j : ℕ) → j < length log / ENTRY-BYTES → FindsRoom tested S log entry Q j) → (o : Option ℕ) → c .full ≡ o
           → (count : Count) × (r ≡ updated.Done count)
       found a h none f = an-update-is-done-if-nothing-refuses tested S log entry Q r exit a f e
       found a h (some k) f = let w = first-without tested S log entry Q k f in let l = w .without in let m = h k (w .inLog) in absurd (omega arith)
@@ -143,6 +143,6 @@ moved-at-most-sixty-an-entry tested S log entry Q r k count exit d e =
     let f = done-first tested S log entry Q exit d e in
     let l = f .0 in
     let a = what-an-update-call-says tested S l entry Q (updated.Done count) exit (f .2) in
-    let m = course-moves 60 (room S entry) (λ j. work tested (world S) (entryAt l j)) 0 (length l / BYTES) (decode (S .types .coloured) Q entry) 0 Q
+    let m = course-moves 60 (room S entry) (λ j. work tested (world S) (entryAt l j)) 0 (length l / ENTRY-BYTES) (decode (S .types .coloured) Q entry) 0 Q
     (λ j. entry-moves tested (world S) (entryAt l j)) in
     omega (arith, a .moved, f .1)

@@ -12,7 +12,7 @@ use borrow.Author.Tests.{leb-false, eq-eqb}
 use Rattle.rules.specs.Lists.{each, table, every, part}
 use Rattle.rules.specs.Cells.{cells}
 use Rattle.rules.specs.Mesh.{Quad, Lists, layout, decode}
-use Rattle.rules.specs.Update.{BYTES, Entry, Work, Course, Tested, u32At, entryAt, work, ops, run, moves, highest, needed, courseFrom, meshAfter}
+use Rattle.rules.specs.Update.{ENTRY-BYTES, Entry, Work, Course, Tested, u32At, entryAt, work, ops, run, moves, highest, needed, courseFrom, meshAfter}
 use Rattle.rules.specs.Answers.{fine, refuseLowest, BAD-SIZE, badNeighbour, badNeighbours, badSides, badBytes, badFormer, badSpare, badEntry, BAD-ENTRY}
 use Rattle.rules.specs.Calls.{Scene, answered, world, faces, room, typesVerdict, lentVerdict, updateVerdict, entriesOf, course, updateBy, updateMesh}
 use Rattle.rules.proofs.ListLaws.{each-same, each-split}
@@ -73,21 +73,21 @@ stops room work i (suc n) m v p k e =
         }
 
 -- ---- the first entries of a log
-module _ (k : ℕ) (first rest : List ℕ) (whole : length first ≡ BYTES * k) where
-  byte : (i : ℕ) → i < BYTES * k → getD (first ++ rest) i 0 ≡ getD first i 0
+module _ (k : ℕ) (first rest : List ℕ) (whole : length first ≡ ENTRY-BYTES * k) where
+  byte : (i : ℕ) → i < ENTRY-BYTES * k → getD (first ++ rest) i 0 ≡ getD first i 0
   byte i h = List·getD-append first rest 0 i (omega (arith, whole))
 
-  word : (j : ℕ) → j < k → u32At (first ++ rest) (BYTES * j) ≡ u32At first (BYTES * j)
+  word : (j : ℕ) → j < k → u32At (first ++ rest) (ENTRY-BYTES * j) ≡ u32At first (ENTRY-BYTES * j)
   word j h =
-      rw (byte (BYTES * j) (omega arith), byte (BYTES * j + 1) (omega arith), byte (BYTES * j + 2) (omega arith), byte (BYTES * j + 3) (omega arith))
+      rw (byte (ENTRY-BYTES * j) (omega arith), byte (ENTRY-BYTES * j + 1) (omega arith), byte (ENTRY-BYTES * j + 2) (omega arith), byte (ENTRY-BYTES * j + 3) (omega arith))
 
   pub entry-stays : (j : ℕ) → j < k → entryAt (first ++ rest) j ≡ entryAt first j
   unfolding entryAt
   entry-stays j h =
-      let given : part (BYTES * j + 6) 6 (first ++ rest) ≡ part (BYTES * j + 6) 6 first =
-      ap (take 6) (drop-append-le (BYTES * j + 6) first rest (omega (arith, whole)))
-      ∙ take-append-le 6 (drop (BYTES * j + 6) first) rest (rw (length-drop, whole) (omega arith)) in
-      rw (word j h, byte (BYTES * j + 4) (omega arith), byte (BYTES * j + 5) (omega arith), given, byte (BYTES * j + 12) (omega arith))
+      let given : part (ENTRY-BYTES * j + 6) 6 (first ++ rest) ≡ part (ENTRY-BYTES * j + 6) 6 first =
+      ap (take 6) (drop-append-le (ENTRY-BYTES * j + 6) first rest (omega (arith, whole)))
+      ∙ take-append-le 6 (drop (ENTRY-BYTES * j + 6) first) rest (rw (length-drop, whole) (omega arith)) in
+      rw (word j h, byte (ENTRY-BYTES * j + 4) (omega arith), byte (ENTRY-BYTES * j + 5) (omega arith), given, byte (ENTRY-BYTES * j + 12) (omega arith))
 
   every-alike : (n : ℕ) (p q : ℕ → Bool) → ((i : ℕ) → i < n → p i ≡ q i) → every n p ≡ every n q
   unfolding every
@@ -95,7 +95,7 @@ module _ (k : ℕ) (first rest : List ℕ) (whole : length first ≡ BYTES * k) 
   every-alike (suc n) p q h = rw (h n (omega arith), every-alike n p q (λ i l. h i (omega arith)))
 
   -- one of six bytes is bad, by whatever test
-  six-stay : (p : ℕ → Bool) (at : ℕ) → at + BYTES ≤ BYTES * k → not (every 6 (λ f. not (p (getD (first ++ rest) (at + (6 + f)) 0)))) ≡ not (every 6 (λ f. not (p (getD first (at + (6 + f)) 0))))
+  six-stay : (p : ℕ → Bool) (at : ℕ) → at + ENTRY-BYTES ≤ ENTRY-BYTES * k → not (every 6 (λ f. not (p (getD (first ++ rest) (at + (6 + f)) 0)))) ≡ not (every 6 (λ f. not (p (getD first (at + (6 + f)) 0))))
   six-stay p at h =
       ap not (every-alike 6 (λ f. not (p (getD (first ++ rest) (at + (6 + f)) 0))) (λ f. not (p (getD first (at + (6 + f)) 0)))
       (λ f l. ap (λ (t : ℕ). not (p t)) (byte (at + (6 + f)) (omega arith))))
@@ -105,31 +105,31 @@ module _ (k : ℕ) (first rest : List ℕ) (whole : length first ≡ BYTES * k) 
   bad-stays cells types j h =
       rw (
         word j h,
-        byte (BYTES * j + 4) (omega arith),
-        byte (BYTES * j + 5) (omega arith),
-        six-stay (ltb 2) (BYTES * j) (omega arith),
-        six-stay (badNeighbour types) (BYTES * j) (omega arith),
-        byte (BYTES * j + 12) (omega arith),
-        byte (BYTES * j + 13) (omega arith),
-        byte (BYTES * j + 14) (omega arith),
-        byte (BYTES * j + 15) (omega arith),
+        byte (ENTRY-BYTES * j + 4) (omega arith),
+        byte (ENTRY-BYTES * j + 5) (omega arith),
+        six-stay (ltb 2) (ENTRY-BYTES * j) (omega arith),
+        six-stay (badNeighbour types) (ENTRY-BYTES * j) (omega arith),
+        byte (ENTRY-BYTES * j + 12) (omega arith),
+        byte (ENTRY-BYTES * j + 13) (omega arith),
+        byte (ENTRY-BYTES * j + 14) (omega arith),
+        byte (ENTRY-BYTES * j + 15) (omega arith),
       )
 
 -- the entries of the first k are the first k entries
-pub entries-first : (log : List ℕ) (k : ℕ) → k ≤ length log / BYTES
-    → entriesOf log ≡ entriesOf (take (BYTES * k) log) ++ each (length log / BYTES - k) k (λ j. entryAt log j ∷ [])
+pub entries-first : (log : List ℕ) (k : ℕ) → k ≤ length log / ENTRY-BYTES
+    → entriesOf log ≡ entriesOf (take (ENTRY-BYTES * k) log) ++ each (length log / ENTRY-BYTES - k) k (λ j. entryAt log j ∷ [])
 entries-first log k h =
-    let whole : length (take (BYTES * k) log) ≡ BYTES * k = length-take-le (BYTES * k) log (omega arith) in
-    let count : length (take (BYTES * k) log) / BYTES ≡ k = omega (arith, whole) in
-    let sum : length log / BYTES ≡ k + (length log / BYTES - k) = omega arith in
+    let whole : length (take (ENTRY-BYTES * k) log) ≡ ENTRY-BYTES * k = length-take-le (ENTRY-BYTES * k) log (omega arith) in
+    let count : length (take (ENTRY-BYTES * k) log) / ENTRY-BYTES ≡ k = omega (arith, whole) in
+    let sum : length log / ENTRY-BYTES ≡ k + (length log / ENTRY-BYTES - k) = omega arith in
     let from : 0 + k ≡ k = omega arith in
-    let same : table k (entryAt log) ≡ entriesOf (take (BYTES * k) log) =
-    each-same k 0 (λ j. entryAt log j ∷ []) (λ j. entryAt (take (BYTES * k) log) j ∷ [])
+    let same : table k (entryAt log) ≡ entriesOf (take (ENTRY-BYTES * k) log) =
+    each-same k 0 (λ j. entryAt log j ∷ []) (λ j. entryAt (take (ENTRY-BYTES * k) log) j ∷ [])
     (λ j a b. ap (λ (e : Entry). e ∷ [])
-    (ap (λ (l : List ℕ). entryAt l j) (sym (take-append-drop (BYTES * k) log)) ∙ entry-stays k (take (BYTES * k) log) (drop (BYTES * k) log) whole j (omega arith)))
-    ∙ ap (λ (n : ℕ). table n (entryAt (take (BYTES * k) log))) (sym count) in
-    ap (λ (n : ℕ). table n (entryAt log)) sum ∙ each-split k (length log / BYTES - k) 0 (λ j. entryAt log j ∷ [])
-    ∙ (λ i. same i ++ each (length log / BYTES - k) (from i) (λ j. entryAt log j ∷ []))
+    (ap (λ (l : List ℕ). entryAt l j) (sym (take-append-drop (ENTRY-BYTES * k) log)) ∙ entry-stays k (take (ENTRY-BYTES * k) log) (drop (ENTRY-BYTES * k) log) whole j (omega arith)))
+    ∙ ap (λ (n : ℕ). table n (entryAt (take (ENTRY-BYTES * k) log))) (sym count) in
+    ap (λ (n : ℕ). table n (entryAt log)) sum ∙ each-split k (length log / ENTRY-BYTES - k) 0 (λ j. entryAt log j ∷ [])
+    ∙ (λ i. same i ++ each (length log / ENTRY-BYTES - k) (from i) (λ j. entryAt log j ∷ []))
 
 -- ---- which entry finds no room
 module _ (tested : Tested) (S : Scene) (log : List ℕ) (B : Lists) (Q : ℕ) where
@@ -140,13 +140,13 @@ module _ (tested : Tested) (S : Scene) (log : List ℕ) (B : Lists) (Q : ℕ) wh
   lent = decode (S .types .coloured) Q B
 
   -- a course that comes through: each entry found its room
-  pub all-found : (course tested S log B Q) .full ≡ none → (j : ℕ) → j < length log / BYTES → FindsRoom tested S log B Q j
-  all-found f j h = let z : 0 + j ≡ j = omega arith in rw z at (found-room (room S B) works 0 (length log / BYTES) lent 0 Q f .found j h)
+  pub all-found : (course tested S log B Q) .full ≡ none → (j : ℕ) → j < length log / ENTRY-BYTES → FindsRoom tested S log B Q j
+  all-found f j h = let z : 0 + j ≡ j = omega arith in rw z at (found-room (room S B) works 0 (length log / ENTRY-BYTES) lent 0 Q f .found j h)
 
   -- one that stops at k: k is the first that did not
   pub first-without : (k : ℕ) → (course tested S log B Q) .full ≡ some k → FirstWithout tested S log B Q k
   first-without k f =
-      let s = stops (room S B) works 0 (length log / BYTES) lent 0 Q k f in
+      let s = stops (room S B) works 0 (length log / ENTRY-BYTES) lent 0 Q k f in
       let z : s .before ≡ k = omega (arith, s .place) in
       let t = found-room (room S B) works 0 (s .before) lent 0 Q (ap (λ (c : Course). c .full) (s .through)) in
       let left : (course tested S log B Q) .quads ≡ meshAfter works 0 k lent =
@@ -163,28 +163,28 @@ module _ (tested : Tested) (S : Scene) (log : List ℕ) (B : Lists) (Q k : ℕ) 
   abbrev workOf : List ℕ → ℕ → Work
   workOf l j = work tested (world S) (entryAt l j)
 
-  stopped : Stops (room S B) (workOf log) 0 (length log / BYTES) (decode (S .types .coloured) Q B) 0 Q k
-  stopped = stops (room S B) (workOf log) 0 (length log / BYTES) (decode (S .types .coloured) Q B) 0 Q k full
+  stopped : Stops (room S B) (workOf log) 0 (length log / ENTRY-BYTES) (decode (S .types .coloured) Q B) 0 Q k
+  stopped = stops (room S B) (workOf log) 0 (length log / ENTRY-BYTES) (decode (S .types .coloured) Q B) 0 Q k full
 
-  in-log : k < length log / BYTES
+  in-log : k < length log / ENTRY-BYTES
   in-log = omega (arith, stopped .place, stopped .early)
 
   abbrev first : List ℕ
-  first = take (BYTES * k) log
+  first = take (ENTRY-BYTES * k) log
 
-  whole : length first ≡ BYTES * k
-  whole = length-take-le (BYTES * k) log (omega (arith, in-log))
+  whole : length first ≡ ENTRY-BYTES * k
+  whole = length-take-le (ENTRY-BYTES * k) log (omega (arith, in-log))
 
-  joined : first ++ drop (BYTES * k) log ≡ log
-  joined = take-append-drop (BYTES * k) log
+  joined : first ++ drop (ENTRY-BYTES * k) log ≡ log
+  joined = take-append-drop (ENTRY-BYTES * k) log
 
   entry-first : (j : ℕ) → j < k → entryAt log j ≡ entryAt first j
-  entry-first j h = ap (λ (l : List ℕ). entryAt l j) (sym joined) ∙ entry-stays k first (drop (BYTES * k) log) whole j h
+  entry-first j h = ap (λ (l : List ℕ). entryAt l j) (sym joined) ∙ entry-stays k first (drop (ENTRY-BYTES * k) log) whole j h
 
   bad-first : (n types j : ℕ) → j < k → badEntry n types log j ≡ badEntry n types first j
-  bad-first n types j h = ap (λ (l : List ℕ). badEntry n types l j) (sym joined) ∙ bad-stays k first (drop (BYTES * k) log) whole n types j h
+  bad-first n types j h = ap (λ (l : List ℕ). badEntry n types l j) (sym joined) ∙ bad-stays k first (drop (ENTRY-BYTES * k) log) whole n types j h
 
-  count-first : length first / BYTES ≡ k
+  count-first : length first / ENTRY-BYTES ≡ k
   count-first = omega (arith, whole)
 
   first-accepted : updateVerdict S first B Q ≡ fine
@@ -195,18 +195,18 @@ module _ (tested : Tested) (S : Scene) (log : List ℕ) (B : Lists) (Q k : ℕ) 
       let a = then-fine (BAD-SIZE (S .size)) _ accepted in
       let b = then-fine (typesVerdict S) _ (a .1) in
       let d = then-fine (lentVerdict S B Q) (BAD-ENTRY n types log) (b .1) in
-      let e = then-fine (refuseLowest 13 (length log / BYTES) (badEntry n types log)) _ (d .1) in
-      let good : (j : ℕ) → j < length first / BYTES → badEntry n types first j ≡ false =
+      let e = then-fine (refuseLowest 13 (length log / ENTRY-BYTES) (badEntry n types log)) _ (d .1) in
+      let good : (j : ℕ) → j < length first / ENTRY-BYTES → badEntry n types first j ≡ false =
       λ j l. sym (bad-first n types j (omega (arith, count-first)))
-      ∙ lowest-fine 13 (length log / BYTES) (badEntry n types log) (e .0) j (omega (arith, count-first, in-log)) in
-      let even : not (eqb (length first % BYTES) 0) ≡ false = rw (eq-eqb (length first % BYTES) 0 (omega (arith, whole))) in
+      ∙ lowest-fine 13 (length log / ENTRY-BYTES) (badEntry n types log) (e .0) j (omega (arith, count-first, in-log)) in
+      let even : not (eqb (length first % ENTRY-BYTES) 0) ≡ false = rw (eq-eqb (length first % ENTRY-BYTES) 0 (omega (arith, whole))) in
       fine-then (a .0) (fine-then (b .0) (fine-then (d .0)
-      (fine-then (fine-lowest 13 (length first / BYTES) (badEntry n types first) good)
-      (fine-if (not (eqb (length first % BYTES) 0)) 13 (length first / BYTES) even))))
+      (fine-then (fine-lowest 13 (length first / ENTRY-BYTES) (badEntry n types first) good)
+      (fine-if (not (eqb (length first % ENTRY-BYTES) 0)) 13 (length first / ENTRY-BYTES) even))))
 
   -- LAW: the call for the entries before it alone comes through, with the same quads, moves and lists
   pub done-before : let c = course tested S log B Q in
-      updateMesh tested S (take (BYTES * k) log) B Q
+      updateMesh tested S (take (ENTRY-BYTES * k) log) B Q
       ≡ record { answer = answered (length (c .quads)) (c .moved); lists = layout (faces S) (S .types .coloured) (c .highest) (c .quads) B }
   done-before =
       let from = decode (S .types .coloured) Q B in

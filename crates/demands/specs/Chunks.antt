@@ -3,7 +3,7 @@ use Prim.Native.Nat.{ℕ, suc, _*_}
 use mathlib.Core.List.{List, []}
 use lib.ListN.{take}
 use Rattle.rules.specs.Mesh.{Lists}
-use Rattle.rules.specs.Update.{BYTES, source, gridLog, Honest, Mends, AddsAlike}
+use Rattle.rules.specs.Update.{ENTRY-BYTES, source, gridLog, Honest, Mends, AddsAlike}
 use Rattle.rules.specs.Calls.{Scene, world, entriesOf}
 use Rattle.answers.specs.declared.Verdict.the-variants.{Fine}
 use Rattle.terms.specs.declared.Tested.{Tested}
@@ -25,7 +25,7 @@ Passes S k = Checks S [] (k .grid) (k .lists) (k .quads) Fine
 
 -- the first k entries of a log
 abbrev pub firstOf : ℕ → List ℕ → List ℕ
-firstOf k log = take (BYTES * k) log
+firstOf k log = take (ENTRY-BYTES * k) log
 
 -- the grid that a log leaves
 abbrev pub groundAfter : Scene → List ℕ → List ℕ → List ℕ

@@ -8,7 +8,7 @@ ghost use Prim.Native.Nat.{_+_, _-_, _*_, _/_, _≤_, _<_, min};
 ghost use lib.ListN.{length};
 ghost use lib.Dec.{eqb, ltb};
 ghost use Rattle.rules.specs.Lists.{lowest};
-ghost use Rattle.rules.specs.Update.{BYTES, u32At, changeOf, entryAt, givenAt};
+ghost use Rattle.rules.specs.Update.{ENTRY-BYTES, u32At, changeOf, entryAt, givenAt};
 ghost use Rattle.rules.specs.Answers.{badNeighbour, badNeighbours, badSides, badBytes, badFormerBy, badSpare, badEntry};
 ghost use Rattle.face.specs.Face.{number};
 ghost use Rattle.entries.specs.Log.{changeIn, entryIn, neighbourOf, sideOf};
@@ -115,7 +115,7 @@ fn u32_at(log: &[u8], at: usize) -> u32
 }
 
 pub fn read_entry(log: &[u8], k: usize) -> Entry
-    requires { ⌜ BYTES * k + BYTES ≤ length (now log) ⌝ }
+    requires { ⌜ ENTRY-BYTES * k + ENTRY-BYTES ≤ length (now log) ⌝ }
     ensures { λ r. ⌜ entryIn r ≡ entryAt (now (log .entry)) k ⌝ }
 {
     let at = Entry::BYTES * k;
@@ -230,7 +230,7 @@ fn bad_spare(log: &[u8], at: usize) -> bool
 }
 
 fn bad_entry(log: &[u8], k: usize, cells: u32, types: u32) -> bool
-    requires { ⌜ BYTES * k + BYTES ≤ length (now log) ⌝ }
+    requires { ⌜ ENTRY-BYTES * k + ENTRY-BYTES ≤ length (now log) ⌝ }
     ensures { λ r. ⌜ r ≡ badEntry cells types (now (log .entry)) k ⌝ }
 {
     let at = Entry::BYTES * k;
@@ -245,7 +245,7 @@ fn bad_entry(log: &[u8], k: usize, cells: u32, types: u32) -> bool
 
 // The lowest entry with a bad field or past the limit, or the number of whole entries.
 pub fn first_bad_entry(log: &[u8], cells: u32, types: u32) -> usize
-    ensures { λ r. ⌜ r ≡ lowest (length (now (log .entry)) / BYTES) (badEntry cells types (now (log .entry))) ⌝ }
+    ensures { λ r. ⌜ r ≡ lowest (length (now (log .entry)) / ENTRY-BYTES) (badEntry cells types (now (log .entry))) ⌝ }
 {
     let entries = log.len() / Entry::BYTES;
     let mut k = 0;

@@ -4,7 +4,7 @@ use mathlib.Core.List.{List}
 use Rattle.rules.specs.Cube.{Shape}
 use Rattle.telling.specs.Numbers.{isYes}
 
--- the level of the calls: after Q-6
+-- the level of the calls: after Q-7
 abbrev pub ABI : ℕ
 ABI = 5
 

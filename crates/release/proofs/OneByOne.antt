@@ -11,7 +11,7 @@ use lib.Seq.{getD-drop, drop-drop, length-take-le}
 use borrow.Author.Tests.{eqb-true}
 use Rattle.rules.specs.Lists.{each}
 use Rattle.rules.specs.Mesh.{Lists}
-use Rattle.rules.specs.Update.{BYTES, Entry, entryAt, Tested, gridLog, Honest, Mends, AddsAlike, gridAfter as gridStep}
+use Rattle.rules.specs.Update.{ENTRY-BYTES, Entry, entryAt, Tested, gridLog, Honest, Mends, AddsAlike, gridAfter as gridStep}
 use Rattle.rules.specs.Answers.{Verdict, fine, refuse, _then_}
 use Rattle.rules.specs.Calls.{Outcome, Scene, world, entriesOf, meshVerdict, updateMesh}
 use Rattle.rules.proofs.ListLaws.{split}
@@ -109,28 +109,28 @@ module _ (tested : Tested) (S : Scene) (log : List ℕ) (n : ℕ) (B₀ : Lists)
   ends k B Q h c = let z : n - k ≡ 0 = omega arith in (rw z) ∙ c .left
 
 -- ---- the log of one entry
-module _ (log : List ℕ) (i : ℕ) (inside : i < length log / BYTES) where
-  byte : (j : ℕ) → getD (drop (BYTES * i) log) j 0 ≡ getD log (BYTES * i + j) 0
-  byte j = getD-drop (BYTES * i) log j 0
+module _ (log : List ℕ) (i : ℕ) (inside : i < length log / ENTRY-BYTES) where
+  byte : (j : ℕ) → getD (drop (ENTRY-BYTES * i) log) j 0 ≡ getD log (ENTRY-BYTES * i + j) 0
+  byte j = getD-drop (ENTRY-BYTES * i) log j 0
 
-  entry-dropped : entryAt (drop (BYTES * i) log) 0 ≡ entryAt log i
+  entry-dropped : entryAt (drop (ENTRY-BYTES * i) log) 0 ≡ entryAt log i
   unfolding entryAt
   entry-dropped =
-      let z : BYTES * i + 0 ≡ BYTES * i = omega arith in
-      rw (byte 0, byte 1, byte 2, byte 3, byte 4, byte 5, byte 12, z, drop-drop 6 (BYTES * i) log)
+      let z : ENTRY-BYTES * i + 0 ≡ ENTRY-BYTES * i = omega arith in
+      rw (byte 0, byte 1, byte 2, byte 3, byte 4, byte 5, byte 12, z, drop-drop 6 (ENTRY-BYTES * i) log)
 
   entry-alone : entryAt (entryLog log i) 0 ≡ entryAt log i
   entry-alone =
-      sym (entry-stays 1 (take BYTES (drop (BYTES * i) log)) (drop BYTES (drop (BYTES * i) log)) sixteen 0 (omega arith))
-      ∙ ap (λ (l : List ℕ). entryAt l 0) (take-append-drop BYTES (drop (BYTES * i) log)) ∙ entry-dropped
+      sym (entry-stays 1 (take ENTRY-BYTES (drop (ENTRY-BYTES * i) log)) (drop ENTRY-BYTES (drop (ENTRY-BYTES * i) log)) sixteen 0 (omega arith))
+      ∙ ap (λ (l : List ℕ). entryAt l 0) (take-append-drop ENTRY-BYTES (drop (ENTRY-BYTES * i) log)) ∙ entry-dropped
     where
-      sixteen : length (take BYTES (drop (BYTES * i) log)) ≡ BYTES
-      sixteen = length-take-le BYTES (drop (BYTES * i) log) (rw length-drop (omega arith))
+      sixteen : length (take ENTRY-BYTES (drop (ENTRY-BYTES * i) log)) ≡ ENTRY-BYTES
+      sixteen = length-take-le ENTRY-BYTES (drop (ENTRY-BYTES * i) log) (rw length-drop (omega arith))
 
   pub one-entry : entriesOf (entryLog log i) ≡ entryAt log i ∷ []
   unfolding each
   one-entry =
-      let n : length (entryLog log i) / BYTES ≡ 1 = omega (arith, length-take-le BYTES (drop (BYTES * i) log) (rw length-drop (omega arith))) in
+      let n : length (entryLog log i) / ENTRY-BYTES ≡ 1 = omega (arith, length-take-le ENTRY-BYTES (drop (ENTRY-BYTES * i) log) (rw length-drop (omega arith))) in
       rw n (ap (λ (e : Entry). e ∷ []) entry-alone)
 
 -- ---- a mesh that passed still passes
@@ -140,7 +140,7 @@ abbrev pub PassesOn : Scene → List ℕ → Progress → Type 0
 PassesOn S grid (through B Q) = Checks S [] grid B Q Fine
 PassesOn S grid (halted number place B) = Unit {0}
 
-calls-pass : (tested : Tested) (S : Scene) (log : List ℕ) (n i : ℕ) (grid : List ℕ) (B : Lists) (Q : ℕ) → i + n ≤ length log / BYTES → Checks S [] grid B Q Fine
+calls-pass : (tested : Tested) (S : Scene) (log : List ℕ) (n i : ℕ) (grid : List ℕ) (B : Lists) (Q : ℕ) → i + n ≤ length log / ENTRY-BYTES → Checks S [] grid B Q Fine
     → Honest (world S) grid (each n i (λ j. entryAt log j ∷ [])) → Mends (world S) grid (each n i (λ j. entryAt log j ∷ []))
     → AddsAlike tested (world S) (each n i (λ j. entryAt log j ∷ []))
     → PassesOn S (gridLog (world S) (each n i (λ j. entryAt log j ∷ [])) grid) (calls tested S log i n B Q)
@@ -177,10 +177,10 @@ calls-pass tested S log (suc n) i grid B Q h p ho me al =
 
 -- LAW: after a call for each entry of a log of demand 3, each of them answered, the check says Fine for the grid that the log left
 pub one-by-one : (mode : code.Tested) (S : Scene) (log grid : List ℕ) (B : Lists) (Q : ℕ) → Checks S [] grid B Q Fine → LogFor mode S grid log
-    → PassesOn S (groundAfter S log grid) (calls (testedBy mode) S log 0 (length log / BYTES) B Q)
+    → PassesOn S (groundAfter S log grid) (calls (testedBy mode) S log 0 (length log / ENTRY-BYTES) B Q)
 one-by-one mode S log grid B Q p h =
     let a = asked mode S grid log h in
-    calls-pass (testedBy mode) S log (length log / BYTES) 0 grid B Q (omega arith) p (a .0 .honest) (a .0 .mends) (a .1)
+    calls-pass (testedBy mode) S log (length log / ENTRY-BYTES) 0 grid B Q (omega arith) p (a .0 .honest) (a .0 .mends) (a .1)
 
 -- ---- a mesh made, mended by a call for each entry, and checked
 module _ (mode : code.Tested) (S : Scene) (grid log left : List ℕ) (B : Lists) where
@@ -192,17 +192,17 @@ module _ (mode : code.Tested) (S : Scene) (grid log left : List ℕ) (B : Lists)
   made-fine exit quads e = what-a-mesh-call-says S [] grid true B (meshed.Done quads) exit e .accepted
 
   pub chained : (exit : Lists) (quads : ℕ) {o : Ending} → Meshes S [] grid true B (meshed.Done quads) exit
-      → o ≡ endsOn S left (calls (testedBy mode) S log 0 (length log / BYTES) exit quads)
+      → o ≡ endsOn S left (calls (testedBy mode) S log 0 (length log / ENTRY-BYTES) exit quads)
       → (o ≡ chainEnding (testedBy mode) S grid log left B)
       × (LogFor mode S grid log → left ≡ groundAfter S log grid → o .verdict ≡ chainPromise (testedBy mode) S grid log B)
   unfolding _then_
   chained exit quads e c =
-      let done : Outcome → Progress = λ o. calls (testedBy mode) S log 0 (length log / BYTES) (o .lists) (o .answer .quads) in
+      let done : Outcome → Progress = λ o. calls (testedBy mode) S log 0 (length log / ENTRY-BYTES) (o .lists) (o .answer .quads) in
       let accepted = sym (made-fine exit quads e) in (
         c ∙ (λ i. onlyAfter (accepted i) (e i .lists) (endsOn S left (done (e i)))),
         λ h l. ap (λ (o : Ending). o .verdict) c
-            ∙ idle-on (calls (testedBy mode) S log 0 (length log / BYTES) exit quads)
-            (subst (λ (g : List ℕ). PassesOn S g (calls (testedBy mode) S log 0 (length log / BYTES) exit quads)) (sym l)
+            ∙ idle-on (calls (testedBy mode) S log 0 (length log / ENTRY-BYTES) exit quads)
+            (subst (λ (g : List ℕ). PassesOn S g (calls (testedBy mode) S log 0 (length log / ENTRY-BYTES) exit quads)) (sym l)
             (one-by-one mode S log grid exit quads (fresh-is-fine S [] grid B exit quads e) h))
             ∙ (λ i. accepted i then verdictOn (done (e i))),
       )

@@ -6,7 +6,7 @@ use lib.Dec.{eqb}
 use lib.ListN.{length}
 use Rattle.rules.specs.Lists.{part}
 use Rattle.rules.specs.Mesh.{Lists}
-use Rattle.rules.specs.Update.{BYTES, Tested}
+use Rattle.rules.specs.Update.{ENTRY-BYTES, Tested}
 use Rattle.rules.specs.Answers.{Verdict, fine, refuse, _then_}
 use Rattle.rules.specs.Calls.{Outcome, Scene, meshVerdict, meshGrid, updateMesh, checkVerdict}
 use Rattle.answers.specs.Verdicts.{numberOf}
@@ -29,7 +29,7 @@ onward u rest = cond (eqb (u .answer .number) 0) (rest (u .lists) (u .answer .qu
 
 -- the log of entry i alone
 abbrev pub entryLog : List ℕ → ℕ → List ℕ
-entryLog log i = part (BYTES * i) BYTES log
+entryLog log i = part (ENTRY-BYTES * i) ENTRY-BYTES log
 
 -- a call for each of entries i, i + 1, .., n of them
 unfoldable pub calls : Tested → Scene → List ℕ → ℕ → ℕ → Lists → ℕ → Progress
@@ -56,7 +56,7 @@ endsOn S left p = endsWith (passedOn S left p) (listsOn p)
 
 -- a fresh mesh by Culling with no outer face named, then a call for each entry
 abbrev pub chain : Tested → Scene → List ℕ → List ℕ → Lists → Progress
-chain tested S grid log B = let m = meshGrid S [] grid true B in calls tested S log 0 (length log / BYTES) (m .lists) (m .answer .quads)
+chain tested S grid log B = let m = meshGrid S [] grid true B in calls tested S log 0 (length log / ENTRY-BYTES) (m .lists) (m .answer .quads)
 
 abbrev pub chainPromise : Tested → Scene → List ℕ → List ℕ → Lists → Verdict
 chainPromise tested S grid log B = meshVerdict S [] grid true B then verdictOn (chain tested S grid log B)

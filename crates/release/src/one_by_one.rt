@@ -12,7 +12,7 @@ use update::update_mesh;
 ghost use mathlib.Core.Path.{_≡_};
 ghost use Prim.Native.Nat.{_/_};
 ghost use lib.ListN.{length};
-ghost use Rattle.rules.specs.Update.{BYTES};
+ghost use Rattle.rules.specs.Update.{ENTRY-BYTES};
 ghost use Rattle.answers.specs.Verdicts.{verdictOf};
 ghost use Rattle.terms.specs.Loans.{sceneLent, before, after};
 ghost use Rattle.terms.specs.Modes.{testedBy};
@@ -39,7 +39,7 @@ fn mend_by_entries(
 ) -> Meshed
     ensures { λ r. ⌜ wentOf r (after positions normals uvs colours triangles links slots)
         ≡ calls (testedBy tested) (sceneLent scene kinds covers cubes)
-        (now (log .entry)) 0 (length (now (log .entry)) / BYTES)
+        (now (log .entry)) 0 (length (now (log .entry)) / ENTRY-BYTES)
         (before positions normals uvs colours triangles links slots) quads ⌝ }
 {
     let entries = log.len() / Entry::BYTES;

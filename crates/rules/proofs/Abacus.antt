@@ -16,7 +16,8 @@ use Rattle.rules.specs.Mesh.{Quad, World, attributeIn, Lists, meshBy, cu
 use Rattle.rules.specs.Update.{Entry, Broken, Sides, Replaced, removeAt, remove, entryAt, Tested, source, itself, work, nothing, ops, run, moves, needed, courseFrom}
 use Rattle.rules.specs.Answers as answers
 use Rattle.rules.specs.Answers.{fine}
-use Rattle.rules.specs.Calls.{Scene, Outcome, Answer, answered, refused, world, wordsIn, meshGrid, updateVerdict, updateMesh}
+use Rattle.rules.specs.Calls.{Scene, Outcome, Answer, answered, refused, world, wordsIn, meshGrid, updateVerdict, entriesOf, updateMesh}
+use Rattle.rules.specs.Pairs.{pairs}
 use Rattle.rules.specs.Program.{printed, badFile, digits, buildFrom}
 
 -- 0.0, 1.0, and three of one
@@ -341,6 +342,11 @@ pub replaced-answers : tightly (beside 3 1 1 0) ∷ tightly (beside 3 0 1 0) ∷
     ≡ record { number = 14; place = 0; quads = 10; moved = 0 } ∷ answered 6 14 ∷ []
 unfolding answers._then_ answers.refuseIf answers.badLimits answers.BAD-TYPES answers.badCounts lowestFrom answers.badType answers.BAD-NUMBER answers.notACube types.isCube every types.classed types.classOf types.classAt types.classOn ieee.eq ieee.ofBits ieee.lt answers.roomOf meshBy each neighbour count laid attributeIn slotted answers.badLink answers.BAD-LINKS same answers.badNeighbours answers.badSides answers.badBytes answers.badFormer answers.badSpare answers.badEntry answers.BAD-ENTRY courseFrom entryAt needed ops remove removeAt types.quadWords
 replaced-answers = refl
+
+-- in bytes: the first of these, and cell 0 dug and filled, are the same single changes
+pub same-changes : pairs (entriesOf (beside 3 1 1 0)) ≡ pairs (entriesOf digAndFill)
+unfolding each entryAt
+same-changes = refl
 
 -- a former type that is none, one that Broken does not repeat, one in Added, a spare byte, a code 4
 pub former-refused : tightly (beside 3 0 5 0) ∷ tightly (beside 3 0 255 0) ∷ tightly (beside 0 1 3 0) ∷ tightly (beside 1 1 1 0) ∷ tightly (beside 0 1 1 1) ∷ tightly (beside 4 0 1 0) ∷ []

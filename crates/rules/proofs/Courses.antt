@@ -13,8 +13,8 @@ use borrow.Author.Tests.{leb-true}
 use Rattle.rules.specs.Lists.{each, only}
 use Rattle.rules.specs.Cells.{cells, opposite, neighbour, keyOf}
 use Rattle.rules.specs.Mesh.{Quad, World, isNormalCube, covering, meshBy, quadsBy, typeAt, there, placeOf, quadOf}
-use Rattle.rules.specs.Update.{Change, Broken, Added, Sides, Replaced, Entry, givenAt, blank, draw, shifts, removeAt, remove, moved, Op, put, cut, step, run, moves, highest, Work, Tested, sides, quads, conceal, reveal, all, isOpen, toHide, draws, nothing, added, filled, broken, firstHalf, secondHalf, workBy, work, cuts, puts, ops, needed, Course, courseFrom, meshAfter, emptyType, gridBy, gridAfter, gridLog, Honest, Mends, AddsAlike}
-use Rattle.rules.proofs.ListLaws.{All, all-append, all-take, all-drop, all-at, all-each, all-only, split, each-few}
+use Rattle.rules.specs.Update.{Change, Broken, Added, Sides, Replaced, Entry, givenAt, blank, draw, shifts, removeAt, remove, moved, Op, put, cut, step, run, moves, highest, Work, Tested, sides, quads, conceal, reveal, all, isOpen, toHide, draws, nothing, added, addedIfCube, broken, firstHalf, secondHalf, workBy, work, cuts, puts, ops, needed, Course, courseFrom, meshAfter, emptyType, gridBy, gridAfter, gridLog, Honest, Mends, AddsAlike}
+use Rattle.rules.proofs.ListLaws.{All, all-append, all-take, all-drop, all-at, all-each, all-only, split, only-few, each-few}
 use Rattle.rules.proofs.Neighbours.{beside, opposite-lt}
 use Rattle.rules.proofs.Quads.{Once, placed, moved-le, length-removeAt, run-append, run-once}
 use Rattle.rules.proofs.Laying.{Fits}
@@ -44,10 +44,6 @@ moves-ops w m =
     let e = moves-cuts (w .facing) (run (puts (w .new)) (run (cuts (w .own)) m)) in
     omega arith
 
-only-few {ℓ} : {A : Type ℓ} (b : Bool) (x : A) → length (only b x) ≤ 1
-only-few true x = omega arith
-only-few false x = omega arith
-
 few-sides : (c : ℕ) (p : ℕ → Bool) → length (sides c p) ≤ 6
 few-sides c p = each-few 1 6 0 (λ f. only (p f) (keyOf c f)) (λ f. only-few (p f) (keyOf c f))
 
@@ -58,7 +54,7 @@ few-own tested W e Added =
 few-own tested W e Sides = few-sides (e .cell) (toHide e)
 few-own tested W e Replaced = few-sides (e .cell) all
 
-few-concealed : (tested : Tested) (W : World) (e : Entry) → length ((filled tested W e) .facing) ≤ 6
+few-concealed : (tested : Tested) (W : World) (e : Entry) → length ((addedIfCube tested W e) .facing) ≤ 6
 few-concealed tested W e =
     split (λ t. length ((cond t (added tested W e) nothing) .facing) ≤ 6) (isNormalCube W (e .type))
     (λ s. each-few 1 6 0 (λ i. conceal tested W (e .type) i (neighbour (W .size) (e .cell) i)) (λ i. one i (neighbour (W .size) (e .cell) i))) (λ s. omega arith)
@@ -191,17 +187,17 @@ module _ (W : World) (snd : Sound W) (s : ℕ) (sized : (t f c : ℕ) → length
           all-only (Fits (6 * cells (W .size)) s) (covering W (e .type) i && isNormalCube W (givenAt e i)) (quadOf W (givenAt e i) k (opposite i))
           (omega arith, sized (givenAt e i) (opposite i) k)
 
-  fits-filled : (tested : Tested) (e : Entry) → e .cell < cells (W .size) → All (Fits (6 * cells (W .size)) s) ((filled tested W e) .new)
-  fits-filled tested e h =
+  fits-cube : (tested : Tested) (e : Entry) → e .cell < cells (W .size) → All (Fits (6 * cells (W .size)) s) ((addedIfCube tested W e) .new)
+  fits-cube tested e h =
       split (λ t. All (Fits (6 * cells (W .size)) s) ((cond t (added tested W e) nothing) .new)) (isNormalCube W (e .type))
       (λ x. fits-quads (e .type) (e .cell) (isOpen W e) h) (λ x. tt)
 
   pub fits-new : (tested : Tested) (e : Entry) → e .cell < cells (W .size) → (k : Change) → All (Fits (6 * cells (W .size)) s) ((workBy tested W e k) .new)
   fits-new tested e h Broken = fits-revealed e h
-  fits-new tested e h Added = fits-filled tested e h
+  fits-new tested e h Added = fits-cube tested e h
   fits-new tested e h Sides = fits-quads (e .type) (e .cell) (draws W e) h
   fits-new tested e h Replaced =
-      all-append (Fits (6 * cells (W .size)) s) ((broken W (firstHalf e)) .new) ((filled tested W (secondHalf e)) .new) (fits-revealed (firstHalf e) h) (fits-filled tested (secondHalf e) h)
+      all-append (Fits (6 * cells (W .size)) s) ((broken W (firstHalf e)) .new) ((addedIfCube tested W (secondHalf e)) .new) (fits-revealed (firstHalf e) h) (fits-cube tested (secondHalf e) h)
 
 -- ---- a log
 

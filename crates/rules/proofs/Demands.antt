@@ -15,7 +15,7 @@ use Rattle.rules.specs.Lists.{only, member}
 use Rattle.rules.specs.Cells.{cells, keyOf}
 use Rattle.rules.specs.Types.{floats, quadWord, quadWords, cubeOf}
 use Rattle.rules.specs.Mesh.{Quad, Attribute, position, normal, uv, colour, Vertices, HasList, of-positions, of-normals, of-uvs, of-colours, eachList, attributeLaid, Lists, listsOf, typeAt, drawn, allSides, culled, at, decode, layout, meshBy}
-use Rattle.rules.specs.Update.{BYTES, Change, Broken, Added, Sides, Replaced, Entry, entryAt, Tested, work, Course, blank, u32At, emptyType, gridBy, gridAfter, gridLog, TrueBy, Honest, Mends, AddsAlike}
+use Rattle.rules.specs.Update.{ENTRY-BYTES, Change, Broken, Added, Sides, Replaced, Entry, entryAt, Tested, work, Course, blank, u32At, emptyType, gridBy, gridAfter, gridLog, TrueBy, Honest, Mends, AddsAlike}
 use Rattle.rules.specs.Answers.{Verdict, fine, refuse, _then_, refuseIf, refuseLowest, outOf, badLimits, BAD-SIZE, BAD-GRID, badCounts, badType, BAD-TYPES, BAD-NUMBER, NOT-A-CUBE, BAD-OUTER, BAD-CELL, SHORT-SLOTS, roomOf, BAD-COUNT, badBytes, badFormer, badEntry, BAD-ENTRY, NO-ROOM}
 use Rattle.rules.specs.Check.{linked, Holds, Right}
 use Rattle.rules.specs.Calls.{Answer, answered, Scene, wordsIn, world, span, faces, room, typesVerdict, freshMesh, inputVerdict, meshVerdict, meshedBy, meshGrid, lentVerdict, updateVerdict, entriesOf, course, courseAnswer, updateBy, updateMesh, openVerdict, bookVerdict, faceVerdict, checkVerdict, checkBy, checkMesh}
@@ -347,25 +347,25 @@ module _ (S : Scene) (B : Lists) (Q : ℕ) (size-fine : BAD-SIZE (S .size) ≡ f
           )
 
 -- the entries of an accepted log: the grid has their cells, and the table their types
-entry-known : (n types : ℕ) (log : List ℕ) → BAD-ENTRY n types log ≡ fine → (k : ℕ) → k < length log / BYTES
+entry-known : (n types : ℕ) (log : List ℕ) → BAD-ENTRY n types log ≡ fine → (k : ℕ) → k < length log / ENTRY-BYTES
     → ((entryAt log k) .cell < n) × ((entryAt log k) .type < types)
 unfolding BAD-ENTRY badEntry entryAt
 entry-known n types log e k h =
-    let a = then-fine (refuseLowest 13 (length log / BYTES) (badEntry n types log)) _ e .0 in
-    let b = lowest-fine 13 (length log / BYTES) (badEntry n types log) a k h in
-    let at = BYTES * k in
+    let a = then-fine (refuseLowest 13 (length log / ENTRY-BYTES) (badEntry n types log)) _ e .0 in
+    let b = lowest-fine 13 (length log / ENTRY-BYTES) (badEntry n types log) a k h in
+    let at = ENTRY-BYTES * k in
     let named = leb 16777216 k || leb n (u32At log at) || ltb 3 (getD log (at + 4) 0) || leb types (getD log (at + 5) 0) in
     let c = or-false named _ (or-false (named || badBytes types log at) _ (or-false (named || badBytes types log at || badFormer types log at) _ b .0) .0) .0 in
     let d = or-false (leb 16777216 k || leb n (u32At log at) || ltb 3 (getD log (at + 4) 0)) (leb types (getD log (at + 5) 0)) c in
     let f = or-false (leb 16777216 k || leb n (u32At log at)) (ltb 3 (getD log (at + 4) 0)) (d .0) .0 in
     (leb-false n (u32At log at) (or-false (leb 16777216 k) (leb n (u32At log at)) f .1), leb-false types (getD log (at + 5) 0) (d .1))
 
-pub entry-inside : (n types : ℕ) (log : List ℕ) → BAD-ENTRY n types log ≡ fine → (k : ℕ) → k < length log / BYTES → (entryAt log k) .cell < n
+pub entry-inside : (n types : ℕ) (log : List ℕ) → BAD-ENTRY n types log ≡ fine → (k : ℕ) → k < length log / ENTRY-BYTES → (entryAt log k) .cell < n
 entry-inside n types log e k h = entry-known n types log e k h .0
 
 entries-listed : (n types : ℕ) (log : List ℕ) → BAD-ENTRY n types log ≡ fine → All (λ e. e .type < types) (entriesOf log)
 entries-listed n types log e =
-    all-each (λ (x : Entry). x .type < types) (length log / BYTES) 0 (λ k. entryAt log k ∷ []) (λ k a b. (entry-known n types log e k (omega arith) .1, tt))
+    all-each (λ (x : Entry). x .type < types) (length log / ENTRY-BYTES) 0 (λ k. entryAt log k ∷ []) (λ k a b. (entry-known n types log e k (omega arith) .1, tt))
 
 -- ---- what a log leaves
 module _ (tested : Tested) (S : Scene) (log : List ℕ) (B : Lists) (Q : ℕ) (accepted : updateVerdict S log B Q ≡ fine) where
@@ -393,7 +393,7 @@ module _ (tested : Tested) (S : Scene) (log : List ℕ) (B : Lists) (Q : ℕ) (a
   pub ran-sane : Sane (faces S) (span S) (room S B) ((course tested S log B Q) .quads) ((course tested S log B Q) .highest)
   ran-sane =
       let a = asked-of in
-      course-sane (faces S) (span S) (room S B) (λ k. work tested (world S) (entryAt log k)) 0 (length log / BYTES) (decode (S .types .coloured) Q B) 0 Q
+      course-sane (faces S) (span S) (room S B) (λ k. work tested (world S) (entryAt log k)) 0 (length log / ENTRY-BYTES) (decode (S .types .coloured) Q B) 0 Q
       (λ j x y. fits-new (world S) (sound S (a .size) (a .types)) (span S) (words-sized S) tested (entryAt log j)
       (entry-inside (cells (S .size)) (length (S .types .kinds)) log (a .entries) j (omega arith)) ((entryAt log j) .change))
       (lent-sane S B Q (a .size) (a .slots) (a .count) (a .book))
@@ -481,7 +481,7 @@ module _ (tested : Tested) (S : Scene) (g log : List ℕ) (B : Lists) (Q : ℕ) 
       (fine-lowest 8 (length grid) (λ k. leb types (getD grid k 0))
       (λ k l. lt-leb types (getD grid k 0)
       (codes-log S g (entriesOf log) (entries-listed (cells (S .size)) types log (u .entries)) ho codes k l)))
-      (mends-log (world S) snd tested (room S B) (entryAt log) 0 (length log / BYTES) g (decode (S .types .coloured) Q B) 0 Q hg sh
+      (mends-log (world S) snd tested (room S B) (entryAt log) 0 (length log / ENTRY-BYTES) g (decode (S .types .coloured) Q B) 0 Q hg sh
       (λ j x y. entry-inside (cells (S .size)) types log (u .entries) j (omega arith)) ho me al fu)
 
   -- if a mesh passes with no outer face named, it passes for the new grid after any unrefused, honest log of Added, Broken and Replaced alone

@@ -13,7 +13,7 @@ use Rattle.rules.specs.Lists.{table, row}
 use Rattle.rules.specs.Cells.{cells, firstVertex, linkOf}
 use Rattle.rules.specs.Cube.{floatsOf}
 use Rattle.rules.specs.Mesh.{Quad, Attribute, attributeIn, HasList, eachList, rowOf, attributeLaid, Lists, NONE, there, placeOf, rows, laid, slotOf, slotted, layout, pattern, decode}
-use Rattle.rules.specs.Update.{BYTES, Tested, source, Work, nothing, ops, needed, work, entryAt, blank, courseFrom}
+use Rattle.rules.specs.Update.{ENTRY-BYTES, Tested, source, Work, nothing, ops, needed, work, entryAt, blank, courseFrom}
 use Rattle.rules.specs.Answers.{fine, slotAt, SHORT-SLOTS, BAD-COUNT, BAD-SIZE, _then_, BAD-ENTRY}
 use Rattle.rules.specs.Check.{linked}
 use Rattle.rules.specs.Calls.{answered, Scene, world, faces, room, bookVerdict, lentVerdict, typesVerdict, updateVerdict, updateMesh}
@@ -125,7 +125,7 @@ idle-course room work i (suc k) h m v p l =
 
 -- LAW: where each entry does nothing, as Added of a kind that is no NormalCube does, nothing changes
 pub idle : (tested : Tested) (S : Scene) (log : List ℕ) (B : Lists) (Q : ℕ) → updateVerdict S log B Q ≡ fine
-    → ((k : ℕ) → k < length log / BYTES → work tested (world S) (entryAt log k) ≡ nothing)
+    → ((k : ℕ) → k < length log / ENTRY-BYTES → work tested (world S) (entryAt log k) ≡ nothing)
     → updateMesh tested S log B Q ≡ record { answer = answered Q 0; lists = B }
 idle tested S log B Q v h =
     let a = then-fine (BAD-SIZE (S .size)) _ v .1 in
@@ -138,7 +138,7 @@ idle tested S log B Q v h =
     let book = book-of-fine (cells (S .size)) B Q (e .1) in
     let len = length-decode (cells (S .size)) B Q (S .types .coloured) in
     let stands = layout-stands (cells (S .size)) (S .types .coloured) B Q slots book (room-for S B Q counted .links) (room-for S B Q counted .vertices) in
-    let run = idle-course (room S B) (λ k. work tested (world S) (entryAt log k)) 0 (length log / BYTES) (λ k a b. h k (omega arith)) (decode (S .types .coloured) Q B) 0 Q (omega arith) in
+    let run = idle-course (room S B) (λ k. work tested (world S) (entryAt log k)) 0 (length log / ENTRY-BYTES) (λ k a b. h k (omega arith)) (decode (S .types .coloured) Q B) 0 Q (omega arith) in
     rw (v, run) (λ i. record { answer = answered (len i) 0; lists = stands i })
 
 -- ---- case 9 of 01, Added Null: number, place, Q, `moved` and the lists are as before

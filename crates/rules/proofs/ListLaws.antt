@@ -143,6 +143,10 @@ unfolding each
 map-each g zero i p = refl
 map-each {B = B} g (suc n) i p = map-append g (p i) (each n (suc i) p) ∙ ap (λ (r : List B). map g (p i) ++ r) (map-each g n (suc i) p)
 
+pub only-few {ℓ} : {A : Type ℓ} (b : Bool) (x : A) → length (only b x) ≤ 1
+only-few true x = omega arith
+only-few false x = omega arith
+
 -- at most m in each piece
 pub each-few {ℓ} : {A : Type ℓ} (m n i : ℕ) (p : ℕ → List A) → ((k : ℕ) → length (p k) ≤ m) → length (each n i p) ≤ m * n
 unfolding each

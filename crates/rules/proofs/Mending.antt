@@ -16,7 +16,7 @@ use Rattle.rules.specs.Lists.{only}
 use Rattle.rules.specs.Cells.{cells, opposite, neighbour, keyOf}
 use Rattle.rules.specs.Mesh.{Quad, World, typeAt, isNormalCube, covering, shown, drawn, allSides, quadsBy, meshBy, culled, at}
 use Rattle.rules.specs.Update.{Change, Broken, Added, Sides, Replaced, Entry, givenAt, outside, run, Work, Tested, quads, all, isOpen, added, broken, firstHalf, secondHalf, replaced, workBy, ops, isEmpty, emptyType, gridBy, standing, Told, TrueBy, MendsBy, Alike, AlikeBy}
-use Rattle.rules.proofs.ListLaws.{read-none, read-one, and-true, lowest-bad}
+use Rattle.rules.proofs.ListLaws.{read-none, read-one, and-true, lowest-bad, only-few}
 use Rattle.rules.proofs.Neighbours.{beside, opposite-lt}
 use Rattle.rules.proofs.Quads.{quadsAt, Once, orElse}
 use Rattle.rules.proofs.Views.{Sound, sides-far, sides-own, quads-far, quads-own, worked, at-work, Apart, View, own, facing, apart, out, view, own-apart, out-apart, face-apart, conceals-none, conceals-one, reveals-none, reveals-one, idle-at}
@@ -30,16 +30,12 @@ due W outer g c f = only (drawn W outer g c f) (W .wordsOf (typeAt g c) f c)
 unfoldable pub Shows : World → List ℕ → List ℕ → List Quad → Type 0
 Shows W outer g m = (c f : ℕ) → f < 6 → at (keyOf c f) m ≡ due W outer g c f
 
-only-le {ℓ} : {A : Type ℓ} (b : Bool) (x : A) → length (only b x) ≤ 1
-only-le true x = omega arith
-only-le false x = omega arith
-
 -- a mesh that has the sides of a test, and no other, has none twice
 pub sides-once : (W : World) (test : ℕ → ℕ → Bool) (g : List ℕ) (m : List Quad)
     → ((c f : ℕ) → f < 6 → at (keyOf c f) m ≡ only (test c f) (W .wordsOf (typeAt g c) f c)) → Once m
 sides-once W test g m h k =
     let e : keyOf (k / 6) (k % 6) ≡ k = omega arith in
-    rw (← e) (rw (h (k / 6) (k % 6) (omega arith)) (only-le (test (k / 6) (k % 6)) (W .wordsOf (typeAt g (k / 6)) (k % 6) (k / 6))))
+    rw (← e) (rw (h (k / 6) (k % 6) (omega arith)) (only-few (test (k / 6) (k % 6)) (W .wordsOf (typeAt g (k / 6)) (k % 6) (k / 6))))
 
 pub shows-once : (W : World) (outer g : List ℕ) (m : List Quad) → Shows W outer g m → Once m
 unfolding Shows
@@ -235,7 +231,7 @@ module _ (W : World) (s : Sound W) (g : List ℕ) (hg : length g ≡ cells (W .s
   added-new tested = go (ℕ-discrete n (e .cell))
     where
       go : Dec (n ≡ e .cell) → length (at (keyOf n f) (quads W (e .type) (e .cell) (isOpen W e))) ≤ 1
-      go (yes q) = rw (quads-own W (e .type) (e .cell) n f hf (isOpen W e) q) (only-le (isOpen W e f) (W .wordsOf (e .type) f (e .cell)))
+      go (yes q) = rw (quads-own W (e .type) (e .cell) n f hf (isOpen W e) q) (only-few (isOpen W e f) (W .wordsOf (e .type) f (e .cell)))
       go (no d) = rw (quads-far W (e .type) (e .cell) n f hf (isOpen W e) d) (omega arith)
 
   broken-new : length (at (keyOf n f) ((broken W e) .new)) ≤ 1
@@ -248,7 +244,7 @@ module _ (W : World) (s : Sound W) (g : List ℕ) (hg : length g ≡ cells (W .s
       go (own q) = gone (own-apart W s (e .cell) inGrid n f hf q)
       go (facing d b q) =
           rw (reveals-one W s (e .cell) inGrid n f hf (e .type) (givenAt e) b)
-          (only-le (covering W (e .type) (opposite f) && isNormalCube W (givenAt e (opposite f))) (W .wordsOf (givenAt e (opposite f)) f n))
+          (only-few (covering W (e .type) (opposite f) && isNormalCube W (givenAt e (opposite f))) (W .wordsOf (givenAt e (opposite f)) f n))
       go (apart d l q) = gone (face-apart W s (e .cell) inGrid n f hf q)
       go (out d l) = gone (out-apart W s (e .cell) inGrid n f hf l)
 

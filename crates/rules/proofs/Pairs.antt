@@ -1,20 +1,23 @@
 -- 02, Q-6 and Q-7: Sides does what CullFaces and AddFaces did, one after the other, and Replaced what Broken and Added do; and the room that they ask for. Assumes nothing.
 use mathlib.Core.Path.{_≡_, refl, sym, ap, _∙_, subst}
+use mathlib.Core.Logic.{_↔_}
 use mathlib.Core.Bool.{Bool, true, false, cond, not, _&&_}
 use mathlib.Core.List.{List, [], _∷_, _++_, map, append-nil, map-append}
-use mathlib.Core.Option.{none, some}
+use mathlib.Core.Option.{Option, none, some}
 use Prim.Native.Nat.{ℕ, zero, suc, _+_, _-_, _%_, _/_, _≤_, _<_, max}
 use native.Mathlib.Omega.{arith}
 use lib.Dec.{eqb, leb}
 use lib.ListN.{length, getD}
-use borrow.Author.Tests.{eqb-true, le-leb, leb-true}
+use native.Mathlib.Numerals.{add-one}
+use native.Mathlib.Nat.{add-zero}
+use borrow.Author.Tests.{eqb-true, le-leb, leb-true, leb-false}
 use Rattle.rules.specs.Lists.{each, only, isNil, count}
 use Rattle.rules.specs.Cells.{cells, keyOf}
 use Rattle.rules.specs.Mesh.{Quad, World, Lists, isNormalCube, at, there, quadOf, decode}
-use Rattle.rules.specs.Update.{BYTES, Change, Broken, Added, Sides, Replaced, Entry, givenAt, entryAt, outside, toHide, toDraw, Op, put, cut, run, moves, highest, Work, Tested, quads, nothing, draws, sided, broken, filled, firstHalf, secondHalf, replaced, workBy, work, cuts, puts, ops, needed, hiddenThere, drawnMissing, Course, courseFrom}
+use Rattle.rules.specs.Update.{ENTRY-BYTES, Change, Broken, Added, Sides, Replaced, Entry, givenAt, entryAt, outside, toHide, toDraw, Op, put, cut, run, moves, highest, Work, Tested, quads, nothing, draws, sided, broken, addedIfCube, firstHalf, secondHalf, replaced, workBy, work, cuts, puts, ops, needed, hiddenThere, drawnMissing, Course, courseFrom}
 use Rattle.rules.specs.Answers.{fine}
-use Rattle.rules.specs.Calls.{Scene, world, room, entriesOf, updateBy, updateMesh}
-use Rattle.rules.specs.Pairs.{Single, stayed, cullFaces, addFaces, withGiven, singleWork, giving, pairBy, pairs, singleWorks, singleUpdate, sidesOf, asSides}
+use Rattle.rules.specs.Calls.{Scene, world, room, entriesOf, updateVerdict, course, updateBy, updateMesh}
+use Rattle.rules.specs.Pairs.{Single, stayed, cullFaces, addFaces, withGiven, singleWork, giving, pairBy, pairs, singleWorks, singleCourse, singleUpdate, sidesOf, asSides}
 use Rattle.rules.proofs.ListLaws.{and-false, and-with, split, each-same, none-each, map-each, count-each, getD-table, all-each, all-only, all-map}
 use Rattle.rules.proofs.Quads.{Once, at-cuts, run-append, run-once}
 use Rattle.rules.proofs.Index.{count-same}
@@ -22,7 +25,7 @@ use Rattle.rules.proofs.Acting.{faceOf, isCut, acts, acting, after, act
 use Rattle.rules.proofs.Views.{Sound, sides-own}
 use Rattle.rules.proofs.Replacing.{second-idle, replaced-after}
 use Rattle.rules.proofs.Demands.{sound, lent-sane, asked-of, entry-inside, through}
-use Rattle.rules.proofs.Courses.{moves-append, cuts-shrink, puts-grow, highest-append, highest-needed, run-le}
+use Rattle.rules.proofs.Courses.{moves-append, cuts-shrink, puts-grow, highest-append, highest-needed, run-le, found-room}
 
 -- ---- own sides that a test picks, as keys or as quads
 module _ {A : Type 0} (x : ℕ → A) where
@@ -114,11 +117,11 @@ module _ (tested : Tested) (W : World) (e : Entry) where
 
 module _ (tested : Tested) (W : World) (s : Sound W) (e : Entry) (inGrid : e .cell < cells (W .size)) (m : List Quad) (once : Once m) where
   -- LAW: Replaced asks for the larger of the pair's two needs
-  pub replaced-needed : needed (replaced tested W e) m ≡ max (needed (broken W (firstHalf e)) m) (needed (filled tested W (secondHalf e)) (run (ops (broken W (firstHalf e))) m))
+  pub replaced-needed : needed (replaced tested W e) m ≡ max (needed (broken W (firstHalf e)) m) (needed (addedIfCube tested W (secondHalf e)) (run (ops (broken W (firstHalf e))) m))
   unfolding ops needed
   replaced-needed =
       let gone = broken W (firstHalf e) in
-      let come = filled tested W (secondHalf e) in
+      let come = addedIfCube tested W (secondHalf e) in
       let between = run (cuts (gone .own)) m in
       let left = run-append (cuts (gone .own)) (puts (gone .new) ++ []) m ∙ ap (λ (os : List Op). run os between) (append-nil (puts (gone .new))) in
       let both = ap (λ (os : List Op). run os between) (map-append put (gone .new) (come .new)) ∙ run-append (puts (gone .new)) (puts (come .new)) between in
@@ -165,21 +168,88 @@ module _ (tested : Tested) (W : World) (s : Sound W) (room : ℕ) (entry : ℕ �
   later : (j : ℕ) (x : Single) (es : List Single) → Follows j (x ∷ es) → Follows (suc j) es
   later j x es h k = ap single (omega arith) ∙ h (suc k)
 
+  -- the place after these
+  abbrev past : ℕ → List Single → ℕ
+  past j [] = j
+  past j (x ∷ es) = past (suc j) es
+
+  passed : (first rest : List Single) (j : ℕ) → Follows j (first ++ rest) → Follows (past j first) rest
+  passed [] rest j h = h
+  passed (x ∷ first) rest j h = passed first rest (suc j) (later j x (first ++ rest) h)
+
   here : (j : ℕ) (x : Single) (es : List Single) → Follows j (x ∷ es) → single j ≡ singleWork tested W x
   here j x es h = ap single (omega arith) ∙ h 0
 
-  -- LAW: a log that comes through does what its single changes do
-  pub same-course : (n i j : ℕ) (m : List Quad) (v p : ℕ) → ((k : ℕ) → i ≤ k → k < i + n → (entry k) .cell < cells (W .size)) → Once m → length m ≤ p → length m ≤ room → Follows j (pairs (entries n i)) → (courseFrom room now i n m v p) .full ≡ none
-      → courseFrom room single j (length (pairs (entries n i))) m v p ≡ courseFrom room now i n m v p
+  -- ---- one entry, on a mesh of which p was the highest count: its single changes, and what comes after them
+  module _ (i j : ℕ) (m : List Quad) (v p : ℕ) (inGrid : (entry i) .cell < cells (W .size)) (once : Once m) (reached : length m ≤ p) (fits : length m ≤ room) (rest : List Single) where
+    -- what the rest does, from whatever place on
+    abbrev onwards : ℕ → Course
+    onwards k = courseFrom room single k (length rest) (run (ops (now i)) m) (v + moves (ops (now i)) m) (highest p (ops (now i)) m)
+
+    -- these single changes: where they find room the entry does, and where it does they are done, and the rest is left
+    record Does (parts : List Single) : Type 0 where
+      found : (courseFrom room single j (length (parts ++ rest)) m v p) .full ≡ none → needed (now i) m ≤ room
+      done : needed (now i) m ≤ room → courseFrom room single j (length (parts ++ rest)) m v p ≡ onwards (past j parts)
+
+    one : Follows j (stayed (entry i) ∷ rest) → Does (stayed (entry i) ∷ [])
+    one h =
+        let e = here j (stayed (entry i)) rest h in
+        record {
+          found = λ f. rw (add-zero j, e) at (found-room room single j (suc (length rest)) m v p f .found 0 (omega arith));
+          done = λ f. course-one room single (now i) j (length rest) m v p e f;
+        }
+
+    two : (a b : Single) → Follows j (a ∷ b ∷ rest) → after p m (ops (now i)) ≡ after p m (ops (singleWork tested W a) ++ ops (singleWork tested W b))
+        → (needed (now i) m ≤ room) ↔ ((needed (singleWork tested W a) m ≤ room) × (needed (singleWork tested W b) (run (ops (singleWork tested W a)) m) ≤ room))
+        → Does (a ∷ b ∷ [])
+    two a b h same need =
+        let x = here j a (b ∷ rest) h in
+        let y = here (suc j) b rest (later j a (b ∷ rest) h) in
+        record {
+          found = λ f. let r = found-room room single j (suc (suc (length rest))) m v p f .found in
+          let s = r 0 (omega arith) in
+          let t = r 1 (omega arith) in
+          need .1 (rw (add-zero j, x) at s, rw (add-one j, x, y) at t);
+          done = λ f. let l = need .0 f in
+          course-two room single (singleWork tested W a) (singleWork tested W b) (now i) j (length rest) m v p x y same (l .0) (l .1);
+        }
+
+    entry-does : (k : Change) → (entry i) .change ≡ k → Follows j (pairBy (entry i) k ++ rest) → Does (pairBy (entry i) k)
+    entry-does Broken e h = one h
+    entry-does Added e h = one h
+    entry-does Sides e h =
+        let w = ap (workBy tested W (entry i)) e in
+        let need = ap (λ (x : Work). needed x m) w ∙ sides-needed tested W (entry i) m in
+        two (cullFaces (giving (toHide (entry i)) (entry i))) (addFaces (giving (toDraw (entry i)) (entry i))) h
+        (ap (after p m) (ap ops w ∙ sides-ops tested W (entry i)))
+        (λ f. (omega (arith, first-needed tested W (entry i) m), omega (arith, need)), λ l. let t = l .1 in omega (arith, need))
+    entry-does Replaced e h =
+        let w = ap (workBy tested W (entry i)) e in
+        let need = ap (λ (x : Work). needed x m) w ∙ replaced-needed tested W s (entry i) inGrid m once in
+        two (stayed (firstHalf (entry i))) (stayed (secondHalf (entry i))) h
+        (ap (λ (x : Work). after p m (ops x)) w ∙ replaced-after tested W s (entry i) inGrid m once p reached)
+        (λ f. (omega (arith, need), omega (arith, need)), λ l. let t = l .0 in let u = l .1 in omega (arith, need))
+
+  -- LAW: a log comes through exactly if its single changes do, and does what they do
+  pub same-course : (n i j : ℕ) (m : List Quad) (v p : ℕ) → ((k : ℕ) → i ≤ k → k < i + n → (entry k) .cell < cells (W .size)) → Once m → length m ≤ p → length m ≤ room → Follows j (pairs (entries n i))
+      → let mine = courseFrom room now i n m v p in let theirs = courseFrom room single j (length (pairs (entries n i))) m v p in
+      ((mine .full ≡ none) ↔ (theirs .full ≡ none)) × (mine .full ≡ none → theirs ≡ mine)
   unfolding courseFrom each
-  same-course zero i j m v p inGrid once t l h q = refl
-  same-course (suc n) i j m v p inGrid once t l h q =
-      found (leb (needed (now i) m) room) refl q
-      (λ f g j h. same-course n (suc i) j (run (ops (now i)) m) (v + moves (ops (now i)) m) (highest p (ops (now i)) m)
-      (λ k a b. inGrid k (omega arith) (omega arith)) (run-once (ops (now i)) m once) (omega (arith, highest-needed (now i) p m t, run-le (now i) m)) f h g)
+  same-course zero i j m v p inGrid once reached fits h = ((λ q. refl, λ q. refl), λ q. refl)
+  same-course (suc n) i j m v p inGrid once reached fits h =
+      by (leb (needed (now i) m) room) refl
+      (λ f. same-course n (suc i) (past j (pairBy (entry i) ((entry i) .change))) (run (ops (now i)) m) (v + moves (ops (now i)) m) (highest p (ops (now i)) m)
+      (λ k a b. inGrid k (omega arith) (omega arith)) (run-once (ops (now i)) m once) (omega (arith, highest-needed (now i) p m reached, run-le (now i) m)) (omega (arith, f, run-le (now i) m))
+      (passed (pairBy (entry i) ((entry i) .change)) (pairs (entries n (suc i))) j h))
     where
       rest : List Single
       rest = pairs (entries n (suc i))
+
+      parts : List Single
+      parts = pairBy (entry i) ((entry i) .change)
+
+      d : Does i j m v p (inGrid i (omega arith) (omega arith)) once reached fits rest parts
+      d = entry-does i j m v p (inGrid i (omega arith) (omega arith)) once reached fits rest ((entry i) .change) refl h
 
       end : Course
       end = courseFrom room now (suc i) n (run (ops (now i)) m) (v + moves (ops (now i)) m) (highest p (ops (now i)) m)
@@ -187,55 +257,52 @@ module _ (tested : Tested) (W : World) (s : Sound W) (room : ℕ) (entry : ℕ �
       stop : Course
       stop = record { full = some i; quads = m; moved = v; highest = p }
 
-      -- what the rest does, from whatever place on
-      Rest : Type 0
-      Rest = (j : ℕ) → Follows j rest → courseFrom room single j (length rest) (run (ops (now i)) m) (v + moves (ops (now i)) m) (highest p (ops (now i)) m) ≡ end
+      Same : Course → Course → Type 0
+      Same mine theirs = ((mine .full ≡ none) ↔ (theirs .full ≡ none)) × (mine .full ≡ none → theirs ≡ mine)
 
-      one : needed (now i) m ≤ room → Rest → Follows j (stayed (entry i) ∷ rest) → courseFrom room single j (suc (length rest)) m v p ≡ end
-      one f r h = course-one room single (now i) j (length rest) m v p (here j (stayed (entry i)) rest h) f ∙ r (suc j) (later j (stayed (entry i)) rest h)
+      stopped : _≡_ {A = Option ℕ} (some i) none → ⊥
+      stopped q = let z : _≡_ {A = ℕ} 0 1 = cc in omega arith
 
-      two : needed (now i) m ≤ room → Rest → (a b : Single) → Follows j (a ∷ b ∷ rest) → after p m (ops (now i)) ≡ after p m (ops (singleWork tested W a) ++ ops (singleWork tested W b))
-          → needed (singleWork tested W a) m ≤ room → needed (singleWork tested W b) (run (ops (singleWork tested W a)) m) ≤ room
-          → courseFrom room single j (suc (suc (length rest))) m v p ≡ end
-      two f r a b h o la lb =
-          let g = later j a (b ∷ rest) h in
-          course-two room single (singleWork tested W a) (singleWork tested W b) (now i) j (length rest) m v p (here j a (b ∷ rest) h) (here (suc j) b rest g) o la lb
-          ∙ r (suc (suc j)) (later (suc j) b rest g)
+      by : (t : Bool) → leb (needed (now i) m) room ≡ t → (needed (now i) m ≤ room → Same end (onwards i j m v p (inGrid i (omega arith) (omega arith)) once reached fits rest (past j parts)))
+          → Same (cond t end stop) (courseFrom room single j (length (parts ++ rest)) m v p)
+      by true t r = let f = leb-true (needed (now i) m) room t in subst (Same end) (sym (d .done f)) (r f)
+      by false t r =
+          let none-found : (courseFrom room single j (length (parts ++ rest)) m v p) .full ≡ none → ⊥ =
+          λ q. let f = d .found q in let g = leb-false (needed (now i) m) room t in omega arith in
+          ((λ q. absurd (stopped q), λ q. absurd (none-found q)), λ q. absurd (stopped q))
 
-      step : needed (now i) m ≤ room → Rest → (k : Change) → (entry i) .change ≡ k → Follows j (pairBy (entry i) k ++ rest) → courseFrom room single j (length (pairBy (entry i) k ++ rest)) m v p ≡ end
-      step f r Broken e h = one f r h
-      step f r Added e h = one f r h
-      step f r Sides e h =
-          let w = ap (workBy tested W (entry i)) e in
-          two f r (cullFaces (giving (toHide (entry i)) (entry i))) (addFaces (giving (toDraw (entry i)) (entry i))) h
-          (ap (after p m) (ap ops w ∙ sides-ops tested W (entry i)))
-          (omega (arith, first-needed tested W (entry i) m))
-          (omega (arith, f, ap (λ (x : Work). needed x m) w, sides-needed tested W (entry i) m))
-      step f r Replaced e h =
-          let w = ap (workBy tested W (entry i)) e in
-          let c = inGrid i (omega arith) (omega arith) in
-          let need = ap (λ (x : Work). needed x m) w ∙ replaced-needed tested W s (entry i) c m once in
-          two f r (stayed (firstHalf (entry i))) (stayed (secondHalf (entry i))) h
-          (ap (λ (x : Work). after p m (ops x)) w ∙ replaced-after tested W s (entry i) c m once p t)
-          (omega (arith, f, need)) (omega (arith, f, need))
+-- LAW: an update whose input is accepted comes through exactly if one by single changes does, and then answers and leaves what it does
+module _ (tested : Tested) (S : Scene) (log : List ℕ) (B : Lists) (Q : ℕ) (accepted : updateVerdict S log B Q ≡ fine) where
+  by-singles : let mine = course tested S log B Q in let theirs = singleCourse tested S (pairs (entriesOf log)) B Q in
+      ((mine .full ≡ none) ↔ (theirs .full ≡ none)) × (mine .full ≡ none → theirs ≡ mine)
+  by-singles =
+      let a = asked-of tested S log B Q accepted in
+      let s = lent-sane S B Q (a .size) (a .slots) (a .count) (a .book) in
+      let l = s .reached in
+      let r = s .within in
+      same-course tested (world S) (sound S (a .size) (a .types)) (room S B) (entryAt log) (λ k. getD (singleWorks tested S (pairs (entriesOf log))) k nothing) (length log / ENTRY-BYTES) 0 0
+      (decode (S .types .coloured) Q B) 0 Q (λ k x y. entry-inside (cells (S .size)) (length (S .types .kinds)) log (a .entries) k (omega arith)) (s .once) (omega arith) (omega arith)
+      (λ k. ap (λ (n : ℕ). getD (singleWorks tested S (pairs (entriesOf log))) n nothing) (omega arith))
 
-      found : (t : Bool) → leb (needed (now i) m) room ≡ t → (cond t end stop) .full ≡ none → (length (run (ops (now i)) m) ≤ room → end .full ≡ none → Rest)
-          → courseFrom room single j (length (pairBy (entry i) ((entry i) .change) ++ rest)) m v p ≡ cond t end stop
-      found true t q later = let f = leb-true (needed (now i) m) room t in step f (later (omega (arith, run-le (now i) m)) q) ((entry i) .change) refl h
-      found false t q later = let z : _≡_ {A = ℕ} 0 1 = cc in absurd (omega arith)
+  pub comes-through : ((course tested S log B Q) .full ≡ none) ↔ ((singleCourse tested S (pairs (entriesOf log)) B Q) .full ≡ none)
+  comes-through = by-singles .0
+
+  pub does-the-same : (course tested S log B Q) .full ≡ none → updateMesh tested S log B Q ≡ singleUpdate tested S (pairs (entriesOf log)) B Q
+  does-the-same q = rw accepted (ap (λ (x : Course). updateBy fine S x B) (sym (by-singles .1 q)))
 
 -- LAW: an update that is not refused answers and leaves what one by single changes does
 pub update-by-pairs : (tested : Tested) (S : Scene) (log : List ℕ) (B : Lists) (Q : ℕ) → (updateMesh tested S log B Q) .answer .number ≡ 0
     → updateMesh tested S log B Q ≡ singleUpdate tested S (pairs (entriesOf log)) B Q
-update-by-pairs tested S log B Q e =
-    let t = through tested S log B Q e in
-    let a = asked-of tested S log B Q (t .0) in
-    let s = lent-sane S B Q (a .size) (a .slots) (a .count) (a .book) in
-    let l = s .reached in
-    let r = s .within in
-    let c = same-course tested (world S) (sound S (a .size) (a .types)) (room S B) (entryAt log) (λ k. getD (singleWorks tested S (pairs (entriesOf log))) k nothing) (length log / BYTES) 0 0
-    (decode (S .types .coloured) Q B) 0 Q (λ k x y. entry-inside (cells (S .size)) (length (S .types .kinds)) log (a .entries) k (omega arith)) (s .once) (omega arith) (omega arith) (λ k. ap (λ (n : ℕ). getD (singleWorks tested S (pairs (entriesOf log))) n nothing) (omega arith)) (t .1) in
-    rw (t .0) (ap (λ (x : Course). updateBy fine S x B) (sym c))
+update-by-pairs tested S log B Q e = let t = through tested S log B Q e in does-the-same tested S log B Q (t .0) (t .1)
+
+-- LAW: where one of two accepted logs of the same single changes is not refused, the other answers and leaves the same
+pub same-changes-same-update : (tested : Tested) (S : Scene) (one other : List ℕ) (B : Lists) (Q : ℕ) → pairs (entriesOf one) ≡ pairs (entriesOf other)
+    → (updateMesh tested S one B Q) .answer .number ≡ 0 → updateVerdict S other B Q ≡ fine → updateMesh tested S other B Q ≡ updateMesh tested S one B Q
+same-changes-same-update tested S one other B Q same e accepted =
+    let t = through tested S one B Q e in
+    let f = ap (λ (es : List Single). (singleCourse tested S es B Q) .full) same in
+    let q = comes-through tested S other B Q accepted .1 (sym f ∙ comes-through tested S one B Q (t .0) .0 (t .1)) in
+    does-the-same tested S other B Q accepted q ∙ ap (λ (es : List Single). singleUpdate tested S es B Q) (sym same) ∙ sym (update-by-pairs tested S one B Q e)
 
 -- ---- the room
 

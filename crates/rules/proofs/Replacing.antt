@@ -8,7 +8,7 @@ use lib.ListN.{length}
 use Rattle.rules.specs.Lists.{only, isNil}
 use Rattle.rules.specs.Cells.{cells, keyOf}
 use Rattle.rules.specs.Mesh.{Quad, World, isNormalCube, at, there}
-use Rattle.rules.specs.Update.{Entry, givenAt, Op, put, cut, run, Work, Tested, sides, all, nothing, added, broken, filled, firstHalf, secondHalf, replaced, cuts, puts, ops}
+use Rattle.rules.specs.Update.{Entry, givenAt, Op, put, cut, run, Work, Tested, all, nothing, added, broken, addedIfCube, firstHalf, secondHalf, inOne, replaced, cuts, puts, ops}
 use Rattle.rules.proofs.ListLaws.{All, all-each, all-only}
 use Rattle.rules.proofs.Quads.{Once, run-append}
 use Rattle.rules.proofs.Acting.{acting, acting-append, acting-same, after, idle-step}
@@ -19,15 +19,12 @@ idle-cuts : (ks : List ℕ) (m : List Quad) → All (λ k. there k m ≡ false) 
 idle-cuts [] m a = (refl, refl)
 idle-cuts (k ∷ ks) m a = let s = idle-step (cut k) m (a .0) .0 in let r = idle-cuts ks m (a .1) in (rw (a .0, s) (r .0), ap (run (cuts ks)) s ∙ r .1)
 
--- two works in one: the own quads of the second are gone with those of the first, which has no facing ones to remove
+-- two works in one
 module _ (gone come : Work) (none-facing : gone .facing ≡ []) (m : List Quad) where
-  abbrev inOne : Work
-  inOne = record { own = gone .own; new = gone .new ++ come .new; facing = come .facing }
-
   abbrev rest : List Op
   rest = puts (come .new) ++ cuts (come .facing)
 
-  in-one-ops : ops inOne ≡ ops gone ++ rest
+  in-one-ops : ops (inOne gone come) ≡ ops gone ++ rest
   unfolding ops
   in-one-ops =
       rw none-facing
@@ -35,7 +32,7 @@ module _ (gone come : Work) (none-facing : gone .facing ≡ []) (m : List Quad) 
       ∙ append-assoc (puts (gone .new)) (puts (come .new)) (cuts (come .facing)) ∙ ap (λ (x : List Op). x ++ rest) (sym (append-nil (puts (gone .new)))))
       ∙ sym (append-assoc (cuts (gone .own)) (puts (gone .new) ++ []) rest))
 
-  pub in-one-acts : All (λ k. there k (run (ops gone) m) ≡ false) (come .own) → acting (ops inOne) m ≡ acting (ops gone ++ ops come) m
+  pub in-one-acts : All (λ k. there k (run (ops gone) m) ≡ false) (come .own) → acting (ops (inOne gone come)) m ≡ acting (ops gone ++ ops come) m
   unfolding ops
   in-one-acts a =
       let i = idle-cuts (come .own) (run (ops gone) m) a in
@@ -48,7 +45,7 @@ module _ (tested : Tested) (W : World) (s : Sound W) (e : Entry) (inGrid : e .ce
   gone = broken W (firstHalf e)
 
   abbrev come : Work
-  come = filled tested W (secondHalf e)
+  come = addedIfCube tested W (secondHalf e)
 
   -- none of the cell's own quads is left by the first half
   none-left : (f : ℕ) → f < 6 → there (keyOf (e .cell) f) (run (ops gone) m) ≡ false

@@ -10,10 +10,10 @@ use lib.Ieee as ieee
 use Rattle.rules.specs.Lists.{each, every, count, lowestFrom, same}
 use Rattle.rules.specs.Cells.{neighbour}
 use Rattle.rules.specs.Types as types
-use Rattle.rules.specs.Mesh.{attributeIn, meshBy, laid, slotted}
+use Rattle.rules.specs.Mesh.{isNormalCube, attributeIn, meshBy, laid, slotted}
 use Rattle.rules.specs.Update.{entryAt, removeAt, remove, ops, needed, courseFrom, emptyType, Tested, source, itself, gridLog, Honest, Mends, AddsAlike}
 use Rattle.rules.specs.Answers as answers
-use Rattle.rules.specs.Calls.{Scene, Outcome, answered, world, entriesOf, meshGrid, updateMesh, checkMesh}
+use Rattle.rules.specs.Calls.{Scene, Outcome, Answer, answered, world, entriesOf, meshGrid, updateMesh, checkMesh}
 use Rattle.rules.proofs.Abacus.{ZERO, ONE, all, UNIT-WORDS, scene, lent, digAndFill}
 use Rattle.rules.proofs.Modes.{itself-alike}
 use Rattle.rules.proofs.Demands.{fresh-accepted, mended-accepted}
@@ -118,42 +118,43 @@ slab-witness =
     mended-accepted itself G ground slabLog (bare .lists) (bare .answer .quads) (rw (fresh-accepted G [] ground (lent 12 2) bare-meshed))
     slab-honest slab-mends (itself-alike (world G) (entriesOf slabLog)) slab-unrefused
 
--- ---- Replaced (02, Q-7) in each mode: two cubes that cover all, one on the other; the upper one becomes a cube that covers Top and Bottom. No type is empty, and no cell
+-- ---- Replaced (02, Q-7) in each mode: two cubes that cover all, one on the other; the upper one becomes a cube that covers Top and Bottom, or in the new mode Bottom alone. No
+-- type is empty, and no cell
 
 abbrev F : Scene
 F =
     record {
       size = record { w = 1; h = 2; l = 1 };
-      types = record { coloured = false; kinds = 1 ∷ 1 ∷ []; covers = 63 ∷ 3 ∷ []; cubes = UNIT-WORDS ++ UNIT-WORDS };
+      types = record { coloured = false; kinds = 1 ∷ 1 ∷ 1 ∷ []; covers = 63 ∷ 3 ∷ 2 ∷ []; cubes = UNIT-WORDS ++ UNIT-WORDS ++ UNIT-WORDS };
       d = all ONE;
       centre = all ZERO;
     }
 
-none-empty : emptyType (world F) ≡ length (F .types .kinds)
+pub none-empty : emptyType (world F) ≡ length (F .types .kinds)
 unfolding emptyType lowestFrom
 none-empty = refl
 
 abbrev full : List ℕ
 full = 0 ∷ 0 ∷ []
 
-abbrev swapLog : List ℕ
-swapLog = 1 ∷ 0 ∷ 0 ∷ 0 ∷ 3 ∷ 1 ∷ 255 ∷ 0 ∷ 255 ∷ 255 ∷ 255 ∷ 255 ∷ 0 ∷ 0 ∷ 0 ∷ 0 ∷ []
+abbrev swapLog : ℕ → List ℕ
+swapLog t = 1 ∷ 0 ∷ 0 ∷ 0 ∷ 3 ∷ t ∷ 255 ∷ 0 ∷ 255 ∷ 255 ∷ 255 ∷ 255 ∷ 0 ∷ 0 ∷ 0 ∷ 0 ∷ []
 
 abbrev piled : Outcome
 piled = meshGrid F [] full true (lent 12 2)
 
-abbrev swapped : Tested → Outcome
-swapped tested = updateMesh tested F swapLog (piled .lists) (piled .answer .quads)
+abbrev swapped : Tested → ℕ → Outcome
+swapped tested t = updateMesh tested F (swapLog t) (piled .lists) (piled .answer .quads)
 
-swap-honest : Honest (world F) full (entriesOf swapLog)
+swap-honest : (t : ℕ) → Honest (world F) full (entriesOf (swapLog t))
 unfolding each entryAt neighbour
-swap-honest = (six _ refl refl refl refl refl refl, refl, tt)
+swap-honest t = (six _ refl refl refl refl refl refl, refl, tt)
 
-swap-mends : Mends (world F) full (entriesOf swapLog)
+swap-mends : (t : ℕ) → isNormalCube (world F) t ≡ true → Mends (world F) full (entriesOf (swapLog t))
 unfolding each entryAt
-swap-mends = (refl, tt)
+swap-mends t cube = (cube, tt)
 
-swap-alike : AddsAlike source (world F) (entriesOf swapLog)
+swap-alike : AddsAlike source (world F) (entriesOf (swapLog 1))
 unfolding each entryAt
 swap-alike = (λ c. six _ refl refl refl refl refl refl, tt)
 
@@ -161,17 +162,21 @@ piled-meshed : piled .answer .number ≡ 0
 unfolding answers._then_ answers.refuseIf answers.badLimits answers.BAD-TYPES answers.badCounts lowestFrom answers.badType answers.BAD-NUMBER answers.notACube types.isCube every types.classed types.classOf types.classAt types.classOn ieee.eq ieee.ofBits ieee.lt answers.roomOf meshBy each neighbour
 piled-meshed = refl
 
-swap-unrefused : (swapped source) .answer .number ∷ (swapped itself) .answer .number ∷ [] ≡ 0 ∷ 0 ∷ []
+swap-unrefused : (swapped source 1) .answer .number ∷ (swapped itself 2) .answer .number ∷ [] ≡ 0 ∷ 0 ∷ []
 unfolding answers._then_ answers.refuseIf answers.badLimits answers.BAD-TYPES answers.badCounts lowestFrom answers.badType answers.BAD-NUMBER answers.notACube types.isCube every types.classed types.classOf types.classAt types.classOn ieee.eq ieee.ofBits ieee.lt answers.roomOf meshBy each neighbour count laid attributeIn slotted answers.badLink answers.BAD-LINKS same answers.badNeighbours answers.badSides answers.badBytes answers.badFormer answers.badSpare answers.badEntry answers.BAD-ENTRY courseFrom entryAt needed ops remove removeAt types.quadWords
 swap-unrefused = refl
 
-module _ (tested : Tested) (alike : AddsAlike tested (world F) (entriesOf swapLog)) (done : (swapped tested) .answer .number ≡ 0) where
-  swap-passes : checkMesh F [] (gridLog (world F) (entriesOf swapLog) full) ((swapped tested) .lists) ((swapped tested) .answer .quads) ≡ answered 0 0
+-- the mesh for the grid after it
+abbrev checked : Tested → ℕ → Answer
+checked tested t = checkMesh F [] (gridLog (world F) (entriesOf (swapLog t)) full) ((swapped tested t) .lists) ((swapped tested t) .answer .quads)
+
+module _ (tested : Tested) (t : ℕ) (cube : isNormalCube (world F) t ≡ true) (alike : AddsAlike tested (world F) (entriesOf (swapLog t))) (done : (swapped tested t) .answer .number ≡ 0) where
+  swap-passes : checked tested t ≡ answered 0 0
   swap-passes =
-      mended-accepted tested F full swapLog (piled .lists) (piled .answer .quads) (rw (fresh-accepted F [] full (lent 12 2) piled-meshed)) swap-honest swap-mends alike done
+      mended-accepted tested F full (swapLog t) (piled .lists) (piled .answer .quads) (rw (fresh-accepted F [] full (lent 12 2) piled-meshed)) (swap-honest t) (swap-mends t cube) alike done
 
-pub swap-witness : checkMesh F [] (gridLog (world F) (entriesOf swapLog) full) ((swapped source) .lists) ((swapped source) .answer .quads) ≡ answered 0 0
-swap-witness = swap-passes source swap-alike (ap (λ (l : List ℕ). getD l 0 0) swap-unrefused)
+pub swap-witness : checked source 1 ≡ answered 0 0
+swap-witness = swap-passes source 1 refl swap-alike (ap (λ (l : List ℕ). getD l 0 0) swap-unrefused)
 
-pub swap-witness-itself : checkMesh F [] (gridLog (world F) (entriesOf swapLog) full) ((swapped itself) .lists) ((swapped itself) .answer .quads) ≡ answered 0 0
-swap-witness-itself = swap-passes itself (itself-alike (world F) (entriesOf swapLog)) (ap (λ (l : List ℕ). getD l 1 0) swap-unrefused)
+pub swap-witness-itself : checked itself 2 ≡ answered 0 0
+swap-witness-itself = swap-passes itself 2 refl (itself-alike (world F) (entriesOf (swapLog 2))) (ap (λ (l : List ℕ). getD l 1 0) swap-unrefused)

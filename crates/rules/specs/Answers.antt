@@ -10,7 +10,7 @@ use Rattle.rules.specs.Floats.{finite, finite3}
 use Rattle.rules.specs.Types.{Types, floats, cubeOf, isCube}
 use Rattle.rules.specs.Cube.{Shape, floatsOf}
 use Rattle.rules.specs.Mesh.{Quad, World, Lists, NONE, drawn, there, pattern, typeAt}
-use Rattle.rules.specs.Update.{Change, Broken, Added, Sides, Replaced, changeOf, BYTES, u32At}
+use Rattle.rules.specs.Update.{Change, Broken, Added, Sides, Replaced, changeOf, ENTRY-BYTES, u32At}
 
 -- nothing to refuse, or a refusal with its number and its place
 pub data Verdict : Type 0 where
@@ -175,13 +175,13 @@ badSpare log at = not (eqb (getD log (at + 13) 0) 0 && eqb (getD log (at + 14) 0
 
 unfoldable pub badEntry : ℕ → ℕ → List ℕ → ℕ → Bool
 badEntry cells types log k =
-    let at = BYTES * k in
+    let at = ENTRY-BYTES * k in
     leb 16777216 k || leb cells (u32At log at) || ltb 3 (getD log (at + 4) 0) || leb types (getD log (at + 5) 0) || badBytes types log at
     || badFormer types log at || badSpare log at
 
 unfoldable pub BAD-ENTRY : ℕ → ℕ → List ℕ → Verdict
 BAD-ENTRY cells types log =
-    refuseLowest 13 (length log / BYTES) (badEntry cells types log) then refuseIf (not (eqb (length log % BYTES) 0)) 13 (length log / BYTES)
+    refuseLowest 13 (length log / ENTRY-BYTES) (badEntry cells types log) then refuseIf (not (eqb (length log % ENTRY-BYTES) 0)) 13 (length log / ENTRY-BYTES)
 
 -- ---- 14: the quads needed exceed the room
 

@@ -9,7 +9,7 @@ use Rattle.rules.specs.Cells.{Size, Triple, cells, coordinates}
 use Rattle.rules.specs.Types.{Types, floats, cubeOf, quadWords}
 use Rattle.rules.specs.Cube.{Shape, floatsOf, cubeWords}
 use Rattle.rules.specs.Mesh.{Quad, World, Lists, culled, naive, layout, decoded, decode}
-use Rattle.rules.specs.Update.{BYTES, Entry, entryAt, Tested, work, Course, courseFrom}
+use Rattle.rules.specs.Update.{ENTRY-BYTES, Entry, entryAt, Tested, work, Course, courseFrom}
 use Rattle.rules.specs.Answers.{Verdict, fine, refuse, _then_, BAD-SIZE, BAD-GRID, BAD-TYPES, BAD-NUMBER, BAD-ATLAS, NOT-A-CUBE, BAD-OUTER, BAD-TEXTURE, BAD-CELL, SHORT-SLOTS, SHORT-CUBE, roomOf, BAD-COUNT, BAD-LINKS, BAD-TRIANGLES, BAD-ENTRY, NO-ROOM, WRONG-SET, WRONG-VERTEX}
 
 -- what a call answers: 0, or a refusal's number and place; Q and `moved`
@@ -118,10 +118,10 @@ abbrev pub updateVerdict : Scene → List ℕ → Lists → ℕ → Verdict
 updateVerdict S log B Q = updateVerdictIn (room S B) S log B Q
 
 abbrev pub entriesOf : List ℕ → List Entry
-entriesOf log = table (length log / BYTES) (entryAt log)
+entriesOf log = table (length log / ENTRY-BYTES) (entryAt log)
 
 abbrev pub courseIn : ℕ → Tested → Scene → List ℕ → List Quad → ℕ → Course
-courseIn room tested S log m Q = courseFrom room (λ k. work tested (world S) (entryAt log k)) 0 (length log / BYTES) m 0 Q
+courseIn room tested S log m Q = courseFrom room (λ k. work tested (world S) (entryAt log k)) 0 (length log / ENTRY-BYTES) m 0 Q
 
 abbrev pub course : Tested → Scene → List ℕ → Lists → ℕ → Course
 course tested S log B Q = courseIn (room S B) tested S log (decode (S .types .coloured) Q B) Q

@@ -1,4 +1,4 @@
--- 01, "The program and its file". Definitions only.
+-- 01, "The program and its file"; 02, Q-7, by whose entries the log is read. Definitions only.
 use Prim.Native.Nat.{ℕ, zero, suc, _+_, _-_, _*_, _/_, _%_}
 use mathlib.Core.Bool.{Bool, cond, not, _&&_, _||_}
 use mathlib.Core.List.{List, [], _∷_, _++_}
@@ -8,7 +8,7 @@ use Rattle.rules.specs.Lists.{each, table, only, part}
 use Rattle.rules.specs.Cells.{Size, Triple, cells, has}
 use Rattle.rules.specs.Cube.{Shape, floatsOf}
 use Rattle.rules.specs.Mesh.{Lists, Quad, decode}
-use Rattle.rules.specs.Update.{BYTES, u32At, source}
+use Rattle.rules.specs.Update.{ENTRY-BYTES, u32At, source}
 use Rattle.rules.specs.Calls.{Answer, refused, CubeOutcome, generateVoxelMesh, Scene, Outcome, meshGrid, updateMesh}
 
 -- ---- the file: types, grid, log, then a 92-byte trailer of 23 u32 pointing back
@@ -38,7 +38,7 @@ logStart file = gridStart file + cells (sizeIn file)
 abbrev pub adjoining : List ℕ → Bool
 adjoining file =
     eqb (word file 0) (body file) && eqb (word file 1 + gridStart file) (body file) && eqb (word file 2 + logStart file) (body file)
-    && eqb (BYTES * word file 4 + logStart file) (body file)
+    && eqb (ENTRY-BYTES * word file 4 + logStart file) (body file)
 
 unfoldable pub badFile : List ℕ → Bool
 badFile file =
@@ -110,7 +110,7 @@ abbrev pub gridIn : List ℕ → List ℕ
 gridIn file = part (gridStart file) (cells (sizeIn file)) file
 
 abbrev pub logIn : List ℕ → List ℕ
-logIn file = part (logStart file) (BYTES * word file 4) file
+logIn file = part (logStart file) (ENTRY-BYTES * word file 4) file
 
 abbrev pub outerIn : List ℕ → List ℕ
 outerIn file = each 6 0 (λ f. only (has (word file 8) f) f)

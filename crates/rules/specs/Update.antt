@@ -32,17 +32,18 @@ changeOf (suc (suc (suc n))) = Replaced
 abbrev pub u32At : List ℕ → ℕ → ℕ
 u32At xs i = getD xs i 0 + 256 * getD xs (i + 1) 0 + 65536 * getD xs (i + 2) 0 + 16777216 * getD xs (i + 3) 0
 
-abbrev pub BYTES : ℕ
-BYTES = 16
+-- how many an entry has
+abbrev pub ENTRY-BYTES : ℕ
+ENTRY-BYTES = 16
 
 unfoldable pub entryAt : List ℕ → ℕ → Entry
 entryAt log k =
     record {
-      cell = u32At log (BYTES * k);
-      change = changeOf (getD log (BYTES * k + 4) 0);
-      type = getD log (BYTES * k + 5) 0;
-      given = part (BYTES * k + 6) 6 log;
-      former = getD log (BYTES * k + 12) 0;
+      cell = u32At log (ENTRY-BYTES * k);
+      change = changeOf (getD log (ENTRY-BYTES * k + 4) 0);
+      type = getD log (ENTRY-BYTES * k + 5) 0;
+      given = part (ENTRY-BYTES * k + 6) 6 log;
+      former = getD log (ENTRY-BYTES * k + 12) 0;
     }
 
 -- a neighbour is either outside (255) or a voxel of a type; in Sides the six bytes are none (02, Q-6)
@@ -116,14 +117,14 @@ abbrev pub highest : ℕ → List Op → List Quad → ℕ
 highest p [] m = p
 highest p (o ∷ os) m = highest (max p (length (step o m))) os (step o m)
 
--- ---- what an entry does: its own quads go, new ones are drawn, facing ones go, each in face order
+-- ---- what an entry does: its own quads go, new ones are drawn, facing ones go, each in face order; of Replaced first the neighbours' new quads, then its own
 
 pub record Work : Type 0 where
   pub own : List ℕ
   pub new : List Quad
   pub facing : List ℕ
 
--- the side of an Added voxel that decides whether the neighbour at face i loses its facing quad
+-- the side of a voxel that comes, by Added or Replaced, which decides whether the neighbour at face i loses its facing quad
 abbrev pub Tested : Type 0
 Tested = ℕ → ℕ
 
@@ -185,8 +186,8 @@ abbrev pub sided : World → Entry → Work
 sided W e = record { own = sides (e .cell) (toHide e); new = quads W (e .type) (e .cell) (draws W e); facing = [] }
 
 -- a type that is no NormalCube adds nothing
-abbrev pub filled : Tested → World → Entry → Work
-filled tested W e = cond (isNormalCube W (e .type)) (added tested W e) nothing
+abbrev pub addedIfCube : Tested → World → Entry → Work
+addedIfCube tested W e = cond (isNormalCube W (e .type)) (added tested W e) nothing
 
 -- Broken with the former type, then Added with the new, amid the same neighbours (02, Q-7)
 abbrev pub firstHalf : Entry → Entry
@@ -195,16 +196,16 @@ firstHalf e = record { cell = e .cell; change = Broken; type = e .former; given 
 abbrev pub secondHalf : Entry → Entry
 secondHalf e = record { cell = e .cell; change = Added; type = e .type; given = e .given; former = 255 }
 
--- both in one stroke: the second has no own quads left to remove, and the first removes no facing ones
+-- two works in one stroke, where the second has no own quads left to remove, and the first removes no facing ones
+abbrev pub inOne : Work → Work → Work
+inOne gone come = record { own = gone .own; new = gone .new ++ come .new; facing = come .facing }
+
 abbrev pub replaced : Tested → World → Entry → Work
-replaced tested W e =
-    let gone = broken W (firstHalf e) in
-    let come = filled tested W (secondHalf e) in
-    record { own = gone .own; new = gone .new ++ come .new; facing = come .facing }
+replaced tested W e = inOne (broken W (firstHalf e)) (addedIfCube tested W (secondHalf e))
 
 abbrev pub workBy : Tested → World → Entry → Change → Work
 workBy tested W e Broken = broken W e
-workBy tested W e Added = filled tested W e
+workBy tested W e Added = addedIfCube tested W e
 workBy tested W e Sides = sided W e
 workBy tested W e Replaced = replaced tested W e
 

@@ -47,8 +47,8 @@ impl MeshingAlgorithm {
     }
 }
 
-// Which side of an added voxel decides whether the neighbour at a face loses its facing quad: the opposite of the face, as the source has it, or
-// the face itself.
+// Which side of a voxel that comes, by Added or Replaced, decides whether the neighbour at a face loses its facing quad: the opposite of the face,
+// as the source has it, or the face itself.
 pub enum Tested {
     Opposite,
     Itself,

@@ -13,7 +13,7 @@ use Rattle.rules.specs.Lists.{each}
 use Rattle.rules.specs.Cells.{cells, neighbour}
 use Rattle.rules.specs.Mesh.{Quad, Attribute, position, Vertices, HasList, of-positions, NONE, there, slotOf, rowOf, attributeLaid}
 use Rattle.rules.specs.Update as rule
-use Rattle.rules.specs.Update.{BYTES, Tested, Entry, Op, run, moves, highest, ops, needed, work, entryAt, courseFrom}
+use Rattle.rules.specs.Update.{ENTRY-BYTES, Tested, Entry, Op, run, moves, highest, ops, needed, work, entryAt, courseFrom}
 use Rattle.rules.specs.Calls.{Scene, world, span, faces}
 use Rattle.rules.proofs.ListLaws.{All, length-table}
 use Rattle.rules.proofs.Neighbours.{beside, opposite-lt}
@@ -47,14 +47,14 @@ indexAt links slots quads moved top steps = record { links = links; slots = slot
 -- entry k is next: the lists hold a mesh, and what is left of the log on it is the whole on what was there
 pub record Running (tested : Tested) (S : Scene) (room : ℕ) (log : List ℕ) (vs₀ : Vertices) (ls₀ : List ℕ) (Q k h : ℕ) (vs : Vertices) (ls ss : List ℕ) (q v : ℕ) : Type 0 where
   pub mesh : List Quad
-  pub below : k ≤ length log / BYTES
-  pub left : courseFrom room (λ j. work tested (world S) (entryAt log j)) k (length log / BYTES - k) mesh v h ≡ courseOn tested S room log vs₀ ls₀ Q
+  pub below : k ≤ length log / ENTRY-BYTES
+  pub left : courseFrom room (λ j. work tested (world S) (entryAt log j)) k (length log / ENTRY-BYTES - k) mesh v h ≡ courseOn tested S room log vs₀ ls₀ Q
   pub holds : Holds S room vs₀ ls₀ mesh h vs ls ss q
   pub moves : v ≤ 60 * k
 
 -- what the code has found of entry k: its sets, the keys around its cell, and what of it is due by the slots
 pub record Found (tested : Tested) (S : Scene) (log ss : List ℕ) (k : ℕ) (e : Entry) (w : Work) (ks : List ℕ) (d : Work) : Type 0 where
-  pub next : k < length log / BYTES
+  pub next : k < length log / ENTRY-BYTES
   pub entry : e ≡ entryAt log k
   pub sets : w ≡ meant tested (world S) e
   pub keys : ks ≡ keysAround (S .size) (e .cell)
@@ -66,7 +66,7 @@ module _ (tested : Tested) {S : Scene} {room : ℕ} {log : List ℕ} {vs₀ : Ve
 
   pub run-start : Running tested S room log vs₀ ls₀ Q 0 Q vs₀ ls₀ ss₀ Q 0
   run-start =
-      let e : length log / BYTES - 0 ≡ length log / BYTES = omega arith in
+      let e : length log / ENTRY-BYTES - 0 ≡ length log / ENTRY-BYTES = omega arith in
       record {
         mesh = meshIn S vs₀ ls₀ Q;
         below = omega arith;
@@ -115,26 +115,26 @@ module _ (tested : Tested) {S : Scene} {room : ℕ} {log : List ℕ} {vs₀ : Ve
     told : (j : ℕ) → j < faces S → isBare ss j ≡ not (there j m)
     told j l = ap (λ (xs : List ℕ). isBare xs j) (r .holds .slots) ∙ slot-none ground m h sane j l
 
-    course-on : needed (works k) m ≤ room → k < length log / BYTES → courseFrom room works k (length log / BYTES - k) m v h
-        ≡ courseFrom room works (k + 1) (length log / BYTES - (k + 1)) (run (ops (works k)) m) (v + moves (ops (works k)) m) (highest h (ops (works k)) m)
+    course-on : needed (works k) m ≤ room → k < length log / ENTRY-BYTES → courseFrom room works k (length log / ENTRY-BYTES - k) m v h
+        ≡ courseFrom room works (k + 1) (length log / ENTRY-BYTES - (k + 1)) (run (ops (works k)) m) (v + moves (ops (works k)) m) (highest h (ops (works k)) m)
     unfolding courseFrom
     course-on fit lt =
-        let a : length log / BYTES - k ≡ suc (length log / BYTES - (k + 1)) = omega arith in
+        let a : length log / ENTRY-BYTES - k ≡ suc (length log / ENTRY-BYTES - (k + 1)) = omega arith in
         let b : suc k ≡ k + 1 = omega arith in
         rw (a, le-leb (needed (works k) m) room fit, b)
 
     -- ---- an entry that finds no room
-    pub run-full : k < length log / BYTES → room < needed (works k) m → record { full = some k; quads = m; moved = v; highest = h } ≡ courseOn tested S room log vs₀ ls₀ Q
+    pub run-full : k < length log / ENTRY-BYTES → room < needed (works k) m → record { full = some k; quads = m; moved = v; highest = h } ≡ courseOn tested S room log vs₀ ls₀ Q
     unfolding courseFrom
     run-full lt over =
-        let a : length log / BYTES - k ≡ suc (length log / BYTES - (k + 1)) = omega arith in
-        let stop : courseFrom room works k (length log / BYTES - k) m v h ≡ record { full = some k; quads = m; moved = v; highest = h } = rw (a, lt-leb (needed (works k) m) room over) in
+        let a : length log / ENTRY-BYTES - k ≡ suc (length log / ENTRY-BYTES - (k + 1)) = omega arith in
+        let stop : courseFrom room works k (length log / ENTRY-BYTES - k) m v h ≡ record { full = some k; quads = m; moved = v; highest = h } = rw (a, lt-leb (needed (works k) m) room over) in
         sym stop ∙ r .left
 
-    pub run-inside : {e : Entry} → k < length log / BYTES → e ≡ entryAt log k → e .cell < cells (S .size)
+    pub run-inside : {e : Entry} → k < length log / ENTRY-BYTES → e ≡ entryAt log k → e .cell < cells (S .size)
     run-inside lt at = subst (λ (x : Entry). x .cell < cells (S .size)) (sym at) (g .inside k lt)
 
-    pub run-gridded : {e : Entry} {ks : List ℕ} → k < length log / BYTES → e ≡ entryAt log k → ks ≡ keysAround (S .size) (e .cell) → Gridded ks ss × (6 * e .cell + 6 ≤ length ss)
+    pub run-gridded : {e : Entry} {ks : List ℕ} → k < length log / ENTRY-BYTES → e ≡ entryAt log k → ks ≡ keysAround (S .size) (e .cell) → Gridded ks ss × (6 * e .cell + 6 ≤ length ss)
     run-gridded {e} lt at ks-are =
         let z = length-slots in
         let s = grid-small in
@@ -291,11 +291,11 @@ module _ (tested : Tested) {S : Scene} {room : ℕ} {log : List ℕ} {vs₀ : Ve
               moves = omega arith;
             })
 
-    pub run-through : length log / BYTES ≤ k → record { full = none; quads = m; moved = v; highest = h } ≡ courseOn tested S room log vs₀ ls₀ Q
+    pub run-through : length log / ENTRY-BYTES ≤ k → record { full = none; quads = m; moved = v; highest = h } ≡ courseOn tested S room log vs₀ ls₀ Q
     unfolding courseFrom
     run-through over =
         let b = r .below in
-        let z : length log / BYTES - k ≡ 0 = omega arith in
+        let z : length log / ENTRY-BYTES - k ≡ 0 = omega arith in
         sym (ap (λ (n : ℕ). courseFrom room works k n m v h) z) ∙ r .left
 
     -- the lists at that point, as the course leaves them

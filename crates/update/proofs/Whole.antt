@@ -12,7 +12,7 @@ use borrow.Author.Tests.{ltb-false}
 use Rattle.rules.specs.Lists.{each, table}
 use Rattle.rules.specs.Cells.{cells}
 use Rattle.rules.specs.Mesh.{Quad, Lists, NONE, pattern, rows, laid, listsOf, decode, layout, slotted, slotOf}
-use Rattle.rules.specs.Update.{BYTES, Tested, entryAt, work, Course}
+use Rattle.rules.specs.Update.{ENTRY-BYTES, Tested, entryAt, work, Course}
 use Rattle.rules.specs.Answers.{fine, badEntry, BAD-ENTRY}
 use Rattle.rules.specs.Calls.{Scene, Answer, world, span, faces, room, updateVerdict, course, courseAnswer, updateMesh}
 use Rattle.rules.proofs.ListLaws.{length-table, each-split, all-kept}
@@ -92,11 +92,11 @@ module _ {tested : Tested} {S : Scene} {log : List ℕ} {B : Lists} {Q n R : ℕ
   length-mesh : length m ≡ Q
   length-mesh = length-decode (cells (S .size)) B Q (S .types .coloured)
 
-  few-entries : length log / BYTES ≤ 16777216
+  few-entries : length log / ENTRY-BYTES ≤ 16777216
   unfolding BAD-ENTRY badEntry
   few-entries =
-      let bad = lowest-fine 13 (length log / BYTES) (badEntry (cells (S .size)) (length (S .types .kinds)) log) (then-fine _ _ (a .entries) .0) in
-      ⊎-elim (λ l. absurd (true≢false (bad 16777216 l))) (λ l. l) (order 16777216 (length log / BYTES))
+      let bad = lowest-fine 13 (length log / ENTRY-BYTES) (badEntry (cells (S .size)) (length (S .types .kinds)) log) (then-fine _ _ (a .entries) .0) in
+      ⊎-elim (λ l. absurd (true≢false (bad 16777216 l))) (λ l. l) (order 16777216 (length log / ENTRY-BYTES))
 
   pub logging : Logging S R log (B .vertices) (B .links) (take n (B .slots)) Q
   unfolding slotted
@@ -142,7 +142,7 @@ module _ {tested : Tested} {S : Scene} {log : List ℕ} {B : Lists} {Q n R : ℕ
         → record { answer = says (r .quads) (r .moved); lists = listsOf (r .vertices) ts (r .links) (r .slots ++ drop n (B .slots)) } ≡ updateMesh tested S log B Q
     unfolding slotted
     ended-so {o} {ts} says s f k =
-        let past = course-past (room S B) (λ k. work tested (world S) (entryAt log k)) 0 (length log / BYTES) m 0 Q (omega (arith, length-mesh)) in
+        let past = course-past (room S B) (λ k. work tested (world S) (entryAt log k)) 0 (length log / ENTRY-BYTES) m 0 Q (omega (arith, length-mesh)) in
         let t = patterns-laid (B .triangles) Q (c .highest) m (c .quads) length-mesh (ap (λ (x : Lists). x .triangles) (sym stands)) (left .reached) past in
         let answers : says (length (c .quads)) (c .moved) ≡ courseAnswer c (c .full) = s ∙ ap (courseAnswer c) (sym f ∙ ap (λ (x : Ended). x .full) rule) in
         rw (k, rule, t, b .lent, b .accepted) (λ i. record { answer = answers i; lists = layout (faces S) (S .types .coloured) (c .highest) (c .quads) B })

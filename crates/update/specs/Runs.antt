@@ -7,7 +7,7 @@ use lib.ListN.{length}
 use Rattle.rules.specs.Lists.{each, table}
 use Rattle.rules.specs.Cells.{cells, linkOf}
 use Rattle.rules.specs.Mesh.{Quad, Vertices, eachList, pattern, laid, slotOf, listsOf, attributeLaid, decode}
-use Rattle.rules.specs.Update.{BYTES, Tested, entryAt, Course}
+use Rattle.rules.specs.Update.{ENTRY-BYTES, Tested, entryAt, Course}
 use Rattle.rules.specs.Calls.{Scene, span, faces, courseIn}
 use Rattle.rules.proofs.Courses.{Sane}
 use Rattle.util.specs.Grid.{Within}
@@ -72,8 +72,8 @@ pub record Holds (S : Scene) (room : ℕ) (vs₀ : Vertices) (ls₀ : List ℕ) 
 pub record Logging (S : Scene) (room : ℕ) (log : List ℕ) (vs : Vertices) (ls ss : List ℕ) (Q : ℕ) : Type 0 where
   pub within : Within (S .size)
   pub typed : Typed S
-  pub inside : (k : ℕ) → k < length log / BYTES → (entryAt log k) .cell < cells (S .size)
-  pub few : length log / BYTES ≤ 16777216
+  pub inside : (k : ℕ) → k < length log / ENTRY-BYTES → (entryAt log k) .cell < cells (S .size)
+  pub few : length log / ENTRY-BYTES ≤ 16777216
   pub rows : Long (S .types .coloured) room vs
   pub words : room ≤ length ls
   pub holds : Holds S room vs ls (meshIn S vs ls Q) Q vs ls ss Q

@@ -8,7 +8,7 @@ use native.Mathlib.Omega.{arith}
 use lib.ListN.{length, take, drop}
 use lib.Dec.{eqb, ltb}
 use borrow.Author.Tests.{eqb-true, ne-eqb, ltb-true, ltb-false, lt-ltb, le-ltb}
-use Rattle.rules.specs.Update.{BYTES}
+use Rattle.rules.specs.Update.{ENTRY-BYTES}
 use Rattle.rules.specs.Cells.{cells}
 use Rattle.rules.specs.Program.{body, word, typeCount, sizeIn, gridStart, logStart, gridIn, logIn, adjoining, badFile}
 use Rattle.rules.proofs.ListLaws.{not-true, and-true, or-false}
@@ -60,11 +60,11 @@ capped-sum a b n to l =
 pub adjoining-read : (file : List ℕ) {back0 back1 back2 types entries count : ℕ} → length file ≤ 8192 → types ≡ word file 3
     → count ≡ capped (cells (sizeIn file)) → back0 ≡ word file 0 → back1 ≡ word file 1 → back2 ≡ word file 2 → entries ≡ word file 4
     → (eqb back0 (body file) && eqb (back1 + 74 * types) (body file) && eqb (back2 + (74 * types + count)) (body file)
-    && eqb (BYTES * entries + (74 * types + count)) (body file)) ≡ adjoining file
+    && eqb (ENTRY-BYTES * entries + (74 * types + count)) (body file)) ≡ adjoining file
 adjoining-read file h t n a b c e =
     let m = cells (sizeIn file) in
     let far : body file < 4294967296 = omega arith in
-    rw (t, n, a, b, c, e, capped-sum (word file 2) (gridStart file) m (body file) far, capped-sum (BYTES * word file 4) (gridStart file) m (body file) far)
+    rw (t, n, a, b, c, e, capped-sum (word file 2) (gridStart file) m (body file) far, capped-sum (ENTRY-BYTES * word file 4) (gridStart file) m (body file) far)
 
 pub few : {n : ℕ} → n ≤ 512 → n < 4294967296
 few h = omega arith
@@ -91,12 +91,12 @@ trailer-read file h l t n a p f g o =
 
 -- ---- a file that is not bad
 
-filled : (file : List ℕ) → adjoining file ≡ true → BYTES * word file 4 + logStart file ≡ body file
+filled : (file : List ℕ) → adjoining file ≡ true → ENTRY-BYTES * word file 4 + logStart file ≡ body file
 filled file e =
     eqb-true _ _
     (and-true
     (eqb (word file 0) (body file) && eqb (word file 1 + gridStart file) (body file) && eqb (word file 2 + logStart file) (body file))
-    (eqb (BYTES * word file 4 + logStart file) (body file)) e .1)
+    (eqb (ENTRY-BYTES * word file 4 + logStart file) (body file)) e .1)
 
 pub good : (file : List ℕ) → badFile file ≡ false → Good file
 unfolding badFile
@@ -163,7 +163,7 @@ between a b c n m h l k = omega arith
 pub type-inside : (file : List ℕ) → Good file → (t : ℕ) → t < typeCount file → 74 * t + 74 ≤ length file
 type-inside file g t h =
     between (74 * t + 74) (gridStart file) (logStart file) 92 (length file) (counted t (typeCount file) h)
-    (later (gridStart file) (cells (sizeIn file))) (before (BYTES * word file 4) (logStart file) (body file) (g .fills))
+    (later (gridStart file) (cells (sizeIn file))) (before (ENTRY-BYTES * word file 4) (logStart file) (body file) (g .fills))
 
 module _ (file : List ℕ) (g : Good file) {work : Work} (e : work ≡ workIn file) where
   grid-starts : work .«grid_start» ≡ gridStart file
@@ -179,7 +179,7 @@ module _ (file : List ℕ) (g : Good file) {work : Work} (e : work ≡ workIn fi
   grid-first = rw (grid-starts, log-starts) (later (gridStart file) (cells (sizeIn file)))
 
   pub log-ends : work .«log_start» ≤ body file
-  log-ends = rw log-starts (before (BYTES * word file 4) (logStart file) (body file) (g .fills))
+  log-ends = rw log-starts (before (ENTRY-BYTES * word file 4) (logStart file) (body file) (g .fills))
 
   pub log-inside : work .«log_start» ≤ length file
   log-inside = between _ _ _ 92 (length file) log-ends (le-refl (body file)) (le-refl (body file))
@@ -191,7 +191,7 @@ module _ (file : List ℕ) (g : Good file) {work : Work} (e : work ≡ workIn fi
       rest a b = omega arith
 
   pub log-part : take (body file - work .«log_start») (drop (work .«log_start») file) ≡ logIn file
-  log-part = rw (log-starts, rest (BYTES * word file 4) (logStart file) (body file) (g .fills))
+  log-part = rw (log-starts, rest (ENTRY-BYTES * word file 4) (logStart file) (body file) (g .fills))
     where
       rest : (a b c : ℕ) → a + b ≡ c → c - b ≡ a
       rest a b c h = omega arith

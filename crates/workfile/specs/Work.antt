@@ -5,7 +5,7 @@ use mathlib.Core.Bool.{cond}
 use mathlib.Core.List.{List}
 use lib.ListN.{length}
 use lib.Dec.{eqb, ltb}
-use Rattle.rules.specs.Update.{BYTES}
+use Rattle.rules.specs.Update.{ENTRY-BYTES}
 use Rattle.rules.specs.Cells.{cells}
 use Rattle.rules.specs.Program.{body, word, typeCount, sizeIn, gridStart, logStart, colouredIn}
 use Rattle.floats.specs.declared.Triple.{Triple}
@@ -22,7 +22,7 @@ dimsIn file = record { width = word file 5; height = word file 6; length = word 
 pub record Good (file : List ℕ) : Type 0 where
   pub least : 92 ≤ length file
   pub most : length file ≤ 8192
-  pub fills : BYTES * word file 4 + logStart file ≡ body file
+  pub fills : ENTRY-BYTES * word file 4 + logStart file ≡ body file
   pub outer : word file 8 ≤ 63
   pub types : typeCount file ≤ 8
   pub cells : cells (sizeIn file) ≤ 512

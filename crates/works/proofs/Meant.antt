@@ -10,7 +10,7 @@ use Rattle.rules.specs.Lists.{each, only}
 use Rattle.rules.specs.Cells.{Size, opposite, neighbour, keyOf, has, setOf}
 use Rattle.rules.specs.Mesh.{Quad, World, isNormalCube, covering, quadOf}
 use Rattle.rules.specs.Update as rule
-use Rattle.rules.specs.Update.{Entry, Change, Tested, Broken, Added, Sides, Replaced, Op, put, cut, run, cuts, puts, ops, needed, givenAt, sides, quads, all, isOpen, toHide, toDraw, draws, reveal, nothing, added, broken, firstHalf, workBy, work}
+use Rattle.rules.specs.Update.{Entry, Change, Tested, Broken, Added, Sides, Replaced, Op, put, cut, run, cuts, puts, ops, needed, givenAt, sides, quads, all, isOpen, toHide, toDraw, draws, reveal, nothing, added, broken, firstHalf, inOne, workBy, work}
 use Rattle.rules.proofs.Sets.{zero-has, has-setOf}
 use Rattle.rules.proofs.Neighbours.{opposite-lt}
 use Rattle.rules.proofs.ListLaws.{split, and-true, map-each, each-same}
@@ -109,8 +109,7 @@ module _ (W : World) (e : Entry) where
       }
   by-change tested Replaced = pick (isNormalCube W (e .type))
     where
-      pick : (b : Bool) → let come = cond b (added tested W e) nothing in
-          Means W e (sets 63 (shownFor W e (e .former)) (openFor b W e) (hiddenFor b tested W e)) (record { own = sides (e .cell) all; new = (broken W (firstHalf e)) .new ++ come .new; facing = come .facing })
+      pick : (b : Bool) → Means W e (sets 63 (shownFor W e (e .former)) (openFor b W e) (hiddenFor b tested W e)) (inOne (broken W (firstHalf e)) (cond b (added tested W e) nothing))
       pick true =
           record {
             own = own-cut 63 all (has-setOf all);

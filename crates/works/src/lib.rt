@@ -224,6 +224,7 @@ pub fn work_of(kinds: &[u8], covers: &[u8], tested: Tested, entry: Entry) -> Wor
     let change = entry.change;
     let goes = breaks(change);
     let put = adds(change);
+    // Sides.
     if !(goes | put) {
         let own = sides_to_hide(entry);
         let drawn = sides_to_draw(cube, entry);

@@ -4,7 +4,7 @@ use mathlib.Core.Path.{_≡_, sym, ap, _∙_}
 use Prim.Native.Nat.{ℕ, _-_, _/_, _≤_}
 use lib.ListN.{length}
 use Rattle.rules.specs.Lists.{lowest, lowestFrom}
-use Rattle.rules.specs.Update.{BYTES}
+use Rattle.rules.specs.Update.{ENTRY-BYTES}
 use Rattle.rules.specs.Answers.{badEntry}
 use Rattle.entries.proofs.Entries.{lowest-here, lowest-next, lowest-end}
 use borrow.Author.Needs.{needs}
@@ -21,7 +21,7 @@ abbrev μ-loop : tie.MeasureT-loop
 loop-holds : tie.Need-loop-holds Inv-loop μ-loop
 loop-holds c =
     let a = c .before .args in
-    let n : length (a .log .now) / BYTES ≡ length (a .log .now) / BYTES - 0 = omega arith in
+    let n : length (a .log .now) / ENTRY-BYTES ≡ length (a .log .now) / ENTRY-BYTES - 0 = omega arith in
     (omega arith, ap (λ (k : ℕ). lowestFrom 0 k (badEntry (a .cells) (a .types) (a .log .now))) n)
 
 returns : tie.Need-returns Inv-loop μ-loop
@@ -30,7 +30,7 @@ returns c =
     let a = c .before .before .before .before .before .args in
     let bad = badEntry (a .cells) (a .types) (a .log .now) in
     let e : bad (l .k) ≡ true = sym (c .before .bad-entry .ensures) ∙ c .if1 .taken in
-    sym (l .inv .1 ∙ lowest-here (l .k) (length (a .log .now) / BYTES) bad (omega arith) e)
+    sym (l .inv .1 ∙ lowest-here (l .k) (length (a .log .now) / ENTRY-BYTES) bad (omega arith) e)
 
 loop-again : tie.Need-loop-again Inv-loop μ-loop
 loop-again c =
@@ -38,13 +38,13 @@ loop-again c =
     let a = c .before .before .before .before .before .args in
     let bad = badEntry (a .cells) (a .types) (a .log .now) in
     let e : bad (l .k) ≡ false = sym (c .before .bad-entry .ensures) ∙ c .if1 .left in
-    (omega arith, l .inv .1 ∙ lowest-next (l .k) (length (a .log .now) / BYTES) bad (omega arith) e)
+    (omega arith, l .inv .1 ∙ lowest-next (l .k) (length (a .log .now) / ENTRY-BYTES) bad (omega arith) e)
 
 returns-2 : tie.Need-returns-2 Inv-loop μ-loop
 returns-2 c =
     let l = c .before .loop in
     let a = c .before .before .before .args in
-    let e : length (a .log .now) / BYTES ≡ l .k = omega arith in
+    let e : length (a .log .now) / ENTRY-BYTES ≡ l .k = omega arith in
     let f = lowest-end (l .k) (badEntry (a .cells) (a .types) (a .log .now)) in
     sym (l .inv .1 ∙ ap (λ (n : ℕ). lowestFrom (l .k) (n - l .k) (badEntry (a .cells) (a .types) (a .log .now))) e ∙ f)
 

@@ -1,6 +1,6 @@
 use Prim.Native.Nat.{_+_, _*_}
 use lib.ListN.{getD}
-use Rattle.rules.specs.Update.{BYTES, entryAt}
+use Rattle.rules.specs.Update.{ENTRY-BYTES, entryAt}
 use Rattle.entries.proofs.Entries.{six}
 use native.Mathlib.Omega.{arith}
 use borrow.Author.Needs.{needs}
@@ -12,11 +12,11 @@ unfolding entryAt
 returns c =
     let t = c .before .before .before .before .before .before .before .before .before .before .before .before in
     let log = t .args .log .now in
-    let at = BYTES * t .args .k + 6 in
+    let at = ENTRY-BYTES * t .args .k + 6 in
     let s = six at log (omega arith) in
     let x = c .before .before .before .before .before .before .before .before .before .before .u32-at .ensures in
     let y = c .before .before .before .before .before .before .before .before .from-u8 .ensures in
-    λ i. record { cell = x i; change = y i; type = getD log (BYTES * t .args .k + 5) 0; given = s i; former = getD log (BYTES * t .args .k + 12) 0 }
+    λ i. record { cell = x i; change = y i; type = getD log (ENTRY-BYTES * t .args .k + 5) 0; given = s i; former = getD log (ENTRY-BYTES * t .args .k + 12) 0 }
 
 pub read-entry-spec : {M : Type 1} → statement M
 read-entry-spec =

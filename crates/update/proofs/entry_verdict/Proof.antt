@@ -3,7 +3,7 @@ use mathlib.Core.Path.{_≡_, sym, ap, _∙_}
 use Prim.Native.Nat.{ℕ, _/_}
 use lib.Dec.{ltb}
 use lib.ListN.{length}
-use Rattle.rules.specs.Update.{BYTES}
+use Rattle.rules.specs.Update.{ENTRY-BYTES}
 use Rattle.rules.specs.Answers.{refuseIf, refuseLowest, badEntry, BAD-ENTRY}
 use Rattle.answers.specs.Verdicts.{verdictOf}
 use Rattle.answers.proofs.Chains.{stops, goes}
@@ -13,10 +13,10 @@ use Rattle.update.proofs.entry_verdict.Tie as tie
 
 lowest : (c : tie.After-refuse-if) →
     let a = c .before .before .before .args in
-    verdictOf (c .refuse-if .result) ≡ refuseLowest 13 (length (a .log .now) / BYTES) (badEntry (a .cells) (a .types) (a .log .now))
+    verdictOf (c .refuse-if .result) ≡ refuseLowest 13 (length (a .log .now) / ENTRY-BYTES) (badEntry (a .cells) (a .types) (a .log .now))
 lowest c =
     let a = c .before .before .before .args in
-    c .refuse-if .ensures ∙ ap (λ (b : ℕ). refuseIf (ltb b (length (a .log .now) / BYTES)) 13 b) (c .before .first-bad-entry .ensures)
+    c .refuse-if .ensures ∙ ap (λ (b : ℕ). refuseIf (ltb b (length (a .log .now) / ENTRY-BYTES)) 13 b) (c .before .first-bad-entry .ensures)
 
 returns : tie.Need-returns
 unfolding BAD-ENTRY

@@ -8,7 +8,7 @@ use lib.ListN.{length, take}
 use lib.Seq.{getD-take, length-take-le}
 use borrow.Author.Tests.{leb-true, leb-false}
 use Rattle.rules.specs.Mesh.{verticesOf}
-use Rattle.rules.specs.Update.{BYTES, Tested, Work, entryAt, work, needed}
+use Rattle.rules.specs.Update.{ENTRY-BYTES, Tested, Work, entryAt, work, needed}
 use Rattle.rules.specs.Calls.{Scene, world}
 use Rattle.rules.proofs.ListLaws.{length-table, each-same, not-true, not-false}
 use Rattle.terms.specs.Modes.{testedBy}
@@ -33,7 +33,7 @@ Inv-loop positions₀ normals₀ uvs₀ colours₀ links₀ slots₀ kinds cover
 
 abbrev μ-loop : tie.MeasureT-loop
 μ-loop positions₀ normals₀ uvs₀ colours₀ links₀ slots₀ kinds covers cubes log task scene tested inverse entries steps₀ quads₀ moved₀ highest₀ k₀ positions normals uvs colours links slots steps quads moved highest k =
-    length log / BYTES - k
+    length log / ENTRY-BYTES - k
 
 abbrev scene-of : tie.Start Inv-loop μ-loop → Scene
 scene-of t = sceneOf (t .args .task .scene) (t .args .kinds .now) (t .args .covers .now) (t .args .cubes .now)

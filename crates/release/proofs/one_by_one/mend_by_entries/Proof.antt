@@ -5,7 +5,7 @@ use Prim.Native.Nat.{ℕ, _-_, _*_, _/_}
 use native.Mathlib.Omega.{arith}
 use lib.ListN.{length}
 use Rattle.rules.specs.Mesh.{Lists, verticesOf, listsOf}
-use Rattle.rules.specs.Update.{BYTES, Tested}
+use Rattle.rules.specs.Update.{ENTRY-BYTES, Tested}
 use Rattle.rules.specs.Calls.{Scene, updateMesh}
 use Rattle.vav.proofs.Laws.{part-lent}
 use Rattle.terms.specs.Scenes.{sceneOf}
@@ -19,12 +19,12 @@ use Rattle.release.proofs.one_by_one.mend_by_entries.Tie as tie
 
 abbrev Inv-loop : tie.InvT-loop
 Inv-loop positions₀ normals₀ uvs₀ colours₀ triangles₀ links₀ slots₀ scene kinds covers cubes tested log quads entries left₀ k₀ positions normals uvs colours triangles links slots left k =
-    Calling (testedBy tested) (sceneOf scene kinds covers cubes) log (length log / BYTES) (listsOf (verticesOf positions₀ normals₀ uvs₀ colours₀) triangles₀ links₀ slots₀) left₀ k
+    Calling (testedBy tested) (sceneOf scene kinds covers cubes) log (length log / ENTRY-BYTES) (listsOf (verticesOf positions₀ normals₀ uvs₀ colours₀) triangles₀ links₀ slots₀) left₀ k
     (listsOf (verticesOf positions normals uvs colours) triangles links slots) left
 
 abbrev μ-loop : tie.MeasureT-loop
 μ-loop positions₀ normals₀ uvs₀ colours₀ triangles₀ links₀ slots₀ scene kinds covers cubes tested log quads entries left₀ k₀ positions normals uvs colours triangles links slots left k =
-    length log / BYTES - k
+    length log / ENTRY-BYTES - k
 
 abbrev test : tie.After-update-mesh Inv-loop μ-loop → tie.In-loop Inv-loop μ-loop
 test u = u .before .before .before .before .before .before .before .before .before
@@ -55,12 +55,12 @@ called u =
     let l = i .before .loop in
     let log = start i .args .log .now in
     u .update-mesh .ensures
-    ∙ ap (λ (one : List ℕ). updateMesh (side (start i)) (scene (start i)) one (here i) (l .left)) (part-lent (BYTES * l .k) BYTES log)
+    ∙ ap (λ (one : List ℕ). updateMesh (side (start i)) (scene (start i)) one (here i) (l .left)) (part-lent (ENTRY-BYTES * l .k) ENTRY-BYTES log)
 
 loop-holds : tie.Need-loop-holds Inv-loop μ-loop
 loop-holds c =
     let t = c .before .before .before .before .before .before .before .before .before .before .before in
-    starts (side t) (scene t) (t .args .log .now) (length (t .args .log .now) / BYTES) (lists t) (t .args .quads)
+    starts (side t) (scene t) (t .args .log .now) (length (t .args .log .now) / ENTRY-BYTES) (lists t) (t .args .quads)
 
 returns : tie.Need-returns Inv-loop μ-loop
 returns c =
@@ -68,7 +68,7 @@ returns c =
     let i = test u in
     let t = start i in
     let l = i .before .loop in
-    refuses (side t) (scene t) (t .args .log .now) (length (t .args .log .now) / BYTES) (lists t) (t .args .quads) (l .k) (here i) (l .left) (exit u)
+    refuses (side t) (scene t) (t .args .log .now) (length (t .args .log .now) / ENTRY-BYTES) (lists t) (t .args .quads) (l .k) (here i) (l .left) (exit u)
     (c .before .mended2 .given .0 .0) (c .before .mended2 .given .0 .1 .0) (c .before .mended2 .given .0 .1 .1 .0)
     (i .loop-test .taken) (l .inv) (updates (exit u) (c .before .mended2 .given .1) (called u))
 
@@ -86,7 +86,7 @@ loop-again c =
     let i = test u in
     let t = start i in
     let l = i .before .loop in
-    goes-on (side t) (scene t) (t .args .log .now) (length (t .args .log .now) / BYTES) (lists t) (t .args .quads) (l .k) (here i) (l .left) (exit u)
+    goes-on (side t) (scene t) (t .args .log .now) (length (t .args .log .now) / ENTRY-BYTES) (lists t) (t .args .quads) (l .k) (here i) (l .left) (exit u)
     (c .before .mended .given .0 .0) (i .loop-test .taken) (l .inv)
     (let k = u .update-mesh .kept .1 .1 .1 .1 .1 .1 in record { positions = k .0; normals = k .1 .0; uvs = k .1 .1 .0; colours = k .1 .1 .1 .0; triangles = k .1 .1 .1 .1 .0; links = k .1 .1 .1 .1 .1 .0; slots = k .1 .1 .1 .1 .1 .1 .0 })
     (updates (exit u) (c .before .mended .given .1) (called u))
@@ -95,7 +95,7 @@ returns-2 : tie.Need-returns-2 Inv-loop μ-loop
 returns-2 c =
     let t = c .before .before .before .before .before .before .before .before .before .before .before .before .before in
     let l = c .before .loop in
-    ends (side t) (scene t) (t .args .log .now) (length (t .args .log .now) / BYTES) (lists t) (t .args .quads) (l .k)
+    ends (side t) (scene t) (t .args .log .now) (length (t .args .log .now) / ENTRY-BYTES) (lists t) (t .args .quads) (l .k)
     (listsOf (verticesOf (l .positions) (l .normals) (l .uvs) (l .colours)) (l .triangles) (l .links) (l .slots)) (l .left)
     (let h = c .loop-test .left in omega arith) (l .inv)
 
