@@ -207,11 +207,11 @@ module _ (tested : Tested) (W : World) (s : Sound W) (room : ℕ) (entry : ℕ �
         let y = here (suc j) b rest (later j a (b ∷ rest) h) in
         record {
           found = λ f. let r = found-room room single j (suc (suc (length rest))) m v p f .found in
-          let s = r 0 (omega arith) in
-          let t = r 1 (omega arith) in
-          need .1 (rw (add-zero j, x) at s, rw (add-one j, x, y) at t);
+              let s = r 0 (omega arith) in
+              let t = r 1 (omega arith) in
+              need .1 (rw (add-zero j, x) at s, rw (add-one j, x, y) at t);
           done = λ f. let l = need .0 f in
-          course-two room single (singleWork tested W a) (singleWork tested W b) (now i) j (length rest) m v p x y same (l .0) (l .1);
+              course-two room single (singleWork tested W a) (singleWork tested W b) (now i) j (length rest) m v p x y same (l .0) (l .1);
         }
 
     entry-does : (k : Change) → (entry i) .change ≡ k → Follows j (pairBy (entry i) k ++ rest) → Does (pairBy (entry i) k)
