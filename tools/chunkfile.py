@@ -413,20 +413,32 @@ def layers_text(chunk):
             yield "".join(chunk.types[code].letter for code in codes) if lettered else " ".join(map(str, codes))
 
 
+def named_text(chunk, grid, one):
+    """The line that says an entry by a place and names, if there is one."""
+    cell, _, voxel, given, _, _ = entry_of(one)
+    if cell >= len(grid):
+        return None
+    place, standing, around = "%d %d %d" % chunk.place(cell), grid[cell], chunk.neighbours(grid, cell)
+    if one == entry(cell, BROKEN, standing, *around):
+        return "break " + place
+    if max(given) <= DRAW and one == entry(cell, SIDES, standing, *given):
+        return "sides %s %s" % (place, side_words(given))
+    for key, plain in (("add", entry(cell, ADDED, voxel, *around)), ("replace", entry(cell, REPLACED, voxel, *around, former=standing))):
+        if one == plain and voxel < len(chunk.types):
+            return "%s %s %s" % (key, chunk.types[voxel].letter, place)
+    return None
+
+
+def numbered_text(one):
+    """The line that says an entry, or its first twelve bytes, by numbers."""
+    return "entry %d %s" % (int.from_bytes(one[:4], "little"), " ".join(map(str, one[4:])))
+
+
 def entry_text(chunk, grid, one):
-    """The line whose meaning is the entry, the plain one if there is one."""
+    """The line whose meaning is the entry, the shortest that there is."""
     cell, change, voxel, given, _, _ = entry_of(one)
-    if cell < len(grid):
-        place, standing, around = "%d %d %d" % chunk.place(cell), grid[cell], chunk.neighbours(grid, cell)
-        if one == entry(cell, BROKEN, standing, *around):
-            return "break " + place
-        if max(given) <= DRAW and one == entry(cell, SIDES, standing, *given):
-            return "sides %s %s" % (place, side_words(given))
-        for key, plain in (("add", entry(cell, ADDED, voxel, *around)), ("replace", entry(cell, REPLACED, voxel, *around, former=standing))):
-            if one == plain and voxel < len(chunk.types):
-                return "%s %s %s" % (key, chunk.types[voxel].letter, place)
     goes_without_saying = one == entry(cell, change, voxel, *given)
-    return "entry %d %s" % (cell, " ".join(map(str, one[4:12] if goes_without_saying else one[4:])))
+    return named_text(chunk, grid, one) or numbered_text(one[:12] if goes_without_saying else one)
 
 
 # The picture: the quads that the program answers.
