@@ -314,7 +314,7 @@ for turn in range(12):
             places.add((told[1], entry_of(entries_of(log)[told[1]]).change))
         else:
             break
-sure({place for place, _ in places} == {0, 1, 2, 3, 4} and {change for _, change in places} == {ADDED, SIDES, REPLACED}, places)
+sure({place for place, _ in places} == {0, 1, 2, 3, 4} and {change for _, change in places} >= {ADDED, SIDES, REPLACED}, places)
 
 for turn in range(10):
     dims = [rng.choice((1, 2, 3)) for _ in range(3)]

@@ -1,16 +1,17 @@
 #!/usr/bin/env python3
 """Writes a set that the program trials_run reads, crates/trials_run/data/meshes, and what it must print for it.
 
-Each case is a fresh mesh, into lists full of other words, and where it is made the check of it. Every expected word comes from plain_mesh.py and
-trials.py, from document 01's sentences; how many quads there are, or why there are none, stands here, held by `sure`.
+Each case is a fresh mesh, into lists full of other words, and where it is made the check of it; with 255 types updates too. Every expected word comes
+from plain_mesh.py and trials.py, from document 01's sentences; how many quads there are, or why there are none, stands here, held by `sure`.
 Run it at the repository's root; stored.py says where it writes.
 """
 import random
 
 from cube_vectors import INF, MAX, NAN, NEG, ONE, bits, cube, f, shape
+from entries import OUTSIDE, replaced
 from plain_mesh import COLOURS, EACH, JUNK, LINKS, LISTS, NONE, PLENTY, POSITIONS, SLOTS, UNIT, UVS, call, counted, fit, mesh
 from sure import sure
-from trials import CHECK, CULLING, NAIVE, PARTS, Trials, spare
+from trials import CHECK, CULLING, NAIVE, PARTS, UPDATE, Trials, spare
 
 trials = Trials()
 
@@ -179,6 +180,22 @@ sure(add(many(255, grid=[254, 255])) == (8, 1) and add(many(254, grid=[253, 254]
 sure(add(many(256)) == (3, 255))
 LAST = many(255)
 sure(add(dict(LAST, kinds=LAST["kinds"][:254] + [3])) == (3, 254) and add(dict(LAST, covers=LAST["covers"][:254] + [64])) == (3, 254))
+
+
+def replaced_by_nothing(m, former):
+    """An update of the mesh of two cubes that was made last: a Null takes the place of the first, which was of this type. Answers as `add`."""
+    one = replaced(0, former, 252, OUTSIDE, OUTSIDE, 253, OUTSIDE, OUTSIDE, OUTSIDE)
+    number, place, quads, _ = trials.add(UPDATE, 10, one, goes_on=True, **lengths(m))
+    return number, place if number else quads
+
+
+for count in (255, 254):  # the last type is a former one, and bares what it covered
+    PUT_LAST = many(count, grid=[count - 1, 253], lent=PLENTY)
+    PUT_LAST["kinds"][count - 1], PUT_LAST["covers"][count - 1] = 1, 63
+    sure(add(PUT_LAST) == (0, 10))
+    for former in sorted({count, 255}):
+        sure(replaced_by_nothing(PUT_LAST, former) == (13, 0))
+    sure(replaced_by_nothing(PUT_LAST, count - 1) == (0, 6))
 
 # ---- grids at random, seven types of four cubes
 rng = random.Random(2)
