@@ -41,9 +41,9 @@ import sys
 import zlib
 
 sys.dont_write_bytecode = True  # no folder of bytecode beside the tools
-from entries import ADDED, BROKEN, DRAW, ENTRY_BYTES, HIDE, OUTSIDE, REPLACED, SIDES, entries_of, entry, entry_of
+from entries import ADDED, BROKEN, DRAW, ENTRY_BYTES, HIDE, OUTSIDE, REPLACED, SIDES, Entry, entries_of, entry, entry_of, replaced
 from sure import sure
-from workfiles import DIG, File, good_files, trailer, words
+from workfiles import File, good_files, trailer, words
 
 FACES = ["top", "bottom", "right", "left", "back", "forward"]
 STEPS = [(0, 1, 0), (0, -1, 0), (1, 0, 0), (-1, 0, 0), (0, 0, 1), (0, 0, -1)]
@@ -647,7 +647,6 @@ ALIKE = {
     "entry 1 0 0 255 255 255 1 255 255 0 0 0 0": "entry 1 0 0 255 255 255 1 255 255",
 }
 
-
 # what is replaced is what the lines before have left
 FOLLOWING = "replace . 1 0 0", "replace r 1 0 0", "replace r 1 0 0", "break 1 0 0", "replace r 1 0 0"
 
@@ -660,8 +659,17 @@ def said_of(text):
         return str(error)
 
 
+def test_layout():
+    """An entry's bytes, written out: cell, change, type, six by face, former type, three zeros. The first is document 01's."""
+    worked = bytes([0, 0, 0, 0, 0, 1, 255, 255, 1, 255, 255, 255, 1, 0, 0, 0])
+    sure(chunk_in((SMALL + "break 0 0 0\n").encode()).bytes() == File(log=worked).text == File().text, "document 01's file")
+    unequal = bytes([0x16, 0x17, 0x18, 0x19, 3, 7, 8, 9, 10, 11, 12, 13, 14, 0, 0, 0])
+    sure(replaced(0x19181716, 14, 7, 8, 9, 10, 11, 12, 13) == unequal)
+    sure(entry_of(unequal[:13] + bytes([4, 5, 6])) == Entry(0x19181716, 3, 7, [8, 9, 10, 11, 12, 13], 14, [4, 5, 6]))
+
+
 def test(program):
-    sure(chunk_in((SMALL + "break 0 0 0\n").encode()).bytes() == File(log=DIG).text, "document 01's file")
+    test_layout()
     log = chunk_in((SMALL + "\n".join(["add . 1 0 0", "sides 1 0 0 hide top", "break 1 0 0", "add r 1 0 0", *SHOWN]) + "\n").encode())
     folder = os.path.join(ROOT, "examples")
     examples = [read_input(os.path.join(folder, name)) for name in sorted(os.listdir(folder)) if name.endswith(".chunk")]
