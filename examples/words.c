@@ -459,9 +459,10 @@ static const struct bad bad_entries[] = {
     {"former type of Sides", {8, 0, 0, 0, SIDES, ROCK, HIDE, HIDE, HIDE, HIDE, HIDE, HIDE, ROCK}},
     {"former type of Replaced", {8, 0, 0, 0, REPLACED, ROCK, AIR, AIR, AIR, AIR, AIR, AIR, TYPES}},
     {"no former type of Replaced", {8, 0, 0, 0, REPLACED, ROCK, AIR, AIR, AIR, AIR, AIR, AIR, NO_FORMER}},
-    {"byte 13", {8, 0, 0, 0, BROKEN, ROCK, AIR, AIR, AIR, AIR, AIR, AIR, ROCK, 1, 0, 0}},
-    {"byte 14", {8, 0, 0, 0, SIDES, ROCK, KEEP, KEEP, KEEP, KEEP, KEEP, KEEP, NO_FORMER, 0, 2, 0}},
-    {"byte 15", {8, 0, 0, 0, REPLACED, ROCK, AIR, AIR, AIR, AIR, AIR, AIR, SLAB, 0, 0, 4}},
+    {"byte 13 of Broken", {8, 0, 0, 0, BROKEN, ROCK, AIR, AIR, AIR, AIR, AIR, AIR, ROCK, 1, 0, 0}},
+    {"byte 13 of Added", {8, 0, 0, 0, ADDED, ROCK, AIR, AIR, AIR, AIR, AIR, AIR, NO_FORMER, 8, 0, 0}},
+    {"byte 14 of Sides", {8, 0, 0, 0, SIDES, ROCK, KEEP, KEEP, KEEP, KEEP, KEEP, KEEP, NO_FORMER, 0, 2, 0}},
+    {"byte 15 of Replaced", {8, 0, 0, 0, REPLACED, ROCK, AIR, AIR, AIR, AIR, AIR, AIR, SLAB, 0, 0, 4}},
 };
 enum { BAD_ENTRIES = sizeof bad_entries / sizeof bad_entries[0] };
 
