@@ -158,7 +158,7 @@ pub fn mesh_grid(
 }
 
 /// Mends a mesh of `quads` quads by a log, as Meshem does. The places freed at its end are zeroed; other spare room stays as it was.
-/// For logs that add slabs see [`mend_mesh`].
+/// For logs that put slabs see [`mend_mesh`].
 ///
 /// # Errors
 ///

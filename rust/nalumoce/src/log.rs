@@ -67,11 +67,11 @@ impl Log {
         let sides = |way: Side| neighboring_voxels.map(|beside| beside.map_or(Side::Keep, |_| way));
         let around = neighboring_voxels.map(|beside| beside.unwrap_or(NONE));
         // 255 is no type, yet as a neighbour's byte it would mean outside: the entry says 255 where it is refused
-        let amid = if neighboring_voxels.contains(&Some(NONE)) { NONE } else { voxel };
+        let voxel_byte = if neighboring_voxels.contains(&Some(NONE)) { NONE } else { voxel };
         match change {
-            VoxelChange::Broken => self.push_bytes(cell, BROKEN, amid, around, amid),
-            VoxelChange::Added => self.push_bytes(cell, ADDED, amid, around, NONE),
-            VoxelChange::Replaced { former } => self.push_bytes(cell, REPLACED, amid, around, former),
+            VoxelChange::Broken => self.push_bytes(cell, BROKEN, voxel_byte, around, voxel_byte),
+            VoxelChange::Added => self.push_bytes(cell, ADDED, voxel_byte, around, NONE),
+            VoxelChange::Replaced { former } => self.push_bytes(cell, REPLACED, voxel_byte, around, former),
             VoxelChange::CullFaces => self.push_sides(cell, voxel, sides(Side::Hide)),
             VoxelChange::AddFaces => self.push_sides(cell, voxel, sides(Side::Draw)),
         }

@@ -287,8 +287,8 @@ pub fn update_mesh(mesh: &mut Mesh, metadata: &mut MeshMD, reg: &VoxelRegistry) 
 /// # Ok::<(), Refusal>(())
 /// ```
 ///
-/// Use this one, unless you have to get Meshem's meshes quad for quad. If all that is added covers opposite sides alike, as full cubes
-/// do, the two do the same.
+/// Use this one, unless you have to get Meshem's meshes quad for quad. If every cube that a log puts covers opposite sides alike, as
+/// full cubes do, the two do the same.
 ///
 /// It has a name of its own, and is no setting of the metadata or the registry, so that Meshem's name does what Meshem does, and a
 /// call shows which of the two it is. A setting would have to be made again for each chunk, and one forgotten would not be noticed.

@@ -68,7 +68,7 @@ const fn floats(coloured: bool) -> usize {
 /// # Ok::<(), nalumoce::Refusal>(())
 /// ```
 ///
-/// Not every box is taken for a cube: [`VoxelRegistry::new`] says which. Logs that add slabs are for [`mend_mesh`](crate::mend_mesh).
+/// Not every box is taken for a cube: [`VoxelRegistry::new`] says which. Logs that put slabs are for [`mend_mesh`](crate::mend_mesh).
 ///
 /// # Errors
 ///
