@@ -8,7 +8,7 @@ use native.Mathlib.Omega.{arith}
 use lib.Dec.{eqb}
 use lib.ListN.{length, getD}
 use Rattle.rules.specs.Lists.{each, only, count}
-use Rattle.rules.specs.Cells.{Size, cells, opposite, neighbour, keyOf, has, setOf}
+use Rattle.rules.specs.Cells.{Size, cells, opposite, neighbour, keyOf, has}
 use Rattle.rules.specs.Mesh.{World}
 use Rattle.rules.specs.Update.{Entry, givenAt, outside, isOpen}
 use Rattle.rules.proofs.ListLaws.{All, all-append, all-each, all-if, split, each-same, count-each, getD-table}
@@ -59,14 +59,12 @@ wants-is draws n = go (eqb n 1) (eqb n 2) draws (λ e. ap (λ (k : ℕ). eqb k 2
     go false false true z = refl
     go false false false z = refl
 
--- ---- a set, side by side, where it is asked for
-pub set-if : (p : ℕ → Bool) {r : ℕ} {on a b c d e f : Bool} → r ≡ cond a 1 0 + cond b 2 0 + cond c 4 0 + cond d 8 0 + cond e 16 0 + cond f 32 0
-    → a ≡ p 0 → b ≡ p 1 → c ≡ p 2 → d ≡ p 3 → e ≡ p 4 → f ≡ p 5 → on ≡ true → r ≡ cond on (setOf p) 0
-set-if p s a b c d e f t =
-    s ∙ (λ i. cond (a i) 1 0 + cond (b i) 2 0 + cond (c i) 4 0 + cond (d i) 8 0 + cond (e i) 16 0 + cond (f i) 32 0) ∙ sym (ap (λ (on : Bool). cond on (setOf p) 0) t)
+-- ---- a set that is asked for, or not
+pub if-on : {n r : ℕ} {on : Bool} → r ≡ n → on ≡ true → r ≡ cond on n 0
+if-on {n = n} e t = e ∙ sym (ap (λ (on : Bool). cond on n 0) t)
 
-pub no-set : (n : ℕ) {on : Bool} → on ≡ false → 0 ≡ cond on n 0
-no-set n l = sym (ap (λ (on : Bool). cond on n 0) l)
+pub if-off : (n : ℕ) {on : Bool} → on ≡ false → 0 ≡ cond on n 0
+if-off n t = sym (ap (λ (on : Bool). cond on n 0) t)
 
 -- ---- four sets as one
 module _ (r a : ℕ) (h : r < 64) where

@@ -124,36 +124,30 @@ fn sides_to_draw(cube: bool, entry: Entry) -> u8
     )
 }
 
-fn open_sides(on: bool, covers: &[u8], entry: Entry) -> u8
-    ensures { λ r. ⌜ r ≡ cond on (setOf (isOpen (typesBy [] (now (covers .entry))) (entryIn entry))) 0 ⌝ }
+fn open_sides(covers: &[u8], entry: Entry) -> u8
+    ensures { λ r. ⌜ r ≡ setOf (isOpen (typesBy [] (now (covers .entry))) (entryIn entry)) ⌝ }
 {
-    if on {
-        return side_set(
-            is_open(covers, entry, Face::Top),
-            is_open(covers, entry, Face::Bottom),
-            is_open(covers, entry, Face::Right),
-            is_open(covers, entry, Face::Left),
-            is_open(covers, entry, Face::Back),
-            is_open(covers, entry, Face::Forward),
-        );
-    }
-    0
+    side_set(
+        is_open(covers, entry, Face::Top),
+        is_open(covers, entry, Face::Bottom),
+        is_open(covers, entry, Face::Right),
+        is_open(covers, entry, Face::Left),
+        is_open(covers, entry, Face::Back),
+        is_open(covers, entry, Face::Forward),
+    )
 }
 
-fn shown_sides(on: bool, kinds: &[u8], cover: u8, entry: Entry) -> u8
-    ensures { λ r. ⌜ r ≡ cond on (setOf (isShown (now (kinds .entry)) cover (entryIn entry))) 0 ⌝ }
+fn shown_sides(kinds: &[u8], cover: u8, entry: Entry) -> u8
+    ensures { λ r. ⌜ r ≡ setOf (isShown (now (kinds .entry)) cover (entryIn entry)) ⌝ }
 {
-    if on {
-        return side_set(
-            is_shown(kinds, cover, entry, Face::Top),
-            is_shown(kinds, cover, entry, Face::Bottom),
-            is_shown(kinds, cover, entry, Face::Right),
-            is_shown(kinds, cover, entry, Face::Left),
-            is_shown(kinds, cover, entry, Face::Back),
-            is_shown(kinds, cover, entry, Face::Forward),
-        );
-    }
-    0
+    side_set(
+        is_shown(kinds, cover, entry, Face::Top),
+        is_shown(kinds, cover, entry, Face::Bottom),
+        is_shown(kinds, cover, entry, Face::Right),
+        is_shown(kinds, cover, entry, Face::Left),
+        is_shown(kinds, cover, entry, Face::Back),
+        is_shown(kinds, cover, entry, Face::Forward),
+    )
 }
 
 // Whether the side tested is covered.
@@ -163,20 +157,17 @@ fn is_hidden(tested: Tested, cover: u8, face: Face) -> bool
     has(cover, tested.side(face))
 }
 
-fn hidden_sides(on: bool, tested: Tested, cover: u8) -> u8
-    ensures { λ r. ⌜ r ≡ cond on (setOf (λ i. rule.has cover (testedBy tested i))) 0 ⌝ }
+fn hidden_sides(tested: Tested, cover: u8) -> u8
+    ensures { λ r. ⌜ r ≡ setOf (λ i. rule.has cover (testedBy tested i)) ⌝ }
 {
-    if on {
-        return side_set(
-            is_hidden(tested, cover, Face::Top),
-            is_hidden(tested, cover, Face::Bottom),
-            is_hidden(tested, cover, Face::Right),
-            is_hidden(tested, cover, Face::Left),
-            is_hidden(tested, cover, Face::Back),
-            is_hidden(tested, cover, Face::Forward),
-        );
-    }
-    0
+    side_set(
+        is_hidden(tested, cover, Face::Top),
+        is_hidden(tested, cover, Face::Bottom),
+        is_hidden(tested, cover, Face::Right),
+        is_hidden(tested, cover, Face::Left),
+        is_hidden(tested, cover, Face::Back),
+        is_hidden(tested, cover, Face::Forward),
+    )
 }
 
 // Whether what stands in the cell goes.
@@ -216,6 +207,34 @@ fn all_if(on: bool) -> u8
     if on { ALL_SIDES } else { 0 }
 }
 
+// The sets that are asked for, each with one caller.
+fn shown_if(goes: bool, kinds: &[u8], cover: u8, entry: Entry) -> u8
+    ensures { λ r. ⌜ r ≡ cond goes (setOf (isShown (now (kinds .entry)) cover (entryIn entry))) 0 ⌝ }
+{
+    if goes {
+        return shown_sides(kinds, cover, entry);
+    }
+    0
+}
+
+fn open_if(comes: bool, covers: &[u8], entry: Entry) -> u8
+    ensures { λ r. ⌜ r ≡ cond comes (setOf (isOpen (typesBy [] (now (covers .entry))) (entryIn entry))) 0 ⌝ }
+{
+    if comes {
+        return open_sides(covers, entry);
+    }
+    0
+}
+
+fn hidden_if(comes: bool, tested: Tested, cover: u8) -> u8
+    ensures { λ r. ⌜ r ≡ cond comes (setOf (λ i. rule.has cover (testedBy tested i))) 0 ⌝ }
+{
+    if comes {
+        return hidden_sides(tested, cover);
+    }
+    0
+}
+
 // The work of an entry.
 pub fn work_of(kinds: &[u8], covers: &[u8], tested: Tested, entry: Entry) -> Work
     ensures { λ r. ⌜ r ≡ meant (testedBy tested) (typesBy (now (kinds .entry)) (now (covers .entry))) (entryIn entry) ⌝ }
@@ -237,9 +256,9 @@ pub fn work_of(kinds: &[u8], covers: &[u8], tested: Tested, entry: Entry) -> Wor
     }
     let comes = put & cube;
     let own = all_if(goes | comes);
-    let shown = shown_sides(goes, kinds, code_of(covers, gone(goes & put, entry)), entry);
-    let drawn = open_sides(comes, covers, entry);
-    let hidden = hidden_sides(comes, tested, code_of(covers, entry.voxel));
+    let shown = shown_if(goes, kinds, code_of(covers, gone(goes & put, entry)), entry);
+    let drawn = open_if(comes, covers, entry);
+    let hidden = hidden_if(comes, tested, code_of(covers, entry.voxel));
     Work {
         own: own,
         shown: shown,

@@ -80,9 +80,9 @@ returns-2 c =
     let on = ap (λ (n : ℕ). eqb n 1) (cube .code-of .ensures) in
     let own = all .all-if .ensures ∙ (λ i. cond (a || (b && on i)) 63 0) in
     let was = covered .code-of2 .ensures ∙ ap (λ (v : ℕ). getD (t .args .covers .now) v 0) (old .gone .ensures) in
-    let come = shown .shown-sides .ensures ∙ (λ i. cond a (setOf (isShown (t .args .kinds .now) (was i) e)) 0) in
-    let drawn = opened .open-sides .ensures ∙ (λ i. openFor (b && on i) (types t) e) in
-    let hidden = c .hidden-sides .ensures ∙ (λ i. cond (b && on i) (setOf (λ f. has (cover .code-of3 .ensures i) (testedBy (t .args .tested) f))) 0) in
+    let come = shown .shown-if .ensures ∙ (λ i. cond a (setOf (isShown (t .args .kinds .now) (was i) e)) 0) in
+    let drawn = opened .open-if .ensures ∙ (λ i. openFor (b && on i) (types t) e) in
+    let hidden = c .hidden-if .ensures ∙ (λ i. cond (b && on i) (setOf (λ f. has (cover .code-of3 .ensures i) (testedBy (t .args .tested) f))) 0) in
     (λ i. sets (own i) (come i) (drawn i) (hidden i)) ∙ told t (goes .breaks .ensures) (put .adds .ensures) (not-true (a || b) (all .before .if1 .left))
 
 pub work-of-spec : {M : Type 1} → statement M
