@@ -387,3 +387,32 @@ impl<'a> Comparison<'a> {
         Ok(())
     }
 }
+
+#[cfg(test)]
+mod tests {
+    use super::*;
+    use crate::cases::paper_types;
+    use crate::entries::{entry, replaced, OUTSIDE};
+    use plain::{DRAW, HIDE, KEEP, SIDES};
+
+    /// No reading of `tests/told.rs` gets here: one that is wrong is told beside the plain reading first. The halves speak where both are wrong alike.
+    #[test]
+    fn an_end_that_its_halves_do_not_leave_is_told() {
+        let sides = entry(0, SIDES, 1, &[HIDE, KEEP, DRAW, KEEP, KEEP, HIDE]);
+        let swap = replaced(1, 1, 3, &[OUTSIDE, OUTSIDE, 1, 1, OUTSIDE, OUTSIDE]);
+        for log in [sides, swap] {
+            let case = Case { dims: [3, 1, 1], grid: vec![1; 3], types: paper_types(1.0), log, ..Case::default() };
+            let mut start = room_of(&case, 14);
+            let count = Plain.mesh_grid(&case, &mut start).quads;
+            let mut room = start.clone();
+            let answer = Plain.update_mesh(&case, &mut room, count);
+            let agrees = |answer, room: &Words| {
+                Comparison::of(&Plain).split("update", &case, &start, count, &(answer, room.clone())).is_ok()
+            };
+            assert!(answer.number == 0 && agrees(answer, &room));
+            assert!(!agrees(Answer { moved: answer.moved + 1, ..answer }, &room));
+            room.uvs[3] ^= 1;
+            assert!(!agrees(answer, &room));
+        }
+    }
+}

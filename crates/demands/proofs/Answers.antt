@@ -36,7 +36,7 @@ use Rattle.update.specs.declared.Updated.the-variants as updated
 use Rattle.update.specs.Outcome.{outcomeOf}
 use Rattle.demands.specs.Contracts.{Cubes, Meshes, Updates, Checks}
 use Rattle.demands.specs.Chunks.{firstOf}
-use Rattle.demands.specs.Room.{FirstWithout}
+use Rattle.demands.specs.Room.{neededAt, FirstWithout}
 use Rattle.demands.proofs.Telling.{numbered}
 use Rattle.demands.proofs.Stopped.{first-without, done-before}
 
@@ -139,7 +139,7 @@ pub record Ran (tested : Tested) (S : Scene) (log : List ℕ) (entry : Lists) (Q
 -- out of room at entry k, the first without: the call for the entries before it alone, k of them, answers Done with the same count and the same lists
 pub record Stopped (tested : Tested) (S : Scene) (log : List ℕ) (entry : Lists) (Q k : ℕ) (count : Count) (exit : Lists) : Type 0 where
   pub ran : Ran tested S log entry Q (some k) count exit
-  pub first : FirstWithout tested S log entry Q k
+  pub first : FirstWithout tested S log entry Q k (neededAt tested S log entry Q k)
   pub before : Updates tested S (firstOf k log) entry Q (updated.Done count) exit
 
 -- a refusal counts nothing and changes nothing; NO_ROOM alone, 14, tells what the entries before it did, and keeps them

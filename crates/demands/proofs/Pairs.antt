@@ -9,7 +9,7 @@ use Rattle.rules.specs.Cells.{cells}
 use Rattle.rules.specs.Mesh.{Lists}
 use Rattle.rules.specs.Update.{ENTRY-BYTES, Sides, Replaced, Tested, entryAt, work, workBy, Work, needed}
 use Rattle.rules.specs.Answers.{fine}
-use Rattle.rules.specs.Calls.{Answer, Outcome, Scene, world, room, entriesOf, updateVerdict}
+use Rattle.rules.specs.Calls.{Answer, Outcome, Scene, world, entriesOf, updateVerdict}
 use Rattle.rules.specs.Pairs.{pairs, singleUpdate}
 use Rattle.rules.proofs.Quads.{Once}
 use Rattle.rules.proofs.Courses.{once-after}
@@ -23,7 +23,7 @@ use Rattle.update.specs.Outcome.{outcomeOf}
 use Rattle.telling.specs.Numbers.{testedFrom, outcome}
 use Rattle.demands.specs.Contracts.{Updates, TellsUpdate}
 use Rattle.demands.specs.Chunks.{firstOf}
-use Rattle.demands.specs.Room.{meshBefore, neededAt, sidesNeed, replacedNeed, OutOfRoom}
+use Rattle.demands.specs.Room.{meshBefore, neededAt, sidesNeed, replacedNeed, FirstWithout}
 use Rattle.demands.proofs.Answers.{what-an-update-call-says}
 use Rattle.demands.proofs.Room.{no-room-exactly}
 
@@ -52,11 +52,11 @@ pairs-do-the-same-in-c tested S log entry Q a exit e done = e ∙ update-by-pair
 -- ---- entry k out of room
 module _ (tested : Tested) (S : Scene) (log : List ℕ) (entry : Lists) (Q k : ℕ) where
   exactly : {need : ℕ} → (updateVerdict S log entry Q ≡ fine → k < length log / ENTRY-BYTES → neededAt tested S log entry Q k ≡ need) → (r : Updated) (exit : Lists) → Updates tested S log entry Q r exit
-      → ((count : Count) × (r ≡ updated.Refused NoRoom k count)) ↔ OutOfRoom tested S log entry Q k need
+      → ((count : Count) × (r ≡ updated.Refused NoRoom k count)) ↔ ((updateVerdict S log entry Q ≡ fine) × FirstWithout tested S log entry Q k need)
   exactly is r exit e =
       let x = no-room-exactly tested S log entry Q r exit k e in (
-        λ d. let y = x .0 d in (y .0, y .1 .inLog, y .1 .before, subst (λ n. room S entry < n) (is (y .0) (y .1 .inLog)) (y .1 .without)),
-        λ h. x .1 (h .0, record { inLog = h .1; before = h .2; without = subst (λ n. room S entry < n) (sym (is (h .0) (h .1))) (h .3) }),
+        λ d. let y = x .0 d in (y .0, subst (FirstWithout tested S log entry Q k) (is (y .0) (y .1 .inLog)) (y .1)),
+        λ h. x .1 (h .0, subst (FirstWithout tested S log entry Q k) (sym (is (h .0) (h .1 .inLog))) (h .1)),
       )
 
   once : updateVerdict S log entry Q ≡ fine → Once (meshBefore tested S log entry Q k)
@@ -78,9 +78,9 @@ module _ (tested : Tested) (S : Scene) (log : List ℕ) (entry : Lists) (Q k : �
       ap (λ (w : Work). needed w m) (ap (workBy tested (world S) (entryAt log k)) is) ∙ replaced-needed tested (world S) (sound S (a .size) (a .types)) (entryAt log k) inGrid m (once accepted)
 
   pub sides-out-of-room-exactly : (entryAt log k) .change ≡ Sides → (r : Updated) (exit : Lists) → Updates tested S log entry Q r exit
-      → ((count : Count) × (r ≡ updated.Refused NoRoom k count)) ↔ OutOfRoom tested S log entry Q k (sidesNeed tested S log entry Q k)
+      → ((count : Count) × (r ≡ updated.Refused NoRoom k count)) ↔ ((updateVerdict S log entry Q ≡ fine) × FirstWithout tested S log entry Q k (sidesNeed tested S log entry Q k))
   sides-out-of-room-exactly is = exactly (λ accepted inLog. what-sides-need is accepted)
 
   pub replaced-out-of-room-exactly : (entryAt log k) .change ≡ Replaced → (r : Updated) (exit : Lists) → Updates tested S log entry Q r exit
-      → ((count : Count) × (r ≡ updated.Refused NoRoom k count)) ↔ OutOfRoom tested S log entry Q k (replacedNeed tested S log entry Q k)
+      → ((count : Count) × (r ≡ updated.Refused NoRoom k count)) ↔ ((updateVerdict S log entry Q ≡ fine) × FirstWithout tested S log entry Q k (replacedNeed tested S log entry Q k))
   replaced-out-of-room-exactly is = exactly (what-replaced-needs is)

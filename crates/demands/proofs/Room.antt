@@ -30,7 +30,7 @@ use Rattle.update.specs.Outcome.{outcomeOf}
 use Rattle.telling.specs.Numbers.{answer}
 use Rattle.demands.specs.Contracts.{Updates}
 use Rattle.demands.specs.Chunks.{firstOf}
-use Rattle.demands.specs.Room.{FindsRoom, FirstWithout, Did, allDone, stoppedAt}
+use Rattle.demands.specs.Room.{neededAt, FindsRoom, FirstWithout, Did, allDone, stoppedAt}
 use Rattle.demands.proofs.Lent.{left-is-taken}
 use Rattle.demands.proofs.Telling.{readUpdate, update-reads}
 use Rattle.demands.proofs.Stopped.{all-found, first-without}
@@ -110,24 +110,24 @@ module _ (tested : Tested) (S : Scene) (log : List ℕ) (entry : Lists) (Q : ℕ
 
   -- out of room at entry k means that the log is accepted and entry k is the first that did not find its room
   pub no-room-exactly : (r : Updated) (exit : Lists) (k : ℕ) → Updates tested S log entry Q r exit
-      → ((count : Count) × (r ≡ updated.Refused NoRoom k count)) ↔ ((updateVerdict S log entry Q ≡ fine) × FirstWithout tested S log entry Q k)
+      → ((count : Count) × (r ≡ updated.Refused NoRoom k count)) ↔ ((updateVerdict S log entry Q ≡ fine) × FirstWithout tested S log entry Q k (neededAt tested S log entry Q k))
   no-room-exactly r exit k e = (λ d. told (d .0) (d .1), λ h. found (h .0) (h .1) (c .full) refl)
     where
-      told : (count : Count) → r ≡ updated.Refused NoRoom k count → (updateVerdict S log entry Q ≡ fine) × FirstWithout tested S log entry Q k
+      told : (count : Count) → r ≡ updated.Refused NoRoom k count → (updateVerdict S log entry Q ≡ fine) × FirstWithout tested S log entry Q k (neededAt tested S log entry Q k)
       told count d =
           let a = what-an-update-call-says tested S log entry Q (updated.Refused NoRoom k count) exit (ap (λ (x : Updated). outcomeOf x exit) (sym d) ∙ e)
           .stopped refl in
           (a .ran .accepted, a .first)
 
       -- there is one first
-      alike : (i j : ℕ) → FirstWithout tested S log entry Q i → FirstWithout tested S log entry Q j → i ≤ j
+      alike : (i j : ℕ) → FirstWithout tested S log entry Q i (neededAt tested S log entry Q i) → FirstWithout tested S log entry Q j (neededAt tested S log entry Q j) → i ≤ j
       alike i j a b = on (decLt j i)
         where
           on : Dec (j < i) → i ≤ j
           on (yes h) = let l = a .before j h in let m = b .without in absurd (omega arith)
           on (no h) = omega arith
 
-      found : updateVerdict S log entry Q ≡ fine → FirstWithout tested S log entry Q k → (o : Option ℕ) → c .full ≡ o
+      found : updateVerdict S log entry Q ≡ fine → FirstWithout tested S log entry Q k (neededAt tested S log entry Q k) → (o : Option ℕ) → c .full ≡ o
           → (count : Count) × (r ≡ updated.Refused NoRoom k count)
       found a w none f = let l = w .without in let m = all-found tested S log entry Q f k (w .inLog) in absurd (omega arith)
       found a w (some i) f =

@@ -18,7 +18,7 @@ use Rattle.rules.specs.Calls.{Scene, answered, world, faces, room, typesVerdict
 use Rattle.rules.proofs.ListLaws.{each-same, each-split}
 use Rattle.rules.proofs.Checking.{then-fine, fine-then, fine-if, lowest-fine, fine-lowest}
 use Rattle.rules.proofs.Courses.{found-room, course-alike}
-use Rattle.demands.specs.Room.{FindsRoom, FirstWithout}
+use Rattle.demands.specs.Room.{neededAt, FindsRoom, FirstWithout}
 
 some-is : {a b : ℕ} → _≡_ {A = Option ℕ} (some a) (some b) → a ≡ b
 some-is e = cc
@@ -144,7 +144,7 @@ module _ (tested : Tested) (S : Scene) (log : List ℕ) (B : Lists) (Q : ℕ) wh
   all-found f j h = let z : 0 + j ≡ j = omega arith in rw z at (found-room (room S B) works 0 (length log / ENTRY-BYTES) lent 0 Q f .found j h)
 
   -- one that stops at k: k is the first that did not
-  pub first-without : (k : ℕ) → (course tested S log B Q) .full ≡ some k → FirstWithout tested S log B Q k
+  pub first-without : (k : ℕ) → (course tested S log B Q) .full ≡ some k → FirstWithout tested S log B Q k (neededAt tested S log B Q k)
   first-without k f =
       let s = stops (room S B) works 0 (length log / ENTRY-BYTES) lent 0 Q k f in
       let z : s .before ≡ k = omega (arith, s .place) in

@@ -1,12 +1,10 @@
 -- Which entries of a log find room, and how many an answer tells were done. Definitions only.
 use Prim.Native.Nat.{ℕ, _+_, _-_, _/_, _≤_, _<_, max}
-use mathlib.Core.Path.{_≡_}
 use mathlib.Core.List.{List}
 use lib.ListN.{length}
 use Rattle.rules.specs.Mesh.{Quad, Lists, decode}
 use Rattle.rules.specs.Update.{ENTRY-BYTES, Tested, firstHalf, secondHalf, work, entryAt, run, ops, needed, hiddenThere, drawnMissing, meshAfter}
-use Rattle.rules.specs.Answers.{fine}
-use Rattle.rules.specs.Calls.{Scene, world, room, updateVerdict}
+use Rattle.rules.specs.Calls.{Scene, world, room}
 use Rattle.answers.specs.declared.Refusal.the-variants.{NoRoom}
 use Rattle.terms.specs.declared.Count.{Count}
 use Rattle.update.specs.declared.Updated.{Updated}
@@ -37,16 +35,11 @@ replacedNeed tested S log B Q k =
 abbrev pub FindsRoom : Tested → Scene → List ℕ → Lists → ℕ → ℕ → Type 0
 FindsRoom tested S log B Q k = neededAt tested S log B Q k ≤ room S B
 
--- out of room at entry k, which needs this many: the log is accepted, the entries before it found their room, and the room is less
-abbrev pub OutOfRoom : Tested → Scene → List ℕ → Lists → ℕ → ℕ → ℕ → Type 0
-OutOfRoom tested S log B Q k need =
-    (updateVerdict S log B Q ≡ fine) × (k < length log / ENTRY-BYTES) × ((j : ℕ) → j < k → FindsRoom tested S log B Q j) × (room S B < need)
-
--- entry k is the first that does not
-pub record FirstWithout (tested : Tested) (S : Scene) (log : List ℕ) (B : Lists) (Q k : ℕ) : Type 0 where
+-- entry k, which needs this many, is the first that does not
+pub record FirstWithout (tested : Tested) (S : Scene) (log : List ℕ) (B : Lists) (Q k need : ℕ) : Type 0 where
   pub inLog : k < length log / ENTRY-BYTES
   pub before : (j : ℕ) → j < k → FindsRoom tested S log B Q j
-  pub without : room S B < neededAt tested S log B Q k
+  pub without : room S B < need
 
 -- an answer tells that the first k entries of a log were done, all or those before one out of room, with this count
 pub data Did (log : List ℕ) : Updated → ℕ → Count → Type 0 where

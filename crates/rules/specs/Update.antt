@@ -32,7 +32,7 @@ changeOf (suc (suc (suc n))) = Replaced
 abbrev pub u32At : List ℕ → ℕ → ℕ
 u32At xs i = getD xs i 0 + 256 * getD xs (i + 1) 0 + 65536 * getD xs (i + 2) 0 + 16777216 * getD xs (i + 3) 0
 
--- how many an entry has
+-- the bytes of an entry
 abbrev pub ENTRY-BYTES : ℕ
 ENTRY-BYTES = 16
 
@@ -297,11 +297,12 @@ abbrev pub Honest : World → List ℕ → List Entry → Type 0
 Honest W g [] = Unit {0}
 Honest W g (e ∷ es) = Told W g e × TrueBy W g e (e .change) × Honest W (gridAfter W g e) es
 
--- demand 3's logs: an Added entry puts a cube into an empty cell, a Replaced one in the place of what was there
+-- demand 3's logs: an Added entry puts a cube into an empty cell
 pub record Fills (W : World) (g : List ℕ) (e : Entry) : Type 0 where
   pub cube : isNormalCube W (e .type) ≡ true
   pub wasEmpty : isEmpty W (typeAt g (e .cell)) ≡ true
 
+-- and a Replaced one a cube in the place of what was there (02, Q-7)
 abbrev pub MendsBy : World → List ℕ → Entry → Change → Type 0
 MendsBy W g e Broken = Unit {0}
 MendsBy W g e Added = Fills W g e
