@@ -1,20 +1,20 @@
 -- Demand 3, "a mesh that passes with no outer face named passes after any unrefused honest log", its Added and Replaced as each mode asks (`LogFor`,
 -- specs/Chunks): mesh_grid, then any number of update_mesh calls, then check_mesh says Fine; out of room it says so for the entries that were done.
 -- And what is the same in both modes. Assumes nothing.
-use Prim.Native.Nat.{ℕ, _-_, _/_, _≤_}
+use Prim.Native.Nat.{ℕ, _*_, _/_, _≤_}
 use mathlib.Core.Path.{_≡_, refl, sym, ap, _∙_, subst}
 use mathlib.Core.Bool.{true}
-use mathlib.Core.List.{List, [], _∷_, _++_}
+use mathlib.Core.List.{List, [], _++_}
 use native.Mathlib.Omega.{arith}
-use lib.ListN.{length}
-use Rattle.rules.specs.Lists.{each}
+use lib.ListN.{length, drop}
 use Rattle.rules.specs.Mesh.{Lists, isNormalCube}
 use Rattle.rules.specs.Update as rules
-use Rattle.rules.specs.Update.{ENTRY-BYTES, Entry, entryAt, source, itself, Honest, Mends, Alike, AddsAlike}
+use Rattle.rules.specs.Update.{ENTRY-BYTES, Entry, source, itself, Alike, AddsAlike}
 use Rattle.rules.specs.Calls.{Answer, Scene, Outcome, world, entriesOf, updateMesh}
-use Rattle.rules.proofs.Courses.{honest-first, mends-first, alike-first}
+use Rattle.rules.proofs.Courses.{alike-append}
 use Rattle.rules.proofs.Modes.{table-alike, itself-alike, modes-agree}
 use Rattle.rules.proofs.Demands.{mended-accepted}
+use Rattle.rules.proofs.Merging.{FairLog, fair-of, fair-honest, fair-mends, fair-append}
 use Rattle.answers.specs.declared.Refusal.the-variants.{NoRoom}
 use Rattle.answers.specs.declared.Verdict.{Verdict}
 use Rattle.answers.specs.declared.Verdict.the-variants.{Fine}
@@ -27,7 +27,7 @@ use Rattle.update.specs.declared.Updated.{Updated}
 use Rattle.update.specs.declared.Updated.the-variants.{Done, Refused}
 use Rattle.demands.specs.Contracts.{Meshes, Updates, Checks}
 use Rattle.demands.specs.Chunks.{Chunk, Passes, firstOf, groundAfter, FillingLog, AlikeLog, MendableLog, LogFor, mendedTo, Mended, untouched, oneMore}
-use Rattle.demands.proofs.Stopped.{entries-first}
+use Rattle.demands.proofs.Stopped.{entries-split}
 use Rattle.demands.proofs.Answers.{what-an-update-call-says}
 use Rattle.demands.proofs.OneOutcome.{one-update, one-check}
 use Rattle.demands.proofs.Exact.{fine-is-zero}
@@ -51,12 +51,16 @@ asked Opposite S grid log h = (h .filling, h .alike)
 asked Itself S grid log h = (h, itself-alike (world S) (entriesOf log))
 
 -- the check says Fine of what the call leaves
+pub fine-after : (tested : rules.Tested) (S : Scene) (log : List ℕ) (k : Chunk) (exit : Lists) (count : Count) → Passes S k → FillingLog S (k .grid) log
+    → AddsAlike tested (world S) (entriesOf log) → Updates tested S log (k .lists) (k .quads) (Done count) exit → Passes S (mendedTo S log k count exit)
+fine-after tested S log k exit count passed true-log alike mended =
+    subst (λ (o : Outcome). Checks S [] (groundAfter S log (k .grid)) (o .lists) (o .answer .quads) Fine) (sym mended)
+    (still-fine tested S log (k .grid) (k .lists) (k .quads) passed true-log alike (sym (ap (λ (o : Outcome). o .answer .number) mended)))
+
 mended-is-fine : (mode : Tested) (S : Scene) (log : List ℕ) (k : Chunk) (exit : Lists) (count : Count) → Passes S k → LogFor mode S (k .grid) log
     → Updates (testedBy mode) S log (k .lists) (k .quads) (Done count) exit → Passes S (mendedTo S log k count exit)
-mended-is-fine mode S log k exit count passed true-log mended =
-    subst (λ (o : Outcome). Checks S [] (groundAfter S log (k .grid)) (o .lists) (o .answer .quads) Fine) (sym mended)
-    (still-fine (testedBy mode) S log (k .grid) (k .lists) (k .quads) passed (asked mode S (k .grid) log true-log .0)
-    (asked mode S (k .grid) log true-log .1) (sym (ap (λ (o : Outcome). o .answer .number) mended)))
+mended-is-fine mode S log k exit count passed true-log =
+    let a = asked mode S (k .grid) log true-log in fine-after (testedBy mode) S log k exit count passed (a .0) (a .1)
 
 mended-passes : (mode : Tested) (S : Scene) (log grid : List ℕ) (B exit : Lists) (Q : ℕ) (count : Count) (r : Verdict)
     → Checks S [] grid B Q Fine → LogFor mode S grid log → Updates (testedBy mode) S log B Q (Done count) exit
@@ -65,25 +69,30 @@ mended-passes mode S log grid B exit Q count r passed true-log mended checked =
     one-check S [] (groundAfter S log grid) exit (count .quads) r Fine checked
     (mended-is-fine mode S log (record { grid = grid; lists = B; quads = Q }) exit count passed true-log mended)
 
+-- ---- such a log, entry by entry
+module _ (S : Scene) (grid log : List ℕ) where
+  pub filling-fair : FillingLog S grid log → FairLog (world S) grid (entriesOf log)
+  filling-fair f = fair-of (world S) grid (entriesOf log) (f .honest) (f .mends)
+
+  pub filling-of : FairLog (world S) grid (entriesOf log) → FillingLog S grid log
+  filling-of f = record { honest = fair-honest (world S) grid (entriesOf log) f; mends = fair-mends (world S) grid (entriesOf log) f }
+
 -- ---- out of room, and still right
 
 -- the first entries of a log of demand 3 are such a log
 module _ (S : Scene) (log : List ℕ) (k : ℕ) (inLog : k ≤ length log / ENTRY-BYTES) where
   abbrev rest : List Entry
-  rest = each (length log / ENTRY-BYTES - k) k (λ j. entryAt log j ∷ [])
+  rest = entriesOf (drop (ENTRY-BYTES * k) log)
 
   split : entriesOf log ≡ entriesOf (firstOf k log) ++ rest
-  split = entries-first log k inLog
+  split = entries-split log k inLog
 
   pub first-filling : (grid : List ℕ) → FillingLog S grid log → FillingLog S grid (firstOf k log)
   first-filling grid f =
-      record {
-        honest = honest-first (world S) grid (entriesOf (firstOf k log)) rest (subst (Honest (world S) grid) split (f .honest));
-        mends = mends-first (world S) grid (entriesOf (firstOf k log)) rest (subst (Mends (world S) grid) split (f .mends));
-      }
+      filling-of S grid (firstOf k log) (fair-append (world S) grid (entriesOf (firstOf k log)) rest (subst (FairLog (world S) grid) split (filling-fair S grid log f)) .0)
 
   pub first-alike : (tested : rules.Tested) → AddsAlike tested (world S) (entriesOf log) → AddsAlike tested (world S) (entriesOf (firstOf k log))
-  first-alike tested a = alike-first tested (world S) (entriesOf (firstOf k log)) rest (subst (AddsAlike tested (world S)) split a)
+  first-alike tested a = alike-append tested (world S) (entriesOf (firstOf k log)) rest .0 (subst (AddsAlike tested (world S)) split a) .0
 
   first-of-such-a-log : (mode : Tested) (grid : List ℕ) → LogFor mode S grid log → LogFor mode S grid (firstOf k log)
   first-of-such-a-log Opposite grid l = record { filling = first-filling grid (l .filling); alike = first-alike source (l .alike) }

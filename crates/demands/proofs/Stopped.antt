@@ -6,8 +6,8 @@ use mathlib.Core.List.{List, [], _∷_, _++_}
 use mathlib.Core.Option.{Option, none, some}
 use native.Mathlib.Omega.{arith}
 use lib.Dec.{eqb, leb, ltb}
-use lib.ListN.{length, getD, take, drop, take-append-drop, length-drop, List·getD-append}
-use lib.Seq.{length-take-le, drop-append-le, take-append-le}
+use lib.ListN.{length, getD, take, drop, length-append, take-append-drop, length-drop, List·getD-append}
+use lib.Seq.{length-take-le, drop-append-le, take-append-le, take-append-seam, drop-append-seam, getD-drop, drop-drop}
 use borrow.Author.Tests.{leb-false, eq-eqb}
 use Rattle.rules.specs.Lists.{each, table, every, part}
 use Rattle.rules.specs.Cells.{cells}
@@ -15,7 +15,7 @@ use Rattle.rules.specs.Mesh.{Quad, Lists, layout, decode}
 use Rattle.rules.specs.Update.{ENTRY-BYTES, Entry, Work, Course, Tested, u32At, entryAt, work, ops, run, moves, highest, needed, courseFrom, meshAfter}
 use Rattle.rules.specs.Answers.{fine, refuseLowest, BAD-SIZE, badNeighbour, badNeighbours, badSides, badBytes, badFormer, badSpare, badEntry, BAD-ENTRY}
 use Rattle.rules.specs.Calls.{Scene, answered, world, faces, room, typesVerdict, lentVerdict, updateVerdict, entriesOf, course, updateBy, updateMesh}
-use Rattle.rules.proofs.ListLaws.{each-same, each-split}
+use Rattle.rules.proofs.ListLaws.{each-same, each-split, each-on}
 use Rattle.rules.proofs.Checking.{then-fine, fine-then, fine-if, lowest-fine, fine-lowest}
 use Rattle.rules.proofs.Courses.{found-room, course-alike}
 use Rattle.demands.specs.Room.{neededAt, FindsRoom, FirstWithout}
@@ -115,21 +115,46 @@ module _ (k : ℕ) (first rest : List ℕ) (whole : length first ≡ ENTRY-BYTES
         byte (ENTRY-BYTES * j + 15) (omega arith),
       )
 
--- the entries of the first k are the first k entries
-pub entries-first : (log : List ℕ) (k : ℕ) → k ≤ length log / ENTRY-BYTES
-    → entriesOf log ≡ entriesOf (take (ENTRY-BYTES * k) log) ++ each (length log / ENTRY-BYTES - k) k (λ j. entryAt log j ∷ [])
-entries-first log k h =
-    let whole : length (take (ENTRY-BYTES * k) log) ≡ ENTRY-BYTES * k = length-take-le (ENTRY-BYTES * k) log (omega arith) in
-    let count : length (take (ENTRY-BYTES * k) log) / ENTRY-BYTES ≡ k = omega (arith, whole) in
+-- ---- the entries after them
+pub entry-dropped : (k : ℕ) (log : List ℕ) (j : ℕ) → entryAt (drop (ENTRY-BYTES * k) log) j ≡ entryAt log (k + j)
+unfolding entryAt
+entry-dropped k log j =
+    let from : (i : ℕ) → ENTRY-BYTES * k + (ENTRY-BYTES * j + i) ≡ ENTRY-BYTES * (k + j) + i = λ i. omega arith in
+    let start : ENTRY-BYTES * k + ENTRY-BYTES * j ≡ ENTRY-BYTES * (k + j) = omega arith in
+    let first = getD-drop (ENTRY-BYTES * k) log (ENTRY-BYTES * j) 0 ∙ ap (λ (n : ℕ). getD log n 0) start in
+    let byte : (i : ℕ) → getD (drop (ENTRY-BYTES * k) log) (ENTRY-BYTES * j + i) 0 ≡ getD log (ENTRY-BYTES * (k + j) + i) 0 =
+    λ i. getD-drop (ENTRY-BYTES * k) log (ENTRY-BYTES * j + i) 0 ∙ ap (λ (n : ℕ). getD log n 0) (from i) in
+    let given = drop-drop (ENTRY-BYTES * j + 6) (ENTRY-BYTES * k) log ∙ ap (λ (n : ℕ). drop n log) (from 6) in
+    rw (first, byte 1, byte 2, byte 3, byte 4, byte 5, given, byte 12)
+
+-- a log's entries are those of its first k and those of the rest
+pub entries-split : (log : List ℕ) (k : ℕ) → k ≤ length log / ENTRY-BYTES
+    → entriesOf log ≡ entriesOf (take (ENTRY-BYTES * k) log) ++ entriesOf (drop (ENTRY-BYTES * k) log)
+entries-split log k h =
+    let first = take (ENTRY-BYTES * k) log in
+    let rest = drop (ENTRY-BYTES * k) log in
+    let whole : length first ≡ ENTRY-BYTES * k = length-take-le (ENTRY-BYTES * k) log (omega arith) in
+    let count : length first / ENTRY-BYTES ≡ k = omega (arith, whole) in
+    let others : length rest / ENTRY-BYTES ≡ length log / ENTRY-BYTES - k = rw length-drop (omega arith) in
     let sum : length log / ENTRY-BYTES ≡ k + (length log / ENTRY-BYTES - k) = omega arith in
-    let from : 0 + k ≡ k = omega arith in
-    let same : table k (entryAt log) ≡ entriesOf (take (ENTRY-BYTES * k) log) =
-    each-same k 0 (λ j. entryAt log j ∷ []) (λ j. entryAt (take (ENTRY-BYTES * k) log) j ∷ [])
-    (λ j a b. ap (λ (e : Entry). e ∷ [])
-    (ap (λ (l : List ℕ). entryAt l j) (sym (take-append-drop (ENTRY-BYTES * k) log)) ∙ entry-stays k (take (ENTRY-BYTES * k) log) (drop (ENTRY-BYTES * k) log) whole j (omega arith)))
-    ∙ ap (λ (n : ℕ). table n (entryAt (take (ENTRY-BYTES * k) log))) (sym count) in
-    ap (λ (n : ℕ). table n (entryAt log)) sum ∙ each-split k (length log / ENTRY-BYTES - k) 0 (λ j. entryAt log j ∷ [])
-    ∙ (λ i. same i ++ each (length log / ENTRY-BYTES - k) (from i) (λ j. entryAt log j ∷ []))
+    let from : 0 + k ≡ k + 0 = omega arith in
+    let early : table k (entryAt log) ≡ entriesOf first =
+    each-same k 0 (λ j. entryAt log j ∷ []) (λ j. entryAt first j ∷ [])
+    (λ j a b. ap (λ (e : Entry). e ∷ []) (ap (λ (l : List ℕ). entryAt l j) (sym (take-append-drop (ENTRY-BYTES * k) log)) ∙ entry-stays k first rest whole j (omega arith)))
+    ∙ ap (λ (n : ℕ). table n (entryAt first)) (sym count) in
+    let late : each (length log / ENTRY-BYTES - k) (0 + k) (λ j. entryAt log j ∷ []) ≡ entriesOf rest =
+    ap (λ (i : ℕ). each (length log / ENTRY-BYTES - k) i (λ j. entryAt log j ∷ [])) from ∙ each-on k (length log / ENTRY-BYTES - k) 0 (λ j. entryAt log j ∷ [])
+    ∙ each-same (length log / ENTRY-BYTES - k) 0 (λ j. entryAt log (k + j) ∷ []) (λ j. entryAt rest j ∷ []) (λ j a b. ap (λ (e : Entry). e ∷ []) (sym (entry-dropped k log j)))
+    ∙ ap (λ (n : ℕ). table n (entryAt rest)) (sym others) in
+    ap (λ (n : ℕ). table n (entryAt log)) sum ∙ each-split k (length log / ENTRY-BYTES - k) 0 (λ j. entryAt log j ∷ []) ∙ (λ i. early i ++ late i)
+
+-- and those of two logs of whole entries, one after the other, are theirs
+pub entries-joined : (one other : List ℕ) → length one % ENTRY-BYTES ≡ 0 → entriesOf (one ++ other) ≡ entriesOf one ++ entriesOf other
+entries-joined one other whole =
+    let seam : ENTRY-BYTES * (length one / ENTRY-BYTES) ≡ length one = omega arith in
+    entries-split (one ++ other) (length one / ENTRY-BYTES) (omega (arith, length-append one other))
+    ∙ (λ i. entriesOf (take (seam i) (one ++ other)) ++ entriesOf (drop (seam i) (one ++ other)))
+    ∙ (λ i. entriesOf (take-append-seam one other i) ++ entriesOf (drop-append-seam one other i))
 
 -- ---- which entry finds no room
 module _ (tested : Tested) (S : Scene) (log : List ℕ) (B : Lists) (Q : ℕ) where

@@ -1,3 +1,4 @@
 pub mod Contracts
 pub mod Chunks
 pub mod Room
+pub mod Crews

@@ -6,8 +6,8 @@ use mathlib.Core.List.{List, [], _∷_}
 use native.Mathlib.Nat.{sub-zero}
 use native.Mathlib.Omega.{arith}
 use lib.Dec.{eqb}
-use lib.ListN.{length, getD, take, drop, take-append-drop, length-drop}
-use lib.Seq.{getD-drop, drop-drop, length-take-le}
+use lib.ListN.{length, take, drop, take-append-drop, length-drop}
+use lib.Seq.{length-take-le}
 use borrow.Author.Tests.{eqb-true}
 use Rattle.rules.specs.Lists.{each}
 use Rattle.rules.specs.Mesh.{Lists}
@@ -33,7 +33,7 @@ use Rattle.release.specs.OneByOne.{Progress, through, halted, wentOf, on
 use Rattle.release.specs.Composed.{Ending, endsWith, onlyAfter, checkedAfter}
 use Rattle.release.proofs.Composed.{refusal}
 use Rattle.demands.proofs.Telling.{numbered}
-use Rattle.demands.proofs.Stopped.{entry-stays}
+use Rattle.demands.proofs.Stopped.{entry-stays, entry-dropped}
 use Rattle.demands.proofs.Answers.{what-a-mesh-call-says}
 use Rattle.demands.proofs.Fresh.{fresh-is-fine}
 use Rattle.demands.proofs.Mending.{still-fine, asked}
@@ -110,20 +110,14 @@ module _ (tested : Tested) (S : Scene) (log : List ℕ) (n : ℕ) (B₀ : Lists)
 
 -- ---- the log of one entry
 module _ (log : List ℕ) (i : ℕ) (inside : i < length log / ENTRY-BYTES) where
-  byte : (j : ℕ) → getD (drop (ENTRY-BYTES * i) log) j 0 ≡ getD log (ENTRY-BYTES * i + j) 0
-  byte j = getD-drop (ENTRY-BYTES * i) log j 0
-
-  entry-dropped : entryAt (drop (ENTRY-BYTES * i) log) 0 ≡ entryAt log i
-  unfolding entryAt
-  entry-dropped =
-      let z : ENTRY-BYTES * i + 0 ≡ ENTRY-BYTES * i = omega arith in
-      rw (byte 0, byte 1, byte 2, byte 3, byte 4, byte 5, byte 12, z, drop-drop 6 (ENTRY-BYTES * i) log)
-
   entry-alone : entryAt (entryLog log i) 0 ≡ entryAt log i
   entry-alone =
       sym (entry-stays 1 (take ENTRY-BYTES (drop (ENTRY-BYTES * i) log)) (drop ENTRY-BYTES (drop (ENTRY-BYTES * i) log)) sixteen 0 (omega arith))
-      ∙ ap (λ (l : List ℕ). entryAt l 0) (take-append-drop ENTRY-BYTES (drop (ENTRY-BYTES * i) log)) ∙ entry-dropped
+      ∙ ap (λ (l : List ℕ). entryAt l 0) (take-append-drop ENTRY-BYTES (drop (ENTRY-BYTES * i) log)) ∙ entry-dropped i log 0 ∙ ap (entryAt log) this
     where
+      this : i + 0 ≡ i
+      this = omega arith
+
       sixteen : length (take ENTRY-BYTES (drop (ENTRY-BYTES * i) log)) ≡ ENTRY-BYTES
       sixteen = length-take-le ENTRY-BYTES (drop (ENTRY-BYTES * i) log) (rw length-drop (omega arith))
 

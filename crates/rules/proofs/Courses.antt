@@ -330,18 +330,14 @@ pub length-log : (W : World) (g : List ℕ) (es : List Entry) → length (gridLo
 length-log W g [] = refl
 length-log W g (e ∷ es) = length-log W (gridAfter W g e) es ∙ length-after W g e (e .change)
 
--- LAW: the first entries of a log of demand 3 are such a log
-pub honest-first : (W : World) (g : List ℕ) (first rest : List Entry) → Honest W g (first ++ rest) → Honest W g first
-honest-first W g [] rest h = tt
-honest-first W g (e ∷ first) rest h = (h .0, h .1, honest-first W (gridAfter W g e) first rest (h .2))
+pub log-append : (W : World) (g : List ℕ) (a b : List Entry) → gridLog W (a ++ b) g ≡ gridLog W b (gridLog W a g)
+log-append W g [] b = refl
+log-append W g (e ∷ a) b = log-append W (gridAfter W g e) a b
 
-pub mends-first : (W : World) (g : List ℕ) (first rest : List Entry) → Mends W g (first ++ rest) → Mends W g first
-mends-first W g [] rest h = tt
-mends-first W g (e ∷ first) rest h = (h .0, mends-first W (gridAfter W g e) first rest (h .1))
-
-pub alike-first : (tested : Tested) (W : World) (first rest : List Entry) → AddsAlike tested W (first ++ rest) → AddsAlike tested W first
-alike-first tested W [] rest h = tt
-alike-first tested W (e ∷ first) rest h = (h .0, alike-first tested W first rest (h .1))
+pub alike-append : (tested : Tested) (W : World) (a b : List Entry) → AddsAlike tested W (a ++ b) ↔ (AddsAlike tested W a × AddsAlike tested W b)
+alike-append tested W [] b = (λ h. (tt, h), λ h. h .1)
+alike-append tested W (e ∷ a) b =
+    let rest = alike-append tested W a b in (λ h. let r = rest .0 (h .1) in ((h .0, r .0), r .1), λ h. (h .0 .0, rest .1 (h .0 .1, h .1)))
 
 -- a course by works that are alike is the same
 pub course-alike : (room : ℕ) (a b : ℕ → Work) (i n : ℕ) (m : List Quad) (v p : ℕ) → ((j : ℕ) → j < i + n → a j ≡ b j)

@@ -363,6 +363,10 @@ entry-known n types log e k h =
 pub entry-inside : (n types : ℕ) (log : List ℕ) → BAD-ENTRY n types log ≡ fine → (k : ℕ) → k < length log / ENTRY-BYTES → (entryAt log k) .cell < n
 entry-inside n types log e k h = entry-known n types log e k h .0
 
+pub entries-inside : (n types : ℕ) (log : List ℕ) → BAD-ENTRY n types log ≡ fine → All (λ e. e .cell < n) (entriesOf log)
+entries-inside n types log e =
+    all-each (λ (x : Entry). x .cell < n) (length log / ENTRY-BYTES) 0 (λ k. entryAt log k ∷ []) (λ k a b. (entry-known n types log e k (omega arith) .0, tt))
+
 entries-listed : (n types : ℕ) (log : List ℕ) → BAD-ENTRY n types log ≡ fine → All (λ e. e .type < types) (entriesOf log)
 entries-listed n types log e =
     all-each (λ (x : Entry). x .type < types) (length log / ENTRY-BYTES) 0 (λ k. entryAt log k ∷ []) (λ k a b. (entry-known n types log e k (omega arith) .1, tt))
@@ -447,6 +451,37 @@ through tested S log B Q = by (updateVerdict S log B Q) refl
         let f = zero-fine UPDATE-FIRST refl (updateVerdict S log B Q) (update-numbers S log B Q) (ap (λ (x : Verdict). (checkBy x) .number) v ∙ e) in
         let z : _≡_ {A = ℕ} 0 1 = cc in absurd (omega arith)
 
+-- ---- a mesh that passes: what was asked of it, and what it shows
+pub record Passed (S : Scene) (outer g : List ℕ) (B : Lists) (Q : ℕ) : Type 0 where
+  pub size : BAD-SIZE (S .size) ≡ fine
+  pub types : typesVerdict S ≡ fine
+  pub faces-named : BAD-OUTER outer ≡ fine
+  pub whole : length g ≡ cells (S .size)
+  pub codes : (c : ℕ) → c < length g → getD g c 0 < length (S .types .kinds)
+  pub shows : Shows (world S) outer g (decode (S .types .coloured) Q B)
+
+pub passed : (S : Scene) (outer g : List ℕ) (B : Lists) (Q : ℕ) → checkVerdict S outer g B Q ≡ fine → Passed S outer g B Q
+passed S outer g B Q ec =
+    let o = then-fine (openVerdict S outer g B Q) _ ec in
+    let bf = then-fine (bookVerdict S B Q) (faceVerdict S outer g B Q) (o .1) in
+    let a = then-fine (BAD-SIZE (S .size)) _ (then-fine (inputVerdict S outer g B) _ (o .0) .0) in
+    let b = then-fine (BAD-GRID (S .size) g) _ (a .1) in
+    let t = then-fine (typesVerdict S) _ (b .1) in
+    let d = then-fine (BAD-OUTER outer) _ (t .1) in
+    let f = then-fine (BAD-CELL (S .types) g) (SHORT-SLOTS (S .size) B) (d .1) in
+    let types = length (S .types .kinds) in
+    let hg = eqb-true (length g) (cells (S .size)) (not-true _ (if-fine (not (eqb (length g) (cells (S .size)))) 2 0 (b .0))) in
+    let room-ok = ltb-false (length (B .slots)) (faces S) (if-fine (ltb (length (B .slots)) (faces S)) 9 0 (f .1)) in
+    let right = right-of-fine (world S) outer g (S .types .coloured) B Q room-ok (bf .0) (bf .1) in
+    record {
+      size = a .0;
+      types = t .0;
+      faces-named = d .0;
+      whole = hg;
+      codes = λ c l. leb-false types (getD g c 0) (lowest-fine 8 (length g) (λ c. leb types (getD g c 0)) (f .0) c l);
+      shows = shows-of-right (world S) outer g (S .types .coloured) B Q room-ok (sound S (a .0) (t .0)) hg right;
+    }
+
 module _ (tested : Tested) (S : Scene) (g log : List ℕ) (B : Lists) (Q : ℕ) where
   abbrev c : Course
   c = course tested S log B Q
@@ -459,29 +494,16 @@ module _ (tested : Tested) (S : Scene) (g log : List ℕ) (B : Lists) (Q : ℕ) 
       → checkVerdict S [] grid (layout (faces S) (S .types .coloured) (c .highest) (c .quads) B) (length (c .quads)) ≡ fine
   mended ec ho me al eu fu =
       let u = asked-of tested S log B Q eu in
-      let o = then-fine (openVerdict S [] g B Q) _ ec in
-      let bf = then-fine (bookVerdict S B Q) (faceVerdict S [] g B Q) (o .1) in
-      let a = then-fine (BAD-SIZE (S .size)) _ (then-fine (inputVerdict S [] g B) _ (o .0) .0) in
-      let b = then-fine (BAD-GRID (S .size) g) _ (a .1) in
-      let t = then-fine (typesVerdict S) _ (b .1) in
-      let d = then-fine (BAD-OUTER []) _ (t .1) in
-      let f = then-fine (BAD-CELL (S .types) g) _ (d .1) in
+      let p = passed S [] g B Q ec in
       let types = length (S .types .kinds) in
-      let snd = sound S (u .size) (u .types) in
-      let hg = eqb-true (length g) (cells (S .size)) (not-true _ (if-fine (not (eqb (length g) (cells (S .size)))) 2 0 (b .0))) in
       let lg = length-log (world S) g (entriesOf log) in
-      let room-ok = ltb-false (length (B .slots)) (faces S) (if-fine (ltb (length (B .slots)) (faces S)) 9 0 (u .slots)) in
-      let right = right-of-fine (world S) [] g (S .types .coloured) B Q room-ok (bf .0) (bf .1) in
-      let sh = shows-of-right (world S) [] g (S .types .coloured) B Q room-ok snd hg right in
-      let codes : (k : ℕ) → k < length g → getD g k 0 < types =
-      λ k l. leb-false types (getD g k 0) (lowest-fine 8 (length g) (λ k. leb types (getD g k 0)) (f .0) k l) in
       laid-accepted S B (c .highest) (c .quads) (u .size) (u .slots) (ran-sane tested S log B Q eu) [] grid
-      (fine-if (not (eqb (length grid) (cells (S .size)))) 2 0 (rw (eq-eqb (length grid) (cells (S .size)) (lg ∙ hg))))
-      (u .types) (d .0)
+      (fine-if (not (eqb (length grid) (cells (S .size)))) 2 0 (rw (eq-eqb (length grid) (cells (S .size)) (lg ∙ p .whole))))
+      (u .types) (p .faces-named)
       (fine-lowest 8 (length grid) (λ k. leb types (getD grid k 0))
       (λ k l. lt-leb types (getD grid k 0)
-      (codes-log S g (entriesOf log) (entries-listed (cells (S .size)) types log (u .entries)) ho codes k l)))
-      (mends-log (world S) snd tested (room S B) (entryAt log) 0 (length log / ENTRY-BYTES) g (decode (S .types .coloured) Q B) 0 Q hg sh
+      (codes-log S g (entriesOf log) (entries-listed (cells (S .size)) types log (u .entries)) ho (p .codes) k l)))
+      (mends-log (world S) (sound S (u .size) (u .types)) tested (room S B) (entryAt log) 0 (length log / ENTRY-BYTES) g (decode (S .types .coloured) Q B) 0 Q (p .whole) (p .shows)
       (λ j x y. entry-inside (cells (S .size)) types log (u .entries) j (omega arith)) ho me al fu)
 
   -- if a mesh passes with no outer face named, it passes for the new grid after any unrefused, honest log of Added, Broken and Replaced alone

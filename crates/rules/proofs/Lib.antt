@@ -22,4 +22,5 @@ pub mod Demands
 pub mod Pairs
 pub mod Idle
 pub mod Apart
+pub mod Merging
 pub mod Witness

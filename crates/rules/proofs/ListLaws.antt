@@ -290,6 +290,16 @@ members x =
     ends true = refl
     ends false = refl
 
+-- ---- each face
+pub six : (P : ℕ → Type 0) → P 0 → P 1 → P 2 → P 3 → P 4 → P 5 → (f : ℕ) → f < 6 → P f
+six P a b c d e f zero h = a
+six P a b c d e f (suc zero) h = b
+six P a b c d e f (suc (suc zero)) h = c
+six P a b c d e f (suc (suc (suc zero))) h = d
+six P a b c d e f (suc (suc (suc (suc zero)))) h = e
+six P a b c d e f (suc (suc (suc (suc (suc zero))))) h = f
+six P a b c d e f (suc (suc (suc (suc (suc (suc n)))))) h = absurd (omega arith)
+
 -- ---- each element of a list
 abbrev pub All {ℓ} : {A : Type ℓ} → (A → Type 0) → List A → Type 0
 All P [] = Unit {0}
@@ -298,6 +308,10 @@ All P (x ∷ xs) = P x × All P xs
 pub all-kept {ℓ} : {A : Type ℓ} {P R : A → Type 0} → ((x : A) → P x → R x) → (xs : List A) → All P xs → All R xs
 all-kept h [] a = tt
 all-kept h (x ∷ xs) a = (h x (a .0), all-kept h xs (a .1))
+
+pub all-with {ℓ} : {A : Type ℓ} {P Q R : A → Type 0} → ((x : A) → P x → Q x → R x) → (xs : List A) → All P xs → All Q xs → All R xs
+all-with f [] p q = tt
+all-with f (x ∷ xs) p q = (f x (p .0) (q .0), all-with f xs (p .1) (q .1))
 
 pub all-map : {A B : Type 0} (P : B → Type 0) (g : A → B) (xs : List A) → All (λ x. P (g x)) xs → All P (map g xs)
 all-map P g [] a = tt

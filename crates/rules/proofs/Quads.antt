@@ -8,7 +8,7 @@ use native.Mathlib.Omega.{arith}
 use lib.Dec.{eqb}
 use lib.ListN.{length, getD, set, take, drop, length-append, length-set, length-take, length-drop, drop-of-length-le}
 use lib.Seq.{split-at, set-split, set-append-left, take-at, getD-take, length-take-le}
-use borrow.Author.Tests.{eqb-true, leb-true, leb-false}
+use borrow.Author.Tests.{eqb-true, eq-eqb, leb-true, leb-false}
 use Rattle.rules.specs.Lists.{only, isNil, member}
 use Rattle.rules.specs.Mesh.{Quad, at, there, placeOf}
 use Rattle.rules.specs.Update.{blank, draw, shifts, removeAt, remove, movedBy, moved, Op, put, cut, step, run, cuts, puts}
@@ -229,3 +229,19 @@ step-once (cut k) m h j = rw (at-remove j k m (h j)) (cond-le (eqb j k) (at j m)
 pub run-once : (os : List Op) (m : List Quad) → Once m → Once (run os m)
 run-once [] m h = h
 run-once (o ∷ os) m h = run-once os (step o m) (step-once o m h)
+
+own-first : (q : Quad) (m : List Quad) → at (q .key) (q ∷ m) ≡ q .words ∷ at (q .key) m
+own-first q m = ap (λ (b : Bool). only b (q .words) ++ at (q .key) m) (eq-eqb (q .key) (q .key) refl)
+
+-- LAW: meshes that have the same at each face, and none twice, have as many quads
+pub same-count : (m n : List Quad) → Once m → Once n → ((k : ℕ) → at k m ≡ at k n) → length m ≡ length n
+unfolding remove
+same-count [] [] a b h = refl
+same-count [] (q ∷ n) a b h = absurd (false≢true (sym (ap isNil (h (q .key)) ∙ ap isNil (own-first q n))))
+same-count (q ∷ m) n a b h =
+    let is : there (q .key) n ≡ true = ap (λ (x : List (List ℕ)). not (isNil x)) (sym (h (q .key)) ∙ own-first q m) in
+    let p = placed (q .key) n is in
+    let rest = same-count m (remove (q .key) n) (λ j. tail-le (eqb j (q .key)) (q .words) (at j m) (a j)) (step-once (cut (q .key)) n b)
+    (λ j. cut-law j [] m q (a j) ∙ ap (cond (eqb j (q .key)) []) (h j) ∙ sym (at-remove j (q .key) n (b j))) in
+    let less = ap (λ (t : Bool). length (cond t (removeAt (placeOf (q .key) n) n) n)) is ∙ length-removeAt (placeOf (q .key) n) n (p .within) in
+    omega (arith, rest, less, p .within)

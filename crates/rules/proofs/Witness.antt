@@ -2,8 +2,7 @@
 use mathlib.Core.Path.{_≡_, refl, ap}
 use mathlib.Core.Bool.{true, false}
 use mathlib.Core.List.{List, [], _∷_, _++_}
-use Prim.Native.Nat.{ℕ, zero, suc, _<_}
-use native.Mathlib.Omega.{arith}
+use Prim.Native.Nat.{ℕ}
 use lib.ListN.{length, getD}
 use lib.Dec.{lit<}
 use lib.Ieee as ieee
@@ -15,6 +14,7 @@ use Rattle.rules.specs.Update.{entryAt, removeAt, remove, ops, needed, c
 use Rattle.rules.specs.Answers as answers
 use Rattle.rules.specs.Calls.{Scene, Outcome, Answer, answered, world, entriesOf, meshGrid, updateMesh, checkMesh}
 use Rattle.rules.proofs.Abacus.{ZERO, ONE, all, UNIT-WORDS, scene, lent, digAndFill}
+use Rattle.rules.proofs.ListLaws.{six}
 use Rattle.rules.proofs.Modes.{itself-alike}
 use Rattle.rules.proofs.Demands.{fresh-accepted, mended-accepted}
 
@@ -33,15 +33,6 @@ fresh = meshGrid S [] grid true (lent 12 2)
 
 abbrev after : Outcome
 after = updateMesh source S log (fresh .lists) (fresh .answer .quads)
-
-six : (P : ℕ → Type 0) → P 0 → P 1 → P 2 → P 3 → P 4 → P 5 → (f : ℕ) → f < 6 → P f
-six P a b c d e f zero h = a
-six P a b c d e f (suc zero) h = b
-six P a b c d e f (suc (suc zero)) h = c
-six P a b c d e f (suc (suc (suc zero))) h = d
-six P a b c d e f (suc (suc (suc (suc zero)))) h = e
-six P a b c d e f (suc (suc (suc (suc (suc zero))))) h = f
-six P a b c d e f (suc (suc (suc (suc (suc (suc n)))))) h = absurd (omega arith)
 
 honest : Honest (world S) grid (entriesOf log)
 unfolding each entryAt neighbour emptyType lowestFrom

@@ -11,4 +11,5 @@ pub mod Check
 pub mod Calls
 pub mod Together
 pub mod Pairs
+pub mod Crews
 pub mod Program
