@@ -1,5 +1,8 @@
 //! The log of an update.
 
+use crate::{get_neighbor, Dimensions, Face};
+use std::collections::HashMap;
+
 /// All the ways a voxel can be changed.
 #[derive(Clone, Copy, Debug, PartialEq, Eq)]
 pub enum VoxelChange {
@@ -91,6 +94,11 @@ impl Log {
         self.bytes.extend([former, 0, 0, 0]);
     }
 
+    /// Appends another log's entries, in their order.
+    pub fn append(&mut self, other: &Log) {
+        self.bytes.extend_from_slice(&other.bytes);
+    }
+
     /// How many entries there are.
     pub fn len(&self) -> usize {
         self.bytes.len() / Log::ENTRY
@@ -109,6 +117,54 @@ impl Log {
     /// The entries as the library reads them.
     pub fn as_bytes(&self) -> &[u8] {
         &self.bytes
+    }
+
+    /// An entry of this log and one of the other's whose cells are the same, or neighbours across a face. It is the first of this log that
+    /// touches any, and the first of the other's that it touches. `None`: the two may be merged in any order.
+    ///
+    /// That is proved of the library. Take a mesh that passes [`check_mesh`](crate::check_mesh) with no outer layer, and two logs, both begun on the
+    /// grid as it stands, each of the kind after which the mesh is proved to pass again; [`mend_mesh`](crate::mend_mesh) says which, for either
+    /// update. If they touch nowhere, each merge that keeps the order within either log, in one call or in several, leaves the same faces with
+    /// the same vertices, and passes for the same grid, unless it is refused. The quads' places and `moved` may differ.
+    ///
+    /// ```
+    /// # use nalumoce::*;
+    /// # let rock = 1;
+    /// # let (mut ours, mut theirs) = (Log::new(), Log::new());
+    /// let (dims, grid) = ((4, 1, 1), [rock; 4]);
+    /// ours.push(VoxelChange::Broken, 0, rock, neighboring_voxels(&grid, 0, dims));
+    /// theirs.push(VoxelChange::Broken, 2, rock, neighboring_voxels(&grid, 2, dims));
+    /// assert_eq!(ours.touching(&theirs, dims), None);
+    /// theirs.push(VoxelChange::Broken, 1, rock, neighboring_voxels(&grid, 1, dims));
+    /// assert_eq!(ours.touching(&theirs, dims), Some((0, 1))); // cells 0 and 1
+    /// ```
+    ///
+    /// Only the cells are read. Whether the logs are true of the grid is not tested. An entry of sides counts by its cell as any other, but the law
+    /// is silent on logs with one. A cell outside the grid has no neighbours, and touches only itself; an update refuses it.
+    ///
+    /// It takes time in proportion to the entries of both.
+    pub fn touching(&self, other: &Log, dims: Dimensions) -> Option<(usize, usize)> {
+        let others = other.first_entries();
+        let touched = |cell: usize| {
+            let beside = Face::ALL.into_iter().filter_map(|face| get_neighbor(cell, face, dims));
+            beside.chain([cell]).filter_map(|near| others.get(&near).copied()).min()
+        };
+        self.cells().enumerate().find_map(|(entry, cell)| Some((entry, touched(cell)?)))
+    }
+
+    /// The cell of each entry.
+    fn cells(&self) -> impl Iterator<Item = usize> + '_ {
+        let cell = |entry: &[u8]| u32::from_le_bytes([entry[0], entry[1], entry[2], entry[3]]) as usize;
+        self.bytes.chunks_exact(Log::ENTRY).map(cell)
+    }
+
+    /// The first entry of each cell that has one.
+    fn first_entries(&self) -> HashMap<usize, usize> {
+        let mut first = HashMap::new();
+        for (entry, cell) in self.cells().enumerate() {
+            first.entry(cell).or_insert(entry);
+        }
+        first
     }
 }
 
@@ -164,6 +220,89 @@ mod tests {
             });
             assert_eq!(told, due);
         }
+    }
+
+    /// A log that digs at these cells.
+    fn log_at(cells: &[usize]) -> Log {
+        let mut log = Log::new();
+        cells.iter().for_each(|&cell| log.push(VoxelChange::Broken, cell, 1, [None; 6]));
+        log
+    }
+
+    #[test]
+    fn a_log_is_appended_whole() {
+        let (mut log, other) = (log_at(&[7, 5]), log_at(&[6]));
+        log.append(&other);
+        assert_eq!(log, log_at(&[7, 5, 6]));
+        log.append(&Log::new());
+        assert_eq!(log.len(), 3);
+        let mut empty = Log::new();
+        empty.append(&other);
+        assert_eq!(empty, other);
+    }
+
+    /// x, y, z: a cell's number is y · 20 + z · 4 + x.
+    const DIMS: Dimensions = (4, 3, 5);
+
+    fn touching(ours: &[usize], theirs: &[usize]) -> Option<(usize, usize)> {
+        log_at(ours).touching(&log_at(theirs), DIMS)
+    }
+
+    /// All others, diagonal ones and those of the next number at the end of a row or a layer too, touch not.
+    #[test]
+    fn a_cell_touches_itself_and_its_neighbours() {
+        let near: [(usize, &[usize]); 7] = [
+            (29, &[9, 25, 28, 29, 30, 33, 49]), // by face 49, 9, 30, 28, 33, 25
+            (0, &[0, 1, 4, 20]),
+            (59, &[39, 55, 58, 59]),
+            (3, &[2, 3, 7, 23]),        // the end of a row
+            (4, &[0, 4, 5, 8, 24]),     // the start of the next
+            (19, &[15, 18, 19, 39]),    // the end of a layer
+            (20, &[0, 20, 21, 24, 40]), // the start of the next
+        ];
+        for (cell, near) in near {
+            for other in 0..60 {
+                let due = near.contains(&other).then_some((0, 0));
+                assert_eq!((touching(&[cell], &[other]), touching(&[other], &[cell])), (due, due), "{cell} and {other}");
+            }
+        }
+    }
+
+    #[test]
+    fn the_first_entry_that_touches_and_the_first_that_it_touches() {
+        assert_eq!(touching(&[59, 58, 29, 28], &[0, 49, 29, 9]), Some((2, 1)));
+        assert_eq!(touching(&[0, 49, 29, 9], &[59, 58, 29, 28]), Some((1, 2)));
+        assert_eq!(touching(&[3, 29, 29], &[0, 12, 29, 29]), Some((1, 2)));
+        assert_eq!(touching(&[29], &[30, 29]), Some((0, 0)));
+        assert_eq!(touching(&[29], &[29, 30]), Some((0, 0)));
+        assert_eq!(touching(&[0, 59], &[19, 29, 49]), None);
+    }
+
+    #[test]
+    fn a_log_without_entries_touches_nothing() {
+        assert_eq!((touching(&[], &[]), touching(&[], &[29]), touching(&[29], &[])), (None, None, None));
+    }
+
+    #[test]
+    fn every_change_counts_by_its_cell() {
+        let mut log = Log::new();
+        log.push(VoxelChange::Added, 0, 1, [None; 6]);
+        log.push(VoxelChange::Replaced { former: 2 }, 3, 1, [None; 6]);
+        log.push_sides(59, 1, [Side::Keep; 6]);
+        for (entry, beside) in [20, 2, 55].into_iter().enumerate() {
+            assert_eq!(log.touching(&log_at(&[29, beside]), DIMS), Some((entry, 1)));
+            assert_eq!(log_at(&[29, beside]).touching(&log, DIMS), Some((1, entry)));
+        }
+    }
+
+    /// 60 would be above 40, behind 56 and to the right of 59. The others differ in one byte each.
+    #[test]
+    fn a_cell_outside_touches_only_itself() {
+        for (cell, others) in [(60, [40, 56, 59, 61]), (0x0102_0304, [0x0202_0304, 0x0103_0304, 0x0102_0404, 0x0102_0305])] {
+            assert_eq!(touching(&[cell], &[cell]), Some((0, 0)));
+            assert_eq!((touching(&[cell], &others), touching(&others, &[cell])), (None, None));
+        }
+        assert_eq!(log_at(&[0]).touching(&log_at(&[1]), (0, 0, 0)), None);
     }
 
     #[test]

@@ -127,6 +127,12 @@ impl MeshMD {
         self.log.push_sides(voxel_index, voxel, sides);
     }
 
+    /// Logs all changes of another log, in their order, after those logged already. [`Log::touching`] says when the logs of two may be logged in
+    /// any order.
+    pub fn log_all(&mut self, log: &Log) {
+        self.log.append(log);
+    }
+
     /// The changes logged and not yet done.
     pub fn logged(&self) -> &Log {
         &self.log
