@@ -1,7 +1,9 @@
 //! Voxels that don't cover opposite sides alike, and what the two updates leave of a mesh: Meshem's, and the culling rule's.
 
+mod dice;
 mod kept;
 
+use dice::Dice;
 use kept::Kept;
 use nalumoce::lent::{self, Room, UpdateError};
 use nalumoce::*;
@@ -179,18 +181,6 @@ fn what_is_tested_is_told_apart_from_every_other_number() {
             assert_eq!(updated.quads, if right { right_count } else { right_count + 3 });
             assert_eq!(check_mesh(&mesh, &metadata, &[], &grid, &registry).is_ok(), right);
         }
-    }
-}
-
-struct Dice(u64);
-
-impl Dice {
-    fn below(&mut self, most: usize) -> usize {
-        self.0 = self.0.wrapping_mul(6_364_136_223_846_793_005).wrapping_add(1_442_695_040_888_963_407);
-        (self.0 >> 33) as usize % most
-    }
-    fn one_of<T: Copy>(&mut self, list: &[T]) -> T {
-        list[self.below(list.len())]
     }
 }
 
