@@ -118,7 +118,7 @@ pub struct Updated {
 pub enum UpdateError {
     /// Refused: nothing has changed.
     Refused(Refusal),
-    /// NO_ROOM: the entries before `entry` are done, completely; that one and those after it are not.
+    /// NO_ROOM: the entries before `entry` are done, completely; that one and those after it are not. [`Log::drop_first`] leaves these.
     NoRoom {
         /// The entry that asks for more room than there is.
         entry: usize,

@@ -114,6 +114,13 @@ impl Log {
         self.bytes.clear();
     }
 
+    /// Drops the first entries, or all if there are not so many: those that were done before
+    /// [`NoRoom`](crate::lent::UpdateError::NoRoom), so that the rest can be given again.
+    pub fn drop_first(&mut self, entries: usize) {
+        let bytes = entries.min(self.len()) * Log::ENTRY;
+        self.bytes.drain(..bytes);
+    }
+
     /// The entries as the library reads them.
     pub fn as_bytes(&self) -> &[u8] {
         &self.bytes
@@ -239,6 +246,15 @@ mod tests {
         let mut empty = Log::new();
         empty.append(&other);
         assert_eq!(empty, other);
+    }
+
+    #[test]
+    fn the_first_entries_are_dropped() {
+        for (entries, left) in [(0, &[7, 5, 6][..]), (1, &[5, 6]), (2, &[6]), (3, &[]), (4, &[]), (usize::MAX, &[])] {
+            let mut log = log_at(&[7, 5, 6]);
+            log.drop_first(entries);
+            assert_eq!(log, log_at(left));
+        }
     }
 
     /// x, y, z: a cell's number is y · 20 + z · 4 + x.

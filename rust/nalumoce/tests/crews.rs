@@ -272,3 +272,20 @@ fn one_order_alone_may_find_no_room() {
         assert_eq!((done(15, &merged(&dug, &replaced)), done(15, &merged(&replaced, &dug))), (Ok(11), Ok(11)));
     }
 }
+
+/// A column of five rocks has 22 quads, and there is room for no more. Our crew digs the lowest, which leaves 18, and puts it back, for which it needs 23.
+/// Once theirs has dug the highest, 14 are left, and it needs 19; the side that it covers goes then.
+#[test]
+fn what_found_no_room_is_given_again_after_the_other_crew() {
+    let (registry, dims, grid, after) = (registry(), (1, 5, 1), [ROCK; 5], [ROCK, ROCK, ROCK, ROCK, AIR]);
+    let [mut ours, theirs] = [crew(&grid, dims, &[(0, AIR), (0, ROCK)]), crew(&grid, dims, &[(4, AIR)])];
+    assert_eq!(ours.touching(&theirs, dims), None);
+    let (mut kept, quads) = lent_mesh(dims, &grid, 22);
+    let mut mended = |quads: usize, log: &Log| lent::mend_mesh(&mut kept.room(), quads, dims, log, &registry);
+    let full = UpdateError::NoRoom { entry: 1, kept: Updated { quads: 18, moved: 5 } };
+    assert_eq!(mended(quads, &ours), Err(full));
+    ours.drop_first(1);
+    assert_eq!(mended(18, &theirs).unwrap().quads, 14);
+    assert_eq!(mended(14, &ours).unwrap().quads, 18);
+    assert_eq!(lent::check_mesh(dims, &[], &after, &registry, kept.lists(), 18), Ok(()));
+}
