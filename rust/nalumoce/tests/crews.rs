@@ -160,10 +160,10 @@ impl Site {
         self.ways.each_ref().map(|way| entries(&self.grid, CAVE, way))
     }
 
-    /// The grid with the changes of both, the second crew's last.
-    fn after(&self) -> Vec<u8> {
+    /// The grid after this many of the crews, the first one first.
+    fn after(&self, crews: usize) -> Vec<u8> {
         let mut after = self.grid.clone();
-        self.ways.iter().flatten().for_each(|&(cell, voxel)| after[cell] = voxel);
+        self.ways[..crews].iter().flatten().for_each(|&(cell, voxel)| after[cell] = voxel);
         after
     }
 }
@@ -205,7 +205,7 @@ fn logs_that_touch_nowhere_are_merged_in_any_order() {
             let site = Site::new(&mut dice, cubes_put);
             let faces_after = |calls: &[Log]| {
                 let (mesh, metadata, _) = updated(update, CAVE, &site.grid, calls);
-                (checked(&mesh, &metadata, &site.after()), faces(&mesh, &metadata))
+                (checked(&mesh, &metadata, &site.after(2)), faces(&mesh, &metadata))
             };
             let entries = site.entries();
             let [ours, theirs] = entries.each_ref().map(|entries| joined(entries));
@@ -215,13 +215,31 @@ fn logs_that_touch_nowhere_are_merged_in_any_order() {
                 continue;
             }
             apart += 1;
-            let (fresh, of_fresh, _) = updated(update, CAVE, &site.after(), &[]);
+            let (fresh, of_fresh, _) = updated(update, CAVE, &site.after(2), &[]);
             let due = (Ok(()), faces(&fresh, &of_fresh));
             let by_turns = [(); 3].map(|_| faces_after(&interleaved(&mut dice, &entries)));
             both_orders.iter().chain(&by_turns).for_each(|merge| assert_eq!(merge, &due));
         }
         assert!(apart > 30 && torn > 30, "{apart} pairs apart, {torn} torn");
     }
+}
+
+/// The second crew's changes are logged anew, on the grid that the first has left. Only entries that touch the first log come out differently.
+#[test]
+fn a_log_that_touches_is_logged_anew() {
+    let (mut dice, mut differ) = (Dice(5), 0);
+    for _ in 0..100 {
+        let site = Site::new(&mut dice, &[ROCK, GLASS, BEAM, SLAB, PANEL]);
+        let [ours, theirs] = site.entries();
+        let (ours, anew) = (joined(&ours), entries(&site.after(1), CAVE, &site.ways[1]));
+        for (entry, _) in theirs.iter().zip(&anew).filter(|(entry, anew)| entry != anew) {
+            assert!(entry.touching(&ours, CAVE).is_some());
+            differ += 1;
+        }
+        let (mesh, metadata, _) = updated(mend_mesh, CAVE, &site.grid, &[merged(&ours, &joined(&anew))]);
+        assert_eq!(checked(&mesh, &metadata, &site.after(2)), Ok(()));
+    }
+    assert!(differ > 50, "{differ}");
 }
 
 /// Two rocks, both dug, each by a crew to which the other rock stands. Whoever is second shows a side of the rock that is gone.
