@@ -151,25 +151,20 @@ impl Log {
     ///
     /// It takes time in proportion to the entries of both.
     pub fn touching(&self, other: &Log, dims: Dimensions) -> Option<(usize, usize)> {
-        let others = other.first_entries();
+        let (ours, theirs) = (self.first_entries(), other.first_entries());
         let touched = |cell: usize| {
             let beside = Face::ALL.into_iter().filter_map(|face| get_neighbor(cell, face, dims));
-            beside.chain([cell]).filter_map(|near| others.get(&near).copied()).min()
+            beside.chain([cell]).filter_map(|near| theirs.get(&near).copied()).min()
         };
-        self.cells().enumerate().find_map(|(entry, cell)| Some((entry, touched(cell)?)))
-    }
-
-    /// The cell of each entry.
-    fn cells(&self) -> impl Iterator<Item = usize> + '_ {
-        let cell = |entry: &[u8]| u32::from_le_bytes([entry[0], entry[1], entry[2], entry[3]]) as usize;
-        self.bytes.chunks_exact(Log::ENTRY).map(cell)
+        ours.into_iter().filter_map(|(cell, entry)| Some((entry, touched(cell)?))).min()
     }
 
     /// The first entry of each cell that has one.
     fn first_entries(&self) -> HashMap<usize, usize> {
         let mut first = HashMap::new();
-        for (entry, cell) in self.cells().enumerate() {
-            first.entry(cell).or_insert(entry);
+        for (number, entry) in self.bytes.chunks_exact(Log::ENTRY).enumerate() {
+            let cell = u32::from_le_bytes([entry[0], entry[1], entry[2], entry[3]]) as usize;
+            first.entry(cell).or_insert(number);
         }
         first
     }
@@ -238,7 +233,7 @@ mod tests {
 
     #[test]
     fn a_log_is_appended_whole() {
-        let (mut log, other) = (log_at(&[7, 5]), log_at(&[6]));
+        let (mut log, other) = (log_at(&[7]), log_at(&[5, 6]));
         log.append(&other);
         assert_eq!(log, log_at(&[7, 5, 6]));
         log.append(&Log::new());
