@@ -259,7 +259,7 @@ mod tests {
         log_at(ours).touching(&log_at(theirs), DIMS)
     }
 
-    /// All others, diagonal ones and those of the next number at the end of a row or a layer too, touch not.
+    /// No other cell: no diagonal one, and none that has the next number past the end of a row or a layer.
     #[test]
     fn a_cell_touches_itself_and_its_neighbours() {
         let near: [(usize, &[usize]); 7] = [
