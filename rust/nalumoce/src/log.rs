@@ -61,6 +61,12 @@ impl Log {
         Log { bytes: vec![] }
     }
 
+    /// A log of stored bytes, as [`Log::as_bytes`] gives them; `None` if the last entry is cut short. What an entry says is not tested here: an update
+    /// tests it. Bytes of a former level have to be converted first.
+    pub fn from_bytes(bytes: &[u8]) -> Option<Log> {
+        (bytes.len() % Log::ENTRY == 0).then(|| Log { bytes: bytes.to_vec() })
+    }
+
     /// Appends a change: the cell, the voxel that was broken or put there, and what stands around it by face, `None` outside.
     /// Nothing is tested here; an update refuses a log with an entry that names no cell or no type.
     ///
@@ -221,6 +227,16 @@ mod tests {
                 [bytes[5], bytes[8], bytes[12]]
             });
             assert_eq!(told, due);
+        }
+    }
+
+    #[test]
+    fn a_log_is_read_back_whole_or_not_at_all() {
+        let bytes = [log_at(&[7]).as_bytes(), log_at(&[5, 6]).as_bytes()].concat();
+        for length in 0..=48 {
+            let read = Log::from_bytes(&bytes[..length]);
+            assert_eq!(read.is_some(), [0, 16, 32, 48].contains(&length), "{length} bytes");
+            assert!(read.is_none_or(|log| log.as_bytes() == &bytes[..length]));
         }
     }
 
