@@ -275,15 +275,22 @@ impl Random {
         case
     }
 
-    /// A case that demand 3 speaks of: culled with no outer face named, and a log that it mends.
+    /// A case that demand 3 speaks of: a ground, and a log that it mends.
     pub fn mendable(&mut self, added: Added) -> Case {
-        let (dims, types) = (self.dims(), self.slab_types());
-        let grid = self.grid(dims.iter().product::<u32>() as usize, types.kinds.len());
-        let mut case = Case { dims, grid, types, ..Case::default() };
+        let dims = self.dims();
+        let mut case = self.mendable_ground(dims);
         let most = if self.one_in(16) { 300 } else { self.pick(&[4, 12, 40]) };
         let entries = 1 + self.below(most);
-        case.log = self.mendable_log(&case, entries, added);
+        let near: Vec<usize> = (0..1 + self.below(case.grid.len())).collect();
+        case.log = self.mendable_log(&case, &near, entries, added);
         case
+    }
+
+    /// A ground that demand 3 speaks of: culled, with no outer face named.
+    pub fn mendable_ground(&mut self, dims: [u32; 3]) -> Case {
+        let types = self.slab_types();
+        let grid = self.grid(dims.iter().product::<u32>() as usize, types.kinds.len());
+        Case { dims, grid, types, ..Case::default() }
     }
 
     /// Hilly ground of document 01's types, as large as the limits allow, with a log.
@@ -328,17 +335,16 @@ impl Random {
         true_entry(cell, change, after, case.dims, grid)
     }
 
-    /// An honest log. A third of it replaces what stands in a cell by a cube; the others put cubes into empty cells, and break what stands in others,
-    /// now and then nothing. Without an empty type all replace.
-    fn mendable_log(&mut self, case: &Case, entries: usize, added: Added) -> Vec<u8> {
+    /// An honest log on some of the cells. A third of it replaces what stands in a cell by a cube; the others put cubes into empty cells, and break what
+    /// stands in others, now and then nothing. Without an empty type all replace.
+    pub fn mendable_log(&mut self, case: &Case, cells: &[usize], entries: usize, added: Added) -> Vec<u8> {
         let t = &case.types;
         let fit = |cube: &u8| t.is_cube(*cube) && (added == Added::AnyCubes || t.covers_alike(*cube));
         let cubes: Vec<u8> = (0..t.kinds.len() as u8).filter(fit).collect();
         let mut grid = case.grid.clone();
-        let near = 1 + self.below(grid.len());
         let mut log = vec![];
         for _ in 0..entries {
-            let cell = self.below(near);
+            let cell = self.pick(cells);
             let cube = (!cubes.is_empty()).then(|| self.pick(&cubes));
             let (change, after) = match (self.below(3), cube, t.lowest_empty()) {
                 (0, Some(cube), _) | (_, Some(cube), None) => (REPLACED, cube),

@@ -144,6 +144,24 @@ fn adds_alike(case: &Case) -> bool {
     added_cubes(case).all(|cube| case.types.covers_alike(cube))
 }
 
+/// Whether demand 3 speaks of an honest log in the case's mode.
+fn mends(case: &Case) -> bool {
+    case.tested == Tested::Itself || adds_alike(case)
+}
+
+/// The case with the grid that its log leaves; the log has to be honest.
+fn after_honest_log(case: &Case) -> Compared<Case> {
+    let (honest, grid) = made_honest(case).ok_or("a log that demand 3 does not speak of")?;
+    agree("the log made honest", &case.log, &honest.log)?;
+    Ok(Case { grid, ..honest })
+}
+
+/// A mesh in room for `spare` quads more, or for all that the grid can have.
+fn with_spare(mesh: &Words, case: &Case, spare: usize) -> Words {
+    let quads = mesh.links.len().saturating_add(spare).min(6 * case.grid.len());
+    laid(mesh, room_for(quads, case))
+}
+
 pub struct Comparison<'a> {
     library: &'a dyn Calls,
     pub tally: Tally,
@@ -307,7 +325,7 @@ impl<'a> Comparison<'a> {
         let mut meshed = rust::mesh(case.dims, &case.outer, &case.grid, &registry, case.naive);
         let mesh = meshed.words();
         let quads = mesh.links.len();
-        let start = laid(&mesh, room_for(quads.saturating_add(spare).min(6 * case.grid.len()), case));
+        let start = with_spare(&mesh, case, spare);
         let ends = self.both_modes(case, &start, quads as u64)?;
         let [(answer, room), _] = &ends;
         if answer.number == 0 {
@@ -340,10 +358,8 @@ impl<'a> Comparison<'a> {
     /// The check of what a log left. Only the source's mode, with cubes that don't cover opposite sides alike, may leave a wrong set.
     fn left(&mut self, case: &Case, (answer, room): &End) -> Compared {
         let what = format!("check of a mended mesh, {:?} tested", case.tested);
-        let (honest, grid) = made_honest(case).ok_or("a log that demand 3 does not speak of")?;
-        agree("the log made honest", &case.log, &honest.log)?;
-        let number = self.check(&what, &Case { grid, ..honest }, room, answer.quads)?.number;
-        let mends = case.tested == Tested::Itself || adds_alike(case);
+        let number = self.check(&what, &after_honest_log(case)?, room, answer.quads)?.number;
+        let mends = mends(case);
         if mends || number != WRONG_SET {
             agree(&what, number, 0)?;
         }
