@@ -4,6 +4,7 @@ use crate::calls::{Answer, Calls, Plain};
 use crate::cases::{added_cubes, made_honest, Case};
 use crate::entries::{count_of, is_replaced, split, CHANGE, ENTRY, PAIRED, VOXEL};
 use crate::faults::Faulty;
+use crate::orders::Orders;
 use crate::room::{front, laid, room_for, room_of, SPARE};
 use crate::rust::{self, CubeParameters, Registry, Words};
 use plain::{Tested, NO_ROOM, REPLACED, WRONG_SET};
@@ -38,6 +39,8 @@ pub struct Tally {
     pub left_wrong: u64,
     /// Mended meshes of registries without an empty type.
     pub mended_without_empty: u64,
+    /// Two crews, in the order of `MODES`.
+    pub orders: [Orders; 2],
 }
 
 /// Entries of a change that is two for the Rust.
@@ -91,7 +94,7 @@ impl Tally {
 
 pub type Compared<T = ()> = Result<T, String>;
 
-fn agree<T: PartialEq + std::fmt::Debug>(what: &str, library: T, other: T) -> Compared {
+pub(crate) fn agree<T: PartialEq + std::fmt::Debug>(what: &str, library: T, other: T) -> Compared {
     if library == other {
         Ok(())
     } else {
@@ -100,7 +103,7 @@ fn agree<T: PartialEq + std::fmt::Debug>(what: &str, library: T, other: T) -> Co
 }
 
 /// Two lists agree, or their first difference is told.
-fn agree_list(what: &str, library: &[u32], other: &[u32]) -> Compared {
+pub(crate) fn agree_list(what: &str, library: &[u32], other: &[u32]) -> Compared {
     agree(&format!("{what}, length"), library.len(), other.len())?;
     match (0..library.len()).find(|&at| library[at] != other[at]) {
         Some(at) => agree(&format!("{what} {at}"), library[at], other[at]),
@@ -114,9 +117,9 @@ fn agree_words(what: &str, library: &Words, other: &Words) -> Compared {
 }
 
 /// What an update answers, and what it leaves in the room.
-type End = (Answer, Words);
+pub type End = (Answer, Words);
 
-fn agree_ends(what: &str, library: &End, other: &End) -> Compared {
+pub(crate) fn agree_ends(what: &str, library: &End, other: &End) -> Compared {
     agree(what, library.0, other.0)?;
     agree_words(what, &library.1, &other.1)
 }
@@ -145,19 +148,19 @@ fn adds_alike(case: &Case) -> bool {
 }
 
 /// Whether demand 3 speaks of an honest log in the case's mode.
-fn mends(case: &Case) -> bool {
+pub(crate) fn mends(case: &Case) -> bool {
     case.tested == Tested::Itself || adds_alike(case)
 }
 
 /// The case with the grid that its log leaves; the log has to be honest.
-fn after_honest_log(case: &Case) -> Compared<Case> {
+pub(crate) fn after_honest_log(case: &Case) -> Compared<Case> {
     let (honest, grid) = made_honest(case).ok_or("a log that demand 3 does not speak of")?;
     agree("the log made honest", &case.log, &honest.log)?;
     Ok(Case { grid, ..honest })
 }
 
 /// A mesh in room for `spare` quads more, or for all that the grid can have.
-fn with_spare(mesh: &Words, case: &Case, spare: usize) -> Words {
+pub(crate) fn with_spare(mesh: &Words, case: &Case, spare: usize) -> Words {
     let quads = mesh.links.len().saturating_add(spare).min(6 * case.grid.len());
     laid(mesh, room_for(quads, case))
 }
@@ -246,7 +249,7 @@ impl<'a> Comparison<'a> {
         agree_words("the Rust, an entry a call and the log in one", &meshed.words(), updated)
     }
 
-    fn check(&mut self, what: &str, case: &Case, mesh: &Words, count: u64) -> Compared<Answer> {
+    pub(crate) fn check(&mut self, what: &str, case: &Case, mesh: &Words, count: u64) -> Compared<Answer> {
         let answer = self.library.check_mesh(case, mesh, count);
         agree(what, answer, Plain.check_mesh(case, mesh, count))?;
         self.tally.call(answer);
@@ -290,7 +293,7 @@ impl<'a> Comparison<'a> {
     }
 
     /// The update in the case's mode beside the plain reading, every list whole.
-    fn update(&mut self, what: &str, case: &Case, start: &Words, count: u64) -> Compared<End> {
+    pub(crate) fn update(&mut self, what: &str, case: &Case, start: &Words, count: u64) -> Compared<End> {
         let (mut ours, mut plain) = (start.clone(), start.clone());
         let answer = self.library.update_mesh(case, &mut ours, count);
         let end = (answer, ours);
@@ -300,7 +303,7 @@ impl<'a> Comparison<'a> {
     }
 
     /// A call for each part of a log, up to the first without room, told as one call with the whole log would be.
-    fn in_calls<'p>(&self, case: &Case, parts: impl IntoIterator<Item = &'p [u8]>, start: &Words, count: u64) -> End {
+    pub(crate) fn in_calls<'p>(&self, case: &Case, parts: impl IntoIterator<Item = &'p [u8]>, start: &Words, count: u64) -> End {
         let mut room = start.clone();
         let mut told = Answer { quads: count, ..Answer::default() };
         let mut call = case.clone();

@@ -3,11 +3,13 @@
 pub mod calls;
 pub mod cases;
 pub mod compare;
+pub mod crews;
 pub mod entries;
 pub mod faults;
 pub mod grounds;
 #[cfg(feature = "library")]
 pub mod library;
+pub mod orders;
 pub mod room;
 pub mod rows;
 pub mod rust;

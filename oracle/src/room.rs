@@ -3,9 +3,13 @@
 use crate::cases::Case;
 use crate::entries::ENTRY;
 use crate::rust::{floats, Words};
+use std::collections::BTreeMap;
 
 /// What a place holds that no call has written.
 pub const SPARE: u32 = 0xA5A5_A5A5;
+
+/// The bits of a link that are its cell's number.
+const CELL_OF_LINK: u32 = (1 << 29) - 1;
 
 /// The most quads that an entry draws: Replaced, six of its own and six that face them.
 pub const MOST_DRAWN: usize = 12;
@@ -52,6 +56,14 @@ pub fn front(room: &Words, quads: usize, case: &Case) -> Words {
         links: room.links[..quads].to_vec(),
         slots: room.slots[..6 * case.grid.len()].to_vec(),
     }
+}
+
+/// The faces of the mesh at the front of the room, by cell and number: the words of each one's quad in all attributes.
+pub fn faces(room: &Words, quads: usize, coloured: bool) -> BTreeMap<(u32, u32), Vec<u32>> {
+    let lists = attributes(room, coloured);
+    let words = |quad: usize| lists.iter().flat_map(|(floats, list)| &list[4 * floats * quad..][..4 * floats]).copied().collect();
+    let linked = |link: u32| (link & CELL_OF_LINK, 5u32.wrapping_sub(link >> 29));
+    room.links[..quads].iter().enumerate().map(|(quad, &link)| (linked(link), words(quad))).collect()
 }
 
 /// Lists as a library of level 2 takes them: one of vertices, which stands for the positions, and no others of attributes. All vertices

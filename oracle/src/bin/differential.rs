@@ -8,20 +8,26 @@
 //! Against the plain reading, where the Rust says nothing: `moved`, zeroed and spare places, the new mode of the update, the check, and
 //! refusals, with every buffer whole. A Sides entry split in two, which hide and draw, has to leave the same, and so does a Replaced one, split into
 //! Broken and Added. And demand 3, tried: the mesh passes the check after an honest log of cubes put into empty cells or in place of others; in the
-//! source's mode they have to cover opposite sides alike. A case that fails is shrunk and printed; ten failing cases end the run.
+//! source's mode they have to cover opposite sides alike. And two crews, tried: two such logs on cells that do not touch leave the same faces in any
+//! order, and the mesh passes the check. A case that fails is shrunk and printed; ten failing cases end the run.
 //! A run of a thousand cases that never met something it is there for has failed too.
 
 use oracle::cases::{simpler, simpler_to_mend, Added, Case, Random};
 use oracle::compare::{Compared, Comparison, Pairs, Tally, Updates, MODES};
+use oracle::crews::{simpler_crews, Crews};
 use oracle::entries::{ENTRY, PAIRED};
 use oracle::faults::{limits, Faulty};
 use oracle::library::Library;
+use oracle::orders::{Orders, Touching};
 use oracle::rust::Words;
 use plain::NO_ROOM;
 use std::panic::{catch_unwind, AssertUnwindSafe};
 use std::time::Instant;
 
 const MOST_DISAGREEMENTS: u64 = 10;
+
+/// Room for so many quads more than the crews find.
+const SPARE_FOR_CREWS: [usize; 6] = [0, 1, 2, 4, 16, 10_000];
 
 /// Sizes at and near the limits.
 const LARGE: [[u32; 3]; 7] =
@@ -56,13 +62,16 @@ struct Run {
     random: Random,
     /// Draws what the modes need, so that it changes none of the cases that a seed gives.
     later: Random,
+    /// Draws the crews.
+    crews: Random,
     comparison: Comparison<'static>,
     disagreements: u64,
 }
 
 impl Run {
     fn of(seed: u64) -> Run {
-        Run { random: Random(seed), later: Random(!seed), comparison: Comparison::of(&Library), disagreements: 0 }
+        let [random, later, crews] = [seed, !seed, seed ^ 1 << 63].map(Random);
+        Run { random, later, crews, comparison: Comparison::of(&Library), disagreements: 0 }
     }
 
     /// One case of each kind.
@@ -88,6 +97,11 @@ impl Run {
             self.mendable(number, added);
         }
         self.in_little_room(number);
+        self.either_order(number);
+        // Nothing is claimed of these, so few are enough
+        if number % 4 == 0 {
+            self.touching(number);
+        }
     }
 
     fn mendable(&mut self, number: u64, added: Added) {
@@ -109,6 +123,26 @@ impl Run {
         }
     }
 
+    fn either_order(&mut self, number: u64) {
+        let (crews, seed, spare) = (self.crews.crews(), self.crews.word() as u64, self.crews.pick(&SPARE_FOR_CREWS));
+        if let Err(difference) = whole(|| self.comparison.either_order(&crews, seed, spare)) {
+            self.disagreements += 1;
+            println!("case {number}, two crews in room for {spare} quads more: {difference}");
+            let shrunk = shrunk(crews, simpler_crews, |c| anew(|comparison| comparison.either_order(c, seed, spare)));
+            print_crews(&shrunk);
+            println!("  orders {:?}", shrunk.orders(seed));
+        }
+    }
+
+    fn touching(&mut self, number: u64) {
+        let (crews, spare) = (self.crews.touching_crews(), self.crews.pick(&SPARE_FOR_CREWS));
+        if let Err(difference) = whole(|| self.comparison.touching(&crews, spare)) {
+            self.disagreements += 1;
+            println!("case {number}, two crews that touch, in room for {spare} quads more: {difference}");
+            print_crews(&shrunk(crews, simpler_crews, |c| anew(|comparison| comparison.touching(c, spare))));
+        }
+    }
+
     fn large(&mut self) {
         for dims in LARGE {
             let case = self.random.landscape(dims);
@@ -121,9 +155,10 @@ impl Run {
 
     /// What never came up in a run is a disagreement: nothing was tried.
     fn met_all(&mut self) {
-        let Tally { updates, same_in_both, left_wrong, mended_without_empty, pairs, replaced_by_no_cube, .. } =
+        let Tally { updates, same_in_both, left_wrong, mended_without_empty, pairs, replaced_by_no_cube, orders, .. } =
             &self.comparison.tally;
         let by_mode = |count: fn(&Updates) -> u64| updates.iter().map(count).min().unwrap();
+        let crews_by_mode = |count: fn(&Orders) -> u64| orders.iter().map(count).min().unwrap();
         let by_change = |count: fn(&Pairs) -> u64| pairs.iter().map(count).min().unwrap();
         let met = [
             ("a log that the source's mode leaves wrong", *left_wrong),
@@ -137,6 +172,12 @@ impl Run {
             ("a log with its Sides entries split, and one with its Replaced ones", by_change(|pairs| pairs.split)),
             ("NO_ROOM for a Sides entry and for a Replaced one", by_change(|pairs| pairs.without_room)),
             ("a Replaced entry whose new type is no cube", *replaced_by_no_cube),
+            ("two crews with an entry each, in each mode", crews_by_mode(|orders| orders.pairs)),
+            ("two crews with longer logs, in each mode", crews_by_mode(|orders| orders.longer)),
+            ("two crews whose order left quads in other places, in each mode", crews_by_mode(|orders| orders.other_places)),
+            ("two crews whose order had another moved, in each mode", crews_by_mode(|orders| orders.other_moved)),
+            ("two crews with no room in one order alone, in each mode", crews_by_mode(|orders| orders.one_without_room)),
+            ("two neighbours whose order left other faces, in each mode", crews_by_mode(|orders| orders.neighbours.other_faces)),
         ];
         for (what, _) in met.iter().filter(|(_, times)| *times == 0) {
             self.disagreements += 1;
@@ -171,7 +212,7 @@ fn anew(compare: impl FnOnce(&mut Comparison) -> Compared) -> Compared {
 }
 
 /// The simplest case found that still fails; how is printed.
-fn shrunk(mut case: Case, simpler: impl Fn(&Case) -> Vec<Case>, compare: impl Fn(&Case) -> Compared) -> Case {
+fn shrunk<C>(mut case: C, simpler: impl Fn(&C) -> Vec<C>, compare: impl Fn(&C) -> Compared) -> C {
     while let Some(simple) = simpler(&case).into_iter().find(|simple| compare(simple).is_err()) {
         case = simple;
     }
@@ -206,6 +247,15 @@ fn print(case: &Case) {
     }
 }
 
+fn print_crews(crews: &Crews) {
+    print(&crews.ground);
+    for (crew, log) in crews.logs.iter().enumerate() {
+        for entry in log.chunks(ENTRY) {
+            println!("  crew {crew}, entry {entry:?}");
+        }
+    }
+}
+
 fn print_tally(tally: &Tally) {
     let Tally { cubes, grids, log_entries, quads, index_entries, words, plain_calls, refusals, .. } = tally;
     println!("with the Rust: {cubes} cubes, {grids} grids, {log_entries} log entries; {quads} quads, {index_entries} index entries, {words} words");
@@ -230,5 +280,18 @@ fn print_tally(tally: &Tally) {
     println!("other cubes: {not_alike} honest logs, {left_wrong} left wrong by the source's mode");
     for ((change, _), Pairs { split, without_room, .. }) in PAIRED.iter().zip(&tally.pairs) {
         println!("{change} entries split in two: {split} logs, the same; NO_ROOM for one: {without_room} times");
+    }
+    for (tested, orders) in MODES.iter().zip(&tally.orders) {
+        print_orders(&format!("two crews, {tested:?} tested"), orders);
+    }
+}
+
+fn print_orders(crews: &str, orders: &Orders) {
+    let Orders { pairs, longer, other_places, other_moved, one_without_room, both_without_room, neighbours, one_cell } = orders;
+    println!("{crews}: {pairs} with an entry each and {longer} with longer logs leave the same faces in two orders; {other_places} in other places, {other_moved} with another moved");
+    println!("{crews}, no room: {one_without_room} in one order alone, {both_without_room} in both");
+    for (cells, touching) in [("neighbours across a face", neighbours), ("one cell", one_cell)] {
+        let Touching { pairs, other_faces, not_passing } = touching;
+        println!("{crews}, on {cells}: {pairs} pairs, {other_faces} with other faces, {not_passing} that do not pass the check");
     }
 }
