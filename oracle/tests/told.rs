@@ -3,10 +3,13 @@
 use oracle::calls::{Answer, Calls, Plain, Reading};
 use oracle::cases::{paper_types, Added, Case, Random};
 use oracle::compare::{Comparison, MODES};
+use oracle::crews::Crews;
 use oracle::entries::{
     alone, broken_and_added, cell_of, changed, entry, halves, is_replaced, is_sides, replaced, CHANGE, ENTRY, FORMER, GIVEN,
     OUTSIDE, VOXEL, ZEROS,
 };
+use oracle::orders::agree_faces;
+use oracle::room::room_of;
 use oracle::rust::{CubeParameters, Words};
 use plain::{Tested, ADDED, BAD_ENTRY, BROKEN, DRAW, HIDE, KEEP, NO_FORMER, NO_ROOM, REPLACED, SIDES};
 
@@ -123,12 +126,13 @@ const WHOLE: usize = 0;
 const FAULTY: usize = 1;
 const MENDED: usize = 2;
 const LITTLE_ROOM: usize = 3;
+const CREWS: usize = 4;
 
-/// Of how many cases a disagreement is told: whole ones, faulty ones, ones to be mended, foolish ones in little room.
-fn told(reading: &dyn Calls) -> [usize; 4] {
-    let mut random = Random(1);
+/// Of how many cases a disagreement is told: whole ones, faulty ones, ones to be mended, foolish ones in little room, two crews.
+fn told(reading: &dyn Calls) -> [usize; 5] {
+    let (mut random, mut later) = (Random(1), Random(2));
     let mut comparison = Comparison::of(reading);
-    let mut told = [0; 4];
+    let mut told = [0; 5];
     for _ in 0..300 {
         let (parameters, case) = (random.cube(), random.case());
         let mendable = random.mendable(Added::AnyCubes);
@@ -140,6 +144,9 @@ fn told(reading: &dyn Calls) -> [usize; 4] {
         }
         told[MENDED] += comparison.mended(&mendable, usize::MAX).is_err() as usize;
         told[LITTLE_ROOM] += comparison.in_little_room(&foolish, spare).is_err() as usize;
+        let (crews, touching, spare) = (later.crews(), later.touching_crews(), later.below(16));
+        told[CREWS] += comparison.either_order(&crews, later.word() as u64, spare).is_err() as usize;
+        told[CREWS] += comparison.touching(&touching, spare).is_err() as usize;
     }
     told
 }
@@ -156,14 +163,14 @@ fn assert_told(wrong: impl Calls) {
 
 #[test]
 fn nothing_is_told_of_the_right_reading() {
-    assert_eq!(told(&RIGHT), [0; 4]);
-    assert_eq!(told(&Lent(|_, _| ())), [0; 4]);
+    assert_eq!(told(&RIGHT), [0; 5]);
+    assert_eq!(told(&Lent(|_, _| ())), [0; 5]);
     let same: [Update; 2] = [
         |case, room, count| read_as(case, room, count, <[u8]>::to_vec),
         |case, room, count| by_entry(case, room, count, |one, room, quads| Plain.update_mesh(one, room, quads)),
     ];
     for update in same {
-        assert_eq!(told(&Reading { update, ..RIGHT }), [0; 4]);
+        assert_eq!(told(&Reading { update, ..RIGHT }), [0; 5]);
     }
 }
 
@@ -488,4 +495,38 @@ fn a_spare_byte_that_is_taken_is_told() {
         read_as(case, room, count, |entry| [&entry[..ZEROS.start], &[0; ZEROS.end - ZEROS.start]].concat())
     };
     assert_told_by(&[FAULTY], Reading { update, ..RIGHT });
+}
+
+/// A quad that takes another's place takes its uvs too. Where quads come to lie hangs on the order of a log.
+fn leaves_uvs_behind(case: &Case, room: &mut Words, count: u64) -> Answer {
+    let before = room.clone();
+    let answer = Plain.update_mesh(case, room, count);
+    for place in 0..answer.quads.min(count) as usize {
+        let (link, was_there) = (room.links[place], &before.links[..count as usize]);
+        if link != before.links[place] && was_there.contains(&link) {
+            room.uvs[8 * place..][..8].copy_from_slice(&before.uvs[8 * place..][..8]);
+        }
+    }
+    answer
+}
+
+/// Whether an update leaves the same faces in two orders. Beside the plain reading nothing is compared.
+fn leaves_the_same_faces(crews: &Crews, update: Update) -> bool {
+    let ends = crews.orders(1).map(|order| {
+        let case = Case { tested: Tested::Itself, ..crews.in_order(&order) };
+        let mut room = room_of(&case, 6 * case.grid.len());
+        let count = Plain.mesh_grid(&case, &mut room).quads;
+        (update(&case, &mut room, count), room)
+    });
+    agree_faces("two crews", &crews.ground, ends.each_ref()).is_ok()
+}
+
+/// The comparison beside the plain reading tells of it first. That of two orders does so alone too.
+#[test]
+fn faces_that_hang_on_the_order_are_told() {
+    assert_told_by(&[WHOLE, FAULTY, MENDED, LITTLE_ROOM, CREWS], Reading { update: leaves_uvs_behind, ..RIGHT });
+    let mut random = Random(1);
+    let crews: Vec<Crews> = (0..300).map(|_| random.crews()).collect();
+    assert!(crews.iter().all(|crews| leaves_the_same_faces(crews, RIGHT.update)));
+    assert!(crews.iter().any(|crews| !leaves_the_same_faces(crews, leaves_uvs_behind)));
 }

@@ -1,8 +1,10 @@
-//! The meshes that document 01 works by hand, asked of the Rust and of the plain reading.
+//! The meshes that document 01 works by hand, asked of the Rust and of the plain reading; two crews' edits in either order.
 
 use oracle::calls::{Answer, Calls, Plain};
 use oracle::cases::{cube_of, paper_types, Case, Random};
+use oracle::compare::{End, MODES};
 use oracle::entries::{at_level, entry, replaced, split, ADD_FACES, CULL_FACES, FORMER_ENTRY, MESHEMS_LEVEL};
+use oracle::orders::agree_faces;
 use oracle::room::{self, joined, laid, parted};
 use oracle::rows::mesh_of;
 use oracle::rust::{self, Registry, Types, Words};
@@ -245,6 +247,57 @@ fn room_for_replaced() {
         let mut lists = room_for(&case, room);
         assert_eq!(Plain.mesh_grid(&case, &mut lists).quads, 54);
         assert_eq!(Plain.update_mesh(&case, &mut lists, 54), due);
+    }
+}
+
+/// The log in room for so many quads.
+fn updated(case: &Case, room: usize) -> End {
+    let mut lists = room_for(case, room);
+    let fresh = Plain.mesh_grid(case, &mut lists).quads;
+    (Plain.update_mesh(case, &mut lists, fresh), lists)
+}
+
+/// A column of three cubes, 14 quads. The top one is dug: its five go, and one that faced it comes. The lowest is replaced by the same: its five go, the one that
+/// faced it and five come, and the one goes. So on the way that takes a place more than there are quads before it. In one order there is room for it
+/// in the places that the digging freed.
+#[test]
+fn crews_in_a_column() {
+    let dug = entry(2, BROKEN, CUBE, &[OUT, CUBE, OUT, OUT, OUT, OUT]);
+    let renewed = replaced(0, CUBE, CUBE, &[CUBE, OUT, OUT, OUT, OUT, OUT]);
+    let orders = [[dug.clone(), renewed.clone()], [renewed, dug]].map(|log| case([1, 3, 1], &[CUBE; 3], &log));
+    let done = |moved| Answer { quads: 10, moved, ..Answer::default() };
+    for tested in MODES {
+        let in_room = |room| orders.each_ref().map(|case| updated(&Case { tested, ..case.clone() }, room));
+        let refused = Answer { number: plain::NO_ROOM, place: 0, quads: 14, moved: 0 };
+        assert_eq!(in_room(14).map(|(answer, _)| answer), [done(29), refused]);
+
+        let ends = in_room(15);
+        assert_eq!(ends.each_ref().map(|(answer, _)| *answer), [done(29), done(23)]);
+        assert_eq!(agree_faces("a column", &orders[0], ends.each_ref()), Ok(()));
+        assert_ne!(ends[0].1.links[..10], ends[1].1.links[..10]);
+        let left = Case { grid: vec![CUBE, CUBE, AIR], ..orders[0].clone() };
+        for (answer, lists) in &ends {
+            assert_eq!(Plain.check_mesh(&left, lists, answer.quads), Answer::default());
+        }
+    }
+}
+
+/// Two cubes side by side, both dug. Each entry names the other cube, as its crew saw it. So the second draws the side of a cube that is gone: cell 0's Right, or
+/// cell 1's Left. Of two empty cells that is a wrong set.
+#[test]
+fn crews_on_neighbours() {
+    let dug =
+        [entry(0, BROKEN, CUBE, &[OUT, OUT, CUBE, OUT, OUT, OUT]), entry(1, BROKEN, CUBE, &[OUT, OUT, OUT, CUBE, OUT, OUT])];
+    for (order, cell, face) in [([0, 1], 0, 2), ([1, 0], 1, 3)] {
+        let case = case([2, 1, 1], &[CUBE; 2], &order.map(|crew: usize| dug[crew].clone()));
+        assert_eq!(quads(&case).1, 1);
+        for tested in MODES {
+            let (answer, lists) = updated(&Case { tested, ..case.clone() }, 10);
+            assert_eq!((answer.number, answer.quads, lists.links[0]), (0, 1, plain::link(cell, face)));
+            let left = Case { grid: vec![AIR; 2], ..case.clone() };
+            let wrong = Answer { number: plain::WRONG_SET, place: (6 * cell + face) as u64, ..Answer::default() };
+            assert_eq!(Plain.check_mesh(&left, &lists, 1), wrong);
+        }
     }
 }
 
