@@ -259,7 +259,7 @@ fn updated(case: &Case, room: usize) -> End {
 
 /// A column of three cubes, 14 quads. The top one is dug: its five go, and one that faced it comes. The lowest is replaced by the same: its five go, the one that
 /// faced it and five come, and the one goes. So on the way that takes a place more than there are quads before it. In one order there is room for it
-/// in the places that the digging freed.
+/// in the places that the digging freed. Then 10 move by the digging, 14 as the lowest one's five go, and 5 as the one goes; in the other order it is 9, 5, and 9 by the digging.
 #[test]
 fn crews_in_a_column() {
     let dug = entry(2, BROKEN, CUBE, &[OUT, CUBE, OUT, OUT, OUT, OUT]);
