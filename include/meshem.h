@@ -80,9 +80,9 @@ enum meshem_tested {
  * (MESHEM_BAD_ENTRY), unless its bytes happen to be entries of 16, which takes a number of entries that four divides.
  * tools/convert-log converts such logs.
  *
- * Logs of two people touch if a cell of one is a cell of the other, or its neighbour across a face. Two that touch
- * nowhere may be put one after the other in either order, or mixed: README, "Two crews, one chunk", says what is proved
- * of that, and what to do with two that touch.
+ * Two logs touch if a cell of one is a cell of the other, or its neighbour across a face. Two that touch nowhere, each
+ * honest on the grid as it is, may be put one after the other in either order, or mixed. README, "Two crews, one chunk",
+ * says what that asks for, what is proved of it, and what to do with two that touch.
  */
 enum meshem_change {
     MESHEM_BROKEN = 0,

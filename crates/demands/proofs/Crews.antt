@@ -17,7 +17,7 @@ use Rattle.rules.proofs.Views.{Sound}
 use Rattle.rules.proofs.Courses.{log-append, alike-append}
 use Rattle.rules.proofs.Refusals.{CHECK, check-numbers, zero-fine}
 use Rattle.rules.proofs.Demands.{sound, asked-of, entries-inside, through, passed}
-use Rattle.rules.proofs.Merging.{clear-back, BothClear, AllClear, FairLog, fair-append, merged-fair, merged-ground, all-merged, one-then-other, turned}
+use Rattle.rules.proofs.Merging.{clear-back, BothClear, AllClear, FairLog, fair-append, merged-fair, merged-ground, all-other, one-then-other, turned}
 use Rattle.terms.specs.declared.Tested.{Tested}
 use Rattle.terms.specs.Modes.{testedBy}
 use Rattle.terms.specs.declared.Count.{Count}
@@ -27,7 +27,7 @@ use Rattle.demands.specs.Contracts.{Updates, TellsUpdate, TellsCheck}
 use Rattle.demands.specs.Chunks.{Chunk, Passes, groundAfter, FillingLog, LogFor, mendedTo}
 use Rattle.demands.specs.Crews.{ClearLogs, Led, noCall, oneCall, Agree}
 use Rattle.demands.proofs.Stopped.{entries-joined}
-use Rattle.demands.proofs.Exact.{one-ground-one-mesh}
+use Rattle.demands.proofs.Exact.{one-grid-same-faces}
 use Rattle.demands.proofs.Mending.{asked, fine-after, filling-fair, filling-of}
 
 -- ---- calls that were done
@@ -88,7 +88,7 @@ module _ (S : Scene) (from : Chunk) (one other : List ℕ) (passes : Passes S fr
         → Passes S k × (k .grid ≡ gridLog (world S) (entriesOf other) (gridLog (world S) (entriesOf one) (from .grid)))
     leads-to merged led =
         let g = from .grid in
-        let c = all-clear (all-merged (Inside S) merged (led-inside S led) .1) in
+        let c = all-clear (all-other (Inside S) merged (led-inside S led)) in
         let r = led-passes S passes (merged-fair (world S) g c merged .0 (filling-fair S g one oneHonest, filling-fair S g other otherHonest)) led in
         (r .0, r .1 ∙ merged-ground (world S) g c merged)
 
@@ -99,15 +99,15 @@ module _ (S : Scene) (from : Chunk) (one other : List ℕ) (passes : Passes S fr
         let a = leads-to m x in
         let b = leads-to n y in
         let ground = a .1 ∙ sym (b .1) in
-        let same = one-ground-one-mesh S [] k l (a .0) (b .0) ground in
+        let same = one-grid-same-faces S [] k l (a .0) (b .0) ground in
         record { faces = same .0; count = same .1; passes = (a .0, b .0); ground = ground }
 
-    -- one log and then the other, or the other way round, in one call by one side tested
-    pub either-order : (tested : rules.Tested) → AddsAlike tested (world S) (entriesOf one) → AddsAlike tested (world S) (entriesOf other)
+    -- one log and then the other in one call, and the other way round, by one side tested
+    one-call : (tested : rules.Tested) → AddsAlike tested (world S) (entriesOf one) → AddsAlike tested (world S) (entriesOf other)
         → length one % ENTRY-BYTES ≡ 0 → length other % ENTRY-BYTES ≡ 0 → (m n : Count) (x y : Lists)
         → Updates tested S (one ++ other) (from .lists) (from .quads) (Done m) x → Updates tested S (other ++ one) (from .lists) (from .quads) (Done n) y
         → Agree S (mendedTo S (one ++ other) from m x) (mendedTo S (other ++ one) from n y)
-    either-order tested oneAlike otherAlike wholeOne wholeOther m n x y first second =
+    one-call tested oneAlike otherAlike wholeOne wholeOther m n x y first second =
         let joined = sym (entries-joined one other wholeOne) in
         let turned-round = sym (entries-joined other one wholeOther) in
         two-crews (subst OneOrder joined (one-then-other (entriesOf one) (entriesOf other))) (subst OneOrder turned-round (turned (one-then-other (entriesOf other) (entriesOf one))))
@@ -139,7 +139,7 @@ module _ (mode : Tested) (S : Scene) (from : Chunk) (one other : List ℕ) (pass
   pub in-one-log : length one % ENTRY-BYTES ≡ 0 → length other % ENTRY-BYTES ≡ 0 → (m n : Count) (x y : Lists)
       → Updates (testedBy mode) S (one ++ other) (from .lists) (from .quads) (Done m) x → Updates (testedBy mode) S (other ++ one) (from .lists) (from .quads) (Done n) y
       → Agree S (mendedTo S (one ++ other) from m x) (mendedTo S (other ++ one) from n y)
-  in-one-log = either-order S from one other passes clear (askedOne .0) (askedOther .0) (testedBy mode) (askedOne .1) (askedOther .1)
+  in-one-log = one-call S from one other passes clear (askedOne .0) (askedOther .0) (testedBy mode) (askedOne .1) (askedOther .1)
 
 -- ---- of the C call
 
@@ -159,6 +159,6 @@ pub in-one-log-in-c : (tested : ℕ) (S : Scene) (one other grid : List ℕ) (B 
 in-one-log-in-c tested S one other grid B Q before a b x y p oneHonest oneAlike otherHonest otherAlike clear wholeOne wholeOther z first w second =
     let from : Chunk = record { grid = grid; lists = B; quads = Q } in
     let passes = sym (zero-fine CHECK refl (checkVerdict S [] grid B Q) (check-numbers S [] grid B Q) (sym (ap (λ (r : Answer). r .number) p))) in
-    either-order S from one other passes clear oneHonest otherHonest (testedFrom tested) oneAlike otherAlike wholeOne wholeOther
+    one-call S from one other passes clear oneHonest otherHonest (testedFrom tested) oneAlike otherAlike wholeOne wholeOther
     (record { quads = a .quads; moved = a .moved }) (record { quads = b .quads; moved = b .moved }) x y
     (zero-is-done (testedFrom tested) S (one ++ other) B Q a x first z) (zero-is-done (testedFrom tested) S (other ++ one) B Q b y second w)

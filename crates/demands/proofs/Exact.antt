@@ -41,7 +41,7 @@ the-check-is-exact S outer grid B Q r e = (
   λ h. one-check S outer grid B Q r Fine e (fine-is-zero S outer grid B Q .1 (accepts-exactly S outer grid B Q (h .0) .1 (h .1))),
 )
 
--- ---- what a mesh shows that passes is its grid's and its outer list's alone, however it was made
+-- ---- what a mesh shows that passes is decided by scene, types, outer list and grid, however it was made
 module _ (S : Scene) (outer : List ℕ) where
   abbrev mesh : Chunk → List Quad
   mesh k = decode (S .types .coloured) (k .quads) (k .lists)
@@ -52,10 +52,10 @@ module _ (S : Scene) (outer : List ℕ) where
   counted : (k : Chunk) → length (mesh k) ≡ k .quads
   counted k = length-decode (cells (S .size)) (k .lists) (k .quads) (S .types .coloured)
 
-  pub one-ground-one-mesh : (k l : Chunk) → Checks S outer (k .grid) (k .lists) (k .quads) Fine → Checks S outer (l .grid) (l .lists) (l .quads) Fine → k .grid ≡ l .grid
+  pub one-grid-same-faces : (k l : Chunk) → Checks S outer (k .grid) (k .lists) (k .quads) Fine → Checks S outer (l .grid) (l .lists) (l .quads) Fine → k .grid ≡ l .grid
       → SameFaces S k l × (k .quads ≡ l .quads)
   unfolding Shows
-  one-ground-one-mesh k l p q ground = (same, sym (counted k) ∙ as-many ∙ counted l)
+  one-grid-same-faces k l p q ground = (same, sym (counted k) ∙ as-many ∙ counted l)
     where
       same : SameFaces S k l
       same c f hf = shows k p c f hf ∙ (λ i. due (world S) outer (ground i) c f) ∙ sym (shows l q c f hf)

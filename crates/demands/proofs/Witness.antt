@@ -1,22 +1,23 @@
--- Q-14 says something: a column of three cells, changed at the top by one crew and at the bottom by the other, in each mode. Places and `moved` differ. In little room one order alone is
+-- Q-14 is not vacuous: a column of three cells is changed at the top by one crew and at the bottom by the other, in each mode. Places and `moved` differ. In little room one order alone is
 -- done. And the condition on neighbours is needed: of two cubes side by side, both dug, each order leaves another face, and neither mesh passes. Assumes nothing.
 use mathlib.Core.Path.{_≡_, refl, sym, ap, _∙_}
 use mathlib.Core.Logic.{_≢_}
 use mathlib.Core.Bool.{Bool, true, false, false≢true}
 use mathlib.Core.List.{List, [], _∷_, _++_}
 use mathlib.Core.Option.{Option, none, some}
-use Prim.Native.Nat.{ℕ, zero, suc}
+use Prim.Native.Nat.{ℕ, zero, suc, _%_}
 use native.Mathlib.Omega.{arith}
 use lib.Dec.{eqb, lit<}
 use lib.ListN.{length, getD}
 use lib.Ieee as ieee
 use Rattle.rules.specs.Lists.{each, every, count, lowestFrom, same}
-use Rattle.rules.specs.Cells.{neighbour}
+use Rattle.rules.specs.Cells.{neighbour, keyOf}
 use Rattle.rules.specs.Types as types
 use Rattle.rules.specs.Mesh.{Lists, attributeIn, vertexIn, quadIn, meshBy, laid, slotted}
 use Rattle.rules.specs.Update.{ENTRY-BYTES, entryAt, removeAt, remove, ops, needed, courseFrom, emptyType}
 use Rattle.rules.specs.Answers as answers
 use Rattle.rules.specs.Calls.{Outcome, Scene, meshGrid, updateMesh, checkMesh}
+use Rattle.rules.specs.Crews.{Clear}
 use Rattle.rules.proofs.ListLaws.{six}
 use Rattle.rules.proofs.Abacus.{scene, lent}
 use Rattle.rules.proofs.Demands.{fresh-accepted}
@@ -101,12 +102,15 @@ not-beside (suc (suc (suc (suc zero)))) = refl
 not-beside (suc (suc (suc (suc (suc zero))))) = refl
 not-beside (suc (suc (suc (suc (suc (suc f)))))) = refl
 
+two-clear-of-zero : Clear (S .size) 2 0
+two-clear-of-zero = record { different = λ e. absurd (omega arith); notBeside = λ f e. false≢true (sym (not-beside f) ∙ ap isZero e) }
+
 clear : (mode : Tested) → ClearLogs (S .size) (top mode) (bottom mode)
 unfolding entryAt
-clear Opposite zero zero a b = record { different = λ e. absurd (omega arith); notBeside = λ f e. false≢true (sym (not-beside f) ∙ ap isZero e) }
+clear Opposite zero zero a b = two-clear-of-zero
 clear Opposite zero (suc j) a b = absurd (omega arith)
 clear Opposite (suc i) j a b = absurd (omega arith)
-clear Itself zero zero a b = record { different = λ e. absurd (omega arith); notBeside = λ f e. false≢true (sym (not-beside f) ∙ ap isZero e) }
+clear Itself zero zero a b = two-clear-of-zero
 clear Itself zero (suc j) a b = absurd (omega arith)
 clear Itself (suc i) j a b = absurd (omega arith)
 
@@ -162,8 +166,8 @@ toldPair log =
     let a = checkMesh T [] (k .grid) (k .lists) (k .quads) in
     (dug log) .answer .number ∷ k .quads ∷ a .number ∷ a .place ∷ length (shownAt T k 0 2) ∷ []
 
-worked : told (fresh Opposite 16) ∷ told (fresh Itself 16) ∷ told pairMeshed ∷ (orders Opposite 16 ++ (orders Itself 16 ++ (orders Opposite 14 ++ (toldPair leftFirst ∷ toldPair rightFirst ∷ []))))
-    ≡ (0 ∷ 0 ∷ 14 ∷ 0 ∷ 0 ∷ []) ∷ (0 ∷ 0 ∷ 10 ∷ 0 ∷ 0 ∷ []) ∷ (0 ∷ 0 ∷ 10 ∷ 0 ∷ 4 ∷ [])
+worked : told (fresh Opposite 16) ∷ told (fresh Itself 16) ∷ told (fresh Opposite 14) ∷ told pairMeshed ∷ (orders Opposite 16 ++ (orders Itself 16 ++ (orders Opposite 14 ++ (toldPair leftFirst ∷ toldPair rightFirst ∷ []))))
+    ≡ (0 ∷ 0 ∷ 14 ∷ 0 ∷ 0 ∷ []) ∷ (0 ∷ 0 ∷ 10 ∷ 0 ∷ 0 ∷ []) ∷ (0 ∷ 0 ∷ 14 ∷ 0 ∷ 0 ∷ []) ∷ (0 ∷ 0 ∷ 10 ∷ 0 ∷ 4 ∷ [])
     ∷ (0 ∷ 0 ∷ 10 ∷ 29 ∷ 20 ∷ []) ∷ (0 ∷ 0 ∷ 10 ∷ 23 ∷ 32 ∷ [])
     ∷ (0 ∷ 0 ∷ 15 ∷ 10 ∷ 40 ∷ []) ∷ (0 ∷ 0 ∷ 15 ∷ 15 ∷ 24 ∷ [])
     ∷ (0 ∷ 0 ∷ 10 ∷ 29 ∷ 20 ∷ []) ∷ (14 ∷ 0 ∷ 14 ∷ 0 ∷ 0 ∷ [])
@@ -175,19 +179,19 @@ abbrev workedAt : ℕ → ℕ → List (List ℕ) → ℕ
 workedAt row n rows = getD (getD rows row []) n 0
 
 -- ---- the promise for the column
-meshed : (mode : Tested) → (fresh mode 16) .answer .number ≡ 0
-meshed Opposite = ap (workedAt 0 0) worked
-meshed Itself = ap (workedAt 1 0) worked
-
-done : (mode : Tested) → ((ran mode 16 (topFirst mode)) .answer .number ≡ 0) × ((ran mode 16 (bottomFirst mode)) .answer .number ≡ 0)
-done Opposite = (ap (workedAt 3 0) worked, ap (workedAt 4 0) worked)
-done Itself = (ap (workedAt 5 0) worked, ap (workedAt 6 0) worked)
+passes : (mode : Tested) (room : ℕ) → (fresh mode room) .answer .number ≡ 0 → Passes S (column mode room)
+passes mode room made =
+    fine-is-zero S [] (ground mode) ((column mode room) .lists) ((column mode room) .quads) .1 (fresh-accepted S [] (ground mode) (lent room 3) made)
 
 pub column-passes : (mode : Tested) → Passes S (column mode 16)
-column-passes mode =
-    fine-is-zero S [] (ground mode) ((column mode 16) .lists) ((column mode 16) .quads) .1 (fresh-accepted S [] (ground mode) (lent 16 3) (meshed mode))
+column-passes Opposite = passes Opposite 16 (ap (workedAt 0 0) worked)
+column-passes Itself = passes Itself 16 (ap (workedAt 1 0) worked)
 
-whole : (mode : Tested) → (length (top mode) ≡ ENTRY-BYTES) × (length (bottom mode) ≡ ENTRY-BYTES)
+done : (mode : Tested) → ((ran mode 16 (topFirst mode)) .answer .number ≡ 0) × ((ran mode 16 (bottomFirst mode)) .answer .number ≡ 0)
+done Opposite = (ap (workedAt 4 0) worked, ap (workedAt 5 0) worked)
+done Itself = (ap (workedAt 6 0) worked, ap (workedAt 7 0) worked)
+
+whole : (mode : Tested) → (length (top mode) % ENTRY-BYTES ≡ 0) × (length (bottom mode) % ENTRY-BYTES ≡ 0)
 whole Opposite = (refl, refl)
 whole Itself = (refl, refl)
 
@@ -197,8 +201,7 @@ witness mode =
     let k = column mode 16 in
     let x = ran mode 16 (topFirst mode) in
     let y = ran mode 16 (bottomFirst mode) in
-    let w = whole mode in
-    in-one-log mode S k (top mode) (bottom mode) (column-passes mode) (clear mode) (top-honest mode) (bottom-honest mode) (rw (w .0) refl) (rw (w .1) refl) (countOf x) (countOf y) (x .lists) (y .lists)
+    in-one-log mode S k (top mode) (bottom mode) (column-passes mode) (clear mode) (top-honest mode) (bottom-honest mode) (whole mode .0) (whole mode .1) (countOf x) (countOf y) (x .lists) (y .lists)
     (zero-is-done (testedBy mode) S (topFirst mode) (k .lists) (k .quads) (x .answer) (x .lists) refl (done mode .0))
     (zero-is-done (testedBy mode) S (bottomFirst mode) (k .lists) (k .quads) (y .answer) (y .lists) refl (done mode .1))
 
@@ -207,41 +210,49 @@ apart a b p q d e = d (sym p ∙ e ∙ q)
 
 -- the quad of cell 0's Bottom has another place, and `moved` is another
 pub another-place : (mode : Tested) → getD ((ran mode 16 (topFirst mode)) .lists .slots) 1 0 ≢ getD ((ran mode 16 (bottomFirst mode)) .lists .slots) 1 0
-another-place Opposite = apart 20 32 (ap (workedAt 3 4) worked) (ap (workedAt 4 4) worked) (λ e. omega arith)
-another-place Itself = apart 40 24 (ap (workedAt 5 4) worked) (ap (workedAt 6 4) worked) (λ e. omega arith)
+another-place Opposite = apart 20 32 (ap (workedAt 4 4) worked) (ap (workedAt 5 4) worked) (λ e. omega arith)
+another-place Itself = apart 40 24 (ap (workedAt 6 4) worked) (ap (workedAt 7 4) worked) (λ e. omega arith)
 
 pub another-moved : (mode : Tested) → (ran mode 16 (topFirst mode)) .answer .moved ≢ (ran mode 16 (bottomFirst mode)) .answer .moved
-another-moved Opposite = apart 29 23 (ap (workedAt 3 3) worked) (ap (workedAt 4 3) worked) (λ e. omega arith)
-another-moved Itself = apart 10 15 (ap (workedAt 5 3) worked) (ap (workedAt 6 3) worked) (λ e. omega arith)
+another-moved Opposite = apart 29 23 (ap (workedAt 4 3) worked) (ap (workedAt 5 3) worked) (λ e. omega arith)
+another-moved Itself = apart 10 15 (ap (workedAt 6 3) worked) (ap (workedAt 7 3) worked) (λ e. omega arith)
 
 -- in room for 14 quads, reading 51's: the one order is done, the other is NO_ROOM
-pub one-order-alone : ((ran Opposite 14 (topFirst Opposite)) .answer .number ≡ 0) × ((ran Opposite 14 (bottomFirst Opposite)) .answer .number ≡ 14)
-one-order-alone = (ap (workedAt 7 0) worked, ap (workedAt 8 0) worked)
+pub one-order-alone : Passes S (column Opposite 14) × ((ran Opposite 14 (topFirst Opposite)) .answer .number ≡ 0) × ((ran Opposite 14 (bottomFirst Opposite)) .answer .number ≡ 14)
+one-order-alone = (passes Opposite 14 (ap (workedAt 2 0) worked), ap (workedAt 8 0) worked, ap (workedAt 9 0) worked)
 
 -- ---- neighbours
 pub pair-passes : Passes T pair
-pair-passes = fine-is-zero T [] two (pair .lists) (pair .quads) .1 (fresh-accepted T [] two (lent 10 2) (ap (workedAt 2 0) worked))
+pair-passes = fine-is-zero T [] two (pair .lists) (pair .quads) .1 (fresh-accepted T [] two (lent 10 2) (ap (workedAt 3 0) worked))
 
 pub are-neighbours : neighbour (T .size) 0 2 ≡ some 1
 unfolding neighbour
 are-neighbours = refl
 
--- WRONG_SET, at cell 0's Right and at cell 1's Left
-pub neither-passes : let k = reached T leftFirst pair (dug leftFirst) in
-    let l = reached T rightFirst pair (dug rightFirst) in
-    ((checkMesh T [] (k .grid) (k .lists) (k .quads)) .number ≡ 15) × ((checkMesh T [] (l .grid) (l .lists) (l .quads)) .number ≡ 15)
-neither-passes = (ap (workedAt 9 2) worked, ap (workedAt 10 2) worked)
+-- done, and refused by the check, with WRONG_SET at a face
+abbrev WrongAt : List ℕ → ℕ → Type 0
+WrongAt log key =
+    let k = reached T log pair (dug log) in
+    let a = checkMesh T [] (k .grid) (k .lists) (k .quads) in
+    ((dug log) .answer .number ≡ 0) × (a .number ≡ 15) × (a .place ≡ key)
+
+-- at cell 0's Right, and at cell 1's Left
+pub neither-passes : WrongAt leftFirst (keyOf 0 2) × WrongAt rightFirst (keyOf 1 3)
+neither-passes = (
+  (ap (workedAt 10 0) worked, ap (workedAt 10 2) worked, ap (workedAt 10 3) worked),
+  (ap (workedAt 11 0) worked, ap (workedAt 11 2) worked, ap (workedAt 11 3) worked),
+)
 
 -- asked of two entries on different cells, and not of neighbours, the promise is false
-pub false-of-neighbours : ((S : Scene) (from : Chunk) (one other : List ℕ) (m n : Count) (x y : Lists) → Passes S from → FillingLog S (from .grid) one → FillingLog S (from .grid) other
+pub false-of-different-cells-alone : ((S : Scene) (from : Chunk) (one other : List ℕ) (m n : Count) (x y : Lists) → Passes S from → FillingLog S (from .grid) one → FillingLog S (from .grid) other
     → length one ≡ ENTRY-BYTES → length other ≡ ENTRY-BYTES → (entryAt one 0) .cell ≢ (entryAt other 0) .cell
     → Updates (testedBy Itself) S (one ++ other) (from .lists) (from .quads) (Done m) x → Updates (testedBy Itself) S (other ++ one) (from .lists) (from .quads) (Done n) y
     → SameFaces S (mendedTo S (one ++ other) from m x) (mendedTo S (other ++ one) from n y)) → ⊥
 unfolding entryAt
-false-of-neighbours promise =
+false-of-different-cells-alone promise =
     let x = dug leftFirst in
     let y = dug rightFirst in
     let same = promise T pair digLeft digRight (countOf x) (countOf y) (x .lists) (y .lists) pair-passes left-honest right-honest refl refl (λ e. omega arith)
-    (zero-is-done (testedBy Itself) T leftFirst (pair .lists) (pair .quads) (x .answer) (x .lists) refl (ap (workedAt 9 0) worked))
-    (zero-is-done (testedBy Itself) T rightFirst (pair .lists) (pair .quads) (y .answer) (y .lists) refl (ap (workedAt 10 0) worked)) in
-    apart 1 0 (ap (workedAt 9 4) worked) (ap (workedAt 10 4) worked) (λ e. omega arith) (ap length (same 0 2 (lit< tt)))
+    (zero-is-done (testedBy Itself) T leftFirst (pair .lists) (pair .quads) (x .answer) (x .lists) refl (neither-passes .0 .0))
+    (zero-is-done (testedBy Itself) T rightFirst (pair .lists) (pair .quads) (y .answer) (y .lists) refl (neither-passes .1 .0)) in
+    apart 1 0 (ap (workedAt 10 4) worked) (ap (workedAt 11 4) worked) (λ e. omega arith) (ap length (same 0 2 (lit< tt)))

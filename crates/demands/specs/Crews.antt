@@ -18,8 +18,8 @@ abbrev pub ClearLogs : Size → List ℕ → List ℕ → Type 0
 ClearLogs s one other =
     (i j : ℕ) → i < length one / ENTRY-BYTES → j < length other / ENTRY-BYTES → Clear s ((entryAt one i) .cell) ((entryAt other j) .cell)
 
--- update calls, each by a side tested of its own and answered Done, lead from one chunk to another; these are their entries, in order. The cubes that a call puts cover the side
--- tested as the side itself: in the new mode all do
+-- update calls, all answered Done, lead from one chunk to another; these are their entries, in order. Each call has a side tested of its own, and the cubes that it puts cover that side as
+-- the side itself: in the new mode all do
 pub data Led (S : Scene) (from : Chunk) : List Entry → Chunk → Type 0 where
   noCall : Led S from [] from
   oneCall : {es : List Entry} {k : Chunk} (tested : Tested) (log : List ℕ) (count : Count) (exit : Lists) → Led S from es k → AddsAlike tested (world S) (entriesOf log)

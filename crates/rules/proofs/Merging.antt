@@ -150,11 +150,11 @@ module _ (W : World) where
   merged-ground g c (ofOther {e = e} {one = one} {other = other} m) =
       merged-ground (gridAfter W g e) (rest-clear (W .size) e other one c) m ∙ ap (gridLog W other) (log-after g e one (first-clear (W .size) e other one c))
 
--- what holds of all entries holds of each crew's
-pub all-merged : (P : Entry → Type 0) {one other both : List Entry} → Merged one other both → All P both → All P one × All P other
-all-merged P noneLeft a = (tt, tt)
-all-merged P (ofOne m) a = let r = all-merged P m (a .1) in ((a .0, r .0), r .1)
-all-merged P (ofOther m) a = let r = all-merged P m (a .1) in (r .0, (a .0, r .1))
+-- what holds of all entries holds of a crew's
+pub all-other : (P : Entry → Type 0) {one other both : List Entry} → Merged one other both → All P both → All P other
+all-other P noneLeft a = tt
+all-other P (ofOne m) a = all-other P m (a .1)
+all-other P (ofOther m) a = (a .0, all-other P m (a .1))
 
 -- one crew's and then the other's is an order; which crew is named first does not matter
 pub one-then-other : (one other : List Entry) → Merged one other (one ++ other)

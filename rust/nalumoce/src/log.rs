@@ -101,7 +101,7 @@ impl Log {
     }
 
     /// Appends another log's entries, in their order.
-    pub fn append(&mut self, other: &Log) {
+    pub fn push_all(&mut self, other: &Log) {
         self.bytes.extend_from_slice(&other.bytes);
     }
 
@@ -248,14 +248,14 @@ mod tests {
     }
 
     #[test]
-    fn a_log_is_appended_whole() {
+    fn all_of_a_log_is_pushed() {
         let (mut log, other) = (log_at(&[7]), log_at(&[5, 6]));
-        log.append(&other);
+        log.push_all(&other);
         assert_eq!(log, log_at(&[7, 5, 6]));
-        log.append(&Log::new());
+        log.push_all(&Log::new());
         assert_eq!(log.len(), 3);
         let mut empty = Log::new();
-        empty.append(&other);
+        empty.push_all(&other);
         assert_eq!(empty, other);
     }
 

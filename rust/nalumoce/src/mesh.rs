@@ -130,7 +130,7 @@ impl MeshMD {
     /// Logs all changes of another log, in their order, after those logged already. [`Log::touching`] says when the logs of two may be logged in
     /// any order.
     pub fn log_all(&mut self, log: &Log) {
-        self.log.append(log);
+        self.log.push_all(log);
     }
 
     /// The changes logged and not yet done.

@@ -62,7 +62,7 @@ fn entries(grid: &[u8], dims: Dimensions, changes: &[(usize, u8)]) -> Vec<Log> {
 
 fn joined(logs: &[Log]) -> Log {
     let mut all = Log::new();
-    logs.iter().for_each(|log| all.append(log));
+    logs.iter().for_each(|log| all.push_all(log));
     all
 }
 
@@ -78,10 +78,14 @@ type Update = fn(&mut Mesh, &mut MeshMD, &VoxelRegistry) -> Result<Updated, Refu
 
 /// A fresh mesh of the grid, updated by these logs, a call each.
 fn updated(update: Update, dims: Dimensions, grid: &[u8], calls: &[Log]) -> (Mesh, MeshMD, u64) {
+    updated_each(dims, grid, calls.iter().map(|log| (update, log)))
+}
+
+fn updated_each<'a>(dims: Dimensions, grid: &[u8], calls: impl IntoIterator<Item = (Update, &'a Log)>) -> (Mesh, MeshMD, u64) {
     let registry = registry();
     let (mut mesh, mut metadata) = mesh_grid(dims, &[], grid, &registry, MeshingAlgorithm::Culling).unwrap();
     let mut moved = 0;
-    for log in calls {
+    for (update, log) in calls {
         metadata.log_all(log);
         moved += update(&mut mesh, &mut metadata, &registry).unwrap().moved;
     }
@@ -140,6 +144,21 @@ fn the_same_faces_in_other_places() {
     }
 }
 
+/// On three rocks in a row and one on the last, one crew lays a slab, which Meshem's update gets wrong. The other digs, by that update.
+#[test]
+fn each_call_in_a_mode_of_its_own() {
+    let (dims, grid, after) = ((3, 2, 1), [ROCK, ROCK, ROCK, AIR, AIR, ROCK], [ROCK, ROCK, ROCK, SLAB, AIR, AIR]);
+    let [ours, theirs] = [crew(&grid, dims, &[(3, SLAB)]), crew(&grid, dims, &[(5, AIR)])];
+    assert_eq!(ours.touching(&theirs, dims), None);
+    let [laid, dug] = [(mend_mesh as Update, &ours), (update_mesh as Update, &theirs)];
+    let (mesh, metadata, _) = updated_each(dims, &grid, [laid, dug]);
+    let (other, of_other, _) = updated_each(dims, &grid, [dug, laid]);
+    assert_eq!((checked(&mesh, &metadata, &after), checked(&other, &of_other, &after)), (Ok(()), Ok(())));
+    assert_eq!(faces(&mesh, &metadata), faces(&other, &of_other));
+    let (wrong, of_wrong, _) = updated(update_mesh, dims, &grid, &[merged(&ours, &theirs)]);
+    assert_eq!(checked(&wrong, &of_wrong, &after), Err(Refusal { reason: Reason::WrongSet, place: 0 }));
+}
+
 const CAVE: Dimensions = (5, 4, 3);
 
 /// A grid, and the changes of two crews that know nothing of each other.
@@ -186,7 +205,7 @@ fn interleaved(dice: &mut Dice, [ours, theirs]: &[Vec<Log>; 2]) -> Vec<Log> {
     while ours.len() + theirs.len() > 0 {
         let ours_is_next = dice.below(ours.len() + theirs.len()) < ours.len();
         let next = if ours_is_next { ours.next() } else { theirs.next() };
-        calls.last_mut().unwrap().append(next.unwrap());
+        calls.last_mut().unwrap().push_all(next.unwrap());
         if dice.below(3) == 0 {
             calls.push(Log::new());
         }
@@ -292,7 +311,7 @@ fn one_order_alone_may_find_no_room() {
 }
 
 /// A column of five rocks has 22 quads, and there is room for no more. Our crew digs the lowest, which leaves 18, and puts it back, for which it needs 23.
-/// Once theirs has dug the highest, 14 are left, and it needs 19; the side that it covers goes then.
+/// Once theirs has dug the highest, 14 are left, and it needs 19. Then the side that it covers goes: 18.
 #[test]
 fn what_found_no_room_is_given_again_after_the_other_crew() {
     let (registry, dims, grid, after) = (registry(), (1, 5, 1), [ROCK; 5], [ROCK, ROCK, ROCK, ROCK, AIR]);
