@@ -1,12 +1,12 @@
 -- 02, Q-14, "two crews, one chunk": two logs, each demand 3's on the ground that both crews saw, on cells that do not touch, lead in any order, in one call or in several, to the
 -- same faces with the same vertices, if no call is refused. Assumes nothing.
-use Prim.Native.Nat.{ℕ, _/_, _%_, _<_}
+use Prim.Native.Nat.{ℕ, zero, suc, _/_, _%_, _<_}
 use mathlib.Core.Path.{_≡_, refl, sym, ap, _∙_, subst}
 use mathlib.Core.Logic.{_↔_}
 use mathlib.Core.List.{List, [], _∷_, _++_}
 use native.Mathlib.Omega.{arith}
 use lib.ListN.{length}
-use Rattle.rules.specs.Cells.{cells}
+use Rattle.rules.specs.Cells.{Size, cells}
 use Rattle.rules.specs.Mesh.{Lists}
 use Rattle.rules.specs.Update as rules
 use Rattle.rules.specs.Update.{ENTRY-BYTES, Entry, entryAt, gridLog, AddsAlike}
@@ -116,7 +116,7 @@ module _ (S : Scene) (from : Chunk) (one other : List ℕ) (passes : Passes S fr
         (oneCall tested (other ++ one) n y noCall
         (subst (AddsAlike tested (world S)) turned-round (alike-append tested (world S) (entriesOf other) (entriesOf one) .1 (otherAlike, oneAlike))) second)
 
--- ---- in one mode. With an entry in each log these are 02's words
+-- ---- in one mode
 module _ (mode : Tested) (S : Scene) (from : Chunk) (one other : List ℕ) (passes : Passes S from) (clear : ClearLogs (S .size) one other) (oneHonest : LogFor mode S (from .grid) one)
     (otherHonest : LogFor mode S (from .grid) other) where
   askedOne : FillingLog S (from .grid) one × AddsAlike (testedBy mode) (world S) (entriesOf one)
@@ -140,6 +140,20 @@ module _ (mode : Tested) (S : Scene) (from : Chunk) (one other : List ℕ) (pass
       → Updates (testedBy mode) S (one ++ other) (from .lists) (from .quads) (Done m) x → Updates (testedBy mode) S (other ++ one) (from .lists) (from .quads) (Done n) y
       → Agree S (mendedTo S (one ++ other) from m x) (mendedTo S (other ++ one) from n y)
   in-one-log = one-call S from one other passes clear (askedOne .0) (askedOther .0) (testedBy mode) (askedOne .1) (askedOther .1)
+
+-- ---- 02's words: two entries, on different cells that are not neighbours across a face
+clear-entries : (s : Size) (one other : List ℕ) → length one ≡ ENTRY-BYTES → length other ≡ ENTRY-BYTES → Clear s ((entryAt one 0) .cell) ((entryAt other 0) .cell)
+    → ClearLogs s one other
+clear-entries s one other a b clear zero zero i j = clear
+clear-entries s one other a b clear zero (suc n) i j = absurd (omega arith)
+clear-entries s one other a b clear (suc n) m i j = absurd (omega arith)
+
+pub two-entries : (mode : Tested) (S : Scene) (from : Chunk) (one other : List ℕ) (m n : Count) (x y : Lists) → Passes S from → LogFor mode S (from .grid) one → LogFor mode S (from .grid) other
+    → length one ≡ ENTRY-BYTES → length other ≡ ENTRY-BYTES → Clear (S .size) ((entryAt one 0) .cell) ((entryAt other 0) .cell)
+    → Updates (testedBy mode) S (one ++ other) (from .lists) (from .quads) (Done m) x → Updates (testedBy mode) S (other ++ one) (from .lists) (from .quads) (Done n) y
+    → Agree S (mendedTo S (one ++ other) from m x) (mendedTo S (other ++ one) from n y)
+two-entries mode S from one other m n x y passes oneHonest otherHonest a b clear =
+    in-one-log mode S from one other passes (clear-entries (S .size) one other a b clear) oneHonest otherHonest (omega arith) (omega arith) m n x y
 
 -- ---- of the C call
 

@@ -5,7 +5,7 @@ use mathlib.Core.Logic.{_≢_}
 use mathlib.Core.Bool.{Bool, true, false, false≢true}
 use mathlib.Core.List.{List, [], _∷_, _++_}
 use mathlib.Core.Option.{Option, none, some}
-use Prim.Native.Nat.{ℕ, zero, suc, _%_}
+use Prim.Native.Nat.{ℕ, zero, suc}
 use native.Mathlib.Omega.{arith}
 use lib.Dec.{eqb, lit<}
 use lib.ListN.{length, getD}
@@ -28,9 +28,9 @@ use Rattle.terms.specs.declared.Count.{Count}
 use Rattle.update.specs.declared.Updated.the-variants.{Done}
 use Rattle.demands.specs.Contracts.{Updates}
 use Rattle.demands.specs.Chunks.{Chunk, Passes, FillingLog, LogFor, mendedTo}
-use Rattle.demands.specs.Crews.{ClearLogs, shownAt, SameFaces, Agree}
+use Rattle.demands.specs.Crews.{shownAt, SameFaces, Agree}
 use Rattle.demands.proofs.Exact.{fine-is-zero}
-use Rattle.demands.proofs.Crews.{zero-is-done, in-one-log}
+use Rattle.demands.proofs.Crews.{zero-is-done, two-entries}
 
 -- ---- a column, in room for some quads: three cubes; in the new mode two, and nothing on top
 abbrev S : Scene
@@ -105,14 +105,10 @@ not-beside (suc (suc (suc (suc (suc (suc f)))))) = refl
 two-clear-of-zero : Clear (S .size) 2 0
 two-clear-of-zero = record { different = λ e. absurd (omega arith); notBeside = λ f e. false≢true (sym (not-beside f) ∙ ap isZero e) }
 
-clear : (mode : Tested) → ClearLogs (S .size) (top mode) (bottom mode)
+clear : (mode : Tested) → Clear (S .size) ((entryAt (top mode) 0) .cell) ((entryAt (bottom mode) 0) .cell)
 unfolding entryAt
-clear Opposite zero zero a b = two-clear-of-zero
-clear Opposite zero (suc j) a b = absurd (omega arith)
-clear Opposite (suc i) j a b = absurd (omega arith)
-clear Itself zero zero a b = two-clear-of-zero
-clear Itself zero (suc j) a b = absurd (omega arith)
-clear Itself (suc i) j a b = absurd (omega arith)
+clear Opposite = two-clear-of-zero
+clear Itself = two-clear-of-zero
 
 -- ---- two cubes side by side, each dug by a crew that saw the other one
 abbrev T : Scene
@@ -191,9 +187,9 @@ done : (mode : Tested) → ((ran mode 16 (topFirst mode)) .answer .number ≡ 0)
 done Opposite = (ap (workedAt 4 0) worked, ap (workedAt 5 0) worked)
 done Itself = (ap (workedAt 6 0) worked, ap (workedAt 7 0) worked)
 
-whole : (mode : Tested) → (length (top mode) % ENTRY-BYTES ≡ 0) × (length (bottom mode) % ENTRY-BYTES ≡ 0)
-whole Opposite = (refl, refl)
-whole Itself = (refl, refl)
+an-entry : (mode : Tested) → (length (top mode) ≡ ENTRY-BYTES) × (length (bottom mode) ≡ ENTRY-BYTES)
+an-entry Opposite = (refl, refl)
+an-entry Itself = (refl, refl)
 
 pub witness : (mode : Tested)
     → Agree S (reached S (topFirst mode) (column mode 16) (ran mode 16 (topFirst mode))) (reached S (bottomFirst mode) (column mode 16) (ran mode 16 (bottomFirst mode)))
@@ -201,7 +197,7 @@ witness mode =
     let k = column mode 16 in
     let x = ran mode 16 (topFirst mode) in
     let y = ran mode 16 (bottomFirst mode) in
-    in-one-log mode S k (top mode) (bottom mode) (column-passes mode) (clear mode) (top-honest mode) (bottom-honest mode) (whole mode .0) (whole mode .1) (countOf x) (countOf y) (x .lists) (y .lists)
+    two-entries mode S k (top mode) (bottom mode) (countOf x) (countOf y) (x .lists) (y .lists) (column-passes mode) (top-honest mode) (bottom-honest mode) (an-entry mode .0) (an-entry mode .1) (clear mode)
     (zero-is-done (testedBy mode) S (topFirst mode) (k .lists) (k .quads) (x .answer) (x .lists) refl (done mode .0))
     (zero-is-done (testedBy mode) S (bottomFirst mode) (k .lists) (k .quads) (y .answer) (y .lists) refl (done mode .1))
 
@@ -243,8 +239,8 @@ neither-passes = (
   (ap (workedAt 11 0) worked, ap (workedAt 11 2) worked, ap (workedAt 11 3) worked),
 )
 
--- asked of two entries on different cells, and not of neighbours, the promise is false
-pub false-of-different-cells-alone : ((S : Scene) (from : Chunk) (one other : List ℕ) (m n : Count) (x y : Lists) → Passes S from → FillingLog S (from .grid) one → FillingLog S (from .grid) other
+-- `two-entries`, asked of different cells alone, is false
+pub false-of-different-cells-alone : ((S : Scene) (from : Chunk) (one other : List ℕ) (m n : Count) (x y : Lists) → Passes S from → LogFor Itself S (from .grid) one → LogFor Itself S (from .grid) other
     → length one ≡ ENTRY-BYTES → length other ≡ ENTRY-BYTES → (entryAt one 0) .cell ≢ (entryAt other 0) .cell
     → Updates (testedBy Itself) S (one ++ other) (from .lists) (from .quads) (Done m) x → Updates (testedBy Itself) S (other ++ one) (from .lists) (from .quads) (Done n) y
     → SameFaces S (mendedTo S (one ++ other) from m x) (mendedTo S (other ++ one) from n y)) → ⊥
