@@ -45,6 +45,10 @@ def kind_of(path):
     return "spec" if parts[2] == "specs" else "law" if len(parts) == 4 else "function"
 
 
+# An operator of words.
+BY_HAND["◌and-then◌"] = "◌and_then◌"
+
+
 def snake(name):
     if name.upper() == name:
         return name.replace("-", "_")

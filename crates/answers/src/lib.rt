@@ -1,9 +1,11 @@
 // The refusals by their names, and a verdict: nothing to refuse, or one refusal with its place.
+#![tactic(auto)]
+
 ghost use Rattle.std.specs.Prelude.{◌≡◌};
 ghost use Rattle.rules.specs.Answers.{refuse_if};
 ghost use Rattle.answers.specs.Verdicts.{number_of, verdict_of, refuses};
 
-#[derive(Drop)]
+#[derive(Clone, Copy)]
 pub enum Refusal {
     BadFile,
     BadSize,
@@ -23,7 +25,7 @@ pub enum Refusal {
     WrongVertex,
 }
 
-#[derive(Drop)]
+#[derive(Clone, Copy)]
 pub enum Verdict {
     Fine,
     Refuse(Refusal, usize),

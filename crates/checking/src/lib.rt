@@ -1,4 +1,6 @@
 // The check of a mesh: whether it shows what culling shows, every word right, index and quads naming each other.
+#![tactic(auto)]
+
 ghost use Rattle.std.specs.Prelude.{◌≡◌, Bool, true, cond, List, ℕ, ◌+◌, ◌*◌, ◌≤◌, ◌<◌, length, get_or};
 ghost use Rattle.rules.specs.Lists.{lowest};
 ghost use Rattle.rules.specs.Cells.{cells, has, set_of};

@@ -1,4 +1,6 @@
 // From the bytes of a work file to the bytes that are printed.
+#![tactic(auto)]
+
 ghost use Rattle.std.specs.Prelude.{◌≡◌, [], ◌*◌, ◌≤◌, length};
 ghost use Rattle.rules.specs.Cells.{cells};
 ghost use Rattle.rules.specs.Program.{type_count, size_in, scene_in, room_in, build_from, worked, lines_of, built_lines, printed};

@@ -1,4 +1,6 @@
 // Runs the vectors that tools/cube_vectors.py wrote: cubes, the types' tests and moved positions, each held to its expected words.
+#![tactic(auto)]
+
 ghost use Rattle.std.specs.Prelude.{◌≡◌, ◌+◌, ◌*◌, ◌≤◌, length};
 ghost use Rattle.rules.specs.Calls.{check_by};
 ghost use Rattle.voxel_mesh.specs.Outcome.{verdict_of};
@@ -11,7 +13,7 @@ use types::types_verdict;
 use vectors::{Count, empty, holds, narrow, read_record, say, size};
 use voxel_mesh::{Cubed, Shape};
 
-#[derive(Drop)]
+#[derive(Clone, Copy)]
 struct Told {
     number: u32,
     place: usize,
@@ -200,7 +202,7 @@ fn is_right(kind: u32, r: &[u32]) -> bool {
     is_right_moved(r)
 }
 
-#[derive(Drop)]
+#[derive(Clone, Copy)]
 struct Tally {
     cubes: Count,
     types: Count,

@@ -1,4 +1,6 @@
 // Which sides of a cell culling draws, as a side set, and those of a row of cells one by one.
+#![tactic(auto)]
+
 ghost use Rattle.std.specs.Prelude.{◌≡◌, List, ℕ, ◌≤◌, ◌<◌, length, get_or};
 ghost use Rattle.rules.specs.Cells.{cells, set_of, coordinates};
 ghost use Rattle.rules.specs.Mesh.{drawn};

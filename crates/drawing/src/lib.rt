@@ -1,5 +1,7 @@
 // Quads written into each list by itself: an attribute of a quad at its place, the patterns of a stretch of places, the attributes of faces that are drawn
 // one after the other.
+#![tactic(auto)]
+
 ghost use Rattle.std.specs.Prelude.{◌≡◌, [], ℕ, ◌+◌, ◌-◌, ◌*◌, ◌≤◌, ◌<◌, length, get_or};
 ghost use Rattle.rules.specs.Lists.{each};
 ghost use Rattle.rules.specs.Types.{quad_words};

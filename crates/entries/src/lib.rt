@@ -1,4 +1,6 @@
 // The entries of a log, 16 bytes each, and which are bad.
+#![tactic(auto)]
+
 ghost use Rattle.std.specs.Prelude.{◌≡◌, ◌+◌, ◌-◌, ◌*◌, ◌/◌, ◌<◌, ◌≤◌, min, length, if◌then◌else◌, nat_eq, nat_lt};
 ghost use Rattle.rules.specs.Lists.{lowest};
 ghost use Rattle.rules.specs.Update.{ENTRY_BYTES, u32_at, change_of, entry_at, given_at};
@@ -9,7 +11,7 @@ ghost use Rattle.entries.specs.Log.{change_in, entry_in, neighbour_of, side_of};
 use face::{Cell, Face};
 use std::num::wrapping_add_u8;
 
-#[derive(Drop)]
+#[derive(Clone, Copy)]
 pub enum VoxelChange {
     Broken,
     Added,
@@ -17,21 +19,21 @@ pub enum VoxelChange {
     Replaced,
 }
 
-#[derive(Drop)]
+#[derive(Clone, Copy)]
 pub enum Neighbour {
     Outside,
     Voxel(u8),
 }
 
 // What Sides does with a side of its cell.
-#[derive(Drop)]
+#[derive(Clone, Copy)]
 pub enum Side {
     Keep,
     Hide,
     Draw,
 }
 
-#[derive(Drop)]
+#[derive(Clone, Copy)]
 pub struct Entry {
     pub cell: Cell,
     pub change: VoxelChange,

@@ -1,5 +1,7 @@
 // The C calls, in the form that include/meshem.h declares. Each but meshem_abi returns 0 or a refusal's number, and writes its answer through
 // the pointers at its end.
+#![tactic(auto)]
+
 ghost use Rattle.std.specs.Prelude.{◌≡◌};
 ghost use Rattle.terms.specs.Loans.{before, after};
 ghost use Rattle.telling.specs.Numbers.{is_yes, answer, scene_from, TellsCube, TellsMesh, TellsUpdate, TellsCheck};

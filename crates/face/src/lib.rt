@@ -1,4 +1,6 @@
 // Cells, quads and vertices, the six faces, the link word of a cell and a face, and side sets.
+#![tactic(auto)]
+
 ghost use Rattle.std.specs.Prelude.{◌≡◌, cond, ◌+◌, ◌*◌, ◌/◌, ◌^◌, ◌≤◌, ◌<◌};
 ghost use Rattle.std.specs.Int.Count.{count_trailing_zeros};
 ghost use Rattle.rules.specs.Cells.{UNIT, opposite, code, link_word, cell_in, code_in, key_of, key_in, first_vertex, has, quads_of, rank};
@@ -7,13 +9,13 @@ ghost use Rattle.face.specs.Face.{number, face_at, face_of_code, face_of_word, R
 // The slot of a face with no quad; zero is vertex 0.
 pub const NONE: u32 = 4_294_967_295;
 
-#[derive(Drop)]
+#[derive(Clone, Copy)]
 pub struct Cell(pub u32);
 
-#[derive(Drop)]
+#[derive(Clone, Copy)]
 pub struct Quad(pub u32);
 
-#[derive(Drop)]
+#[derive(Clone, Copy)]
 pub struct Vertex(pub u32);
 
 impl Quad {
@@ -33,7 +35,7 @@ impl Vertex {
     }
 }
 
-#[derive(Drop)]
+#[derive(Clone, Copy)]
 pub enum Face {
     Top,
     Bottom,
@@ -43,7 +45,7 @@ pub enum Face {
     Forward,
 }
 
-#[derive(Drop)]
+#[derive(Clone, Copy)]
 pub enum FoundFace {
     Face(Face),
     Nothing,

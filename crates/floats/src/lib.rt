@@ -1,4 +1,6 @@
 // Float words: each float is its 32 bits, and f32 is met only inside these leaves. Nothing is fused.
+#![tactic(auto)]
+
 ghost use Rattle.std.specs.Prelude.{◌≡◌, cond, ◌<◌, ◌≤◌, T};
 ghost use Rattle.rules.specs.Cells.{along};
 ghost use Rattle.rules.specs.Floats.{f32, finite, finite3};
@@ -7,7 +9,7 @@ ghost use Rattle.rules.specs.Types.{moved_word};
 ghost use Rattle.floats.specs.Triples.{triple_of};
 
 // Three words: along x, y and z.
-#[derive(Drop)]
+#[derive(Clone, Copy)]
 pub struct Triple {
     pub x: u32,
     pub y: u32,

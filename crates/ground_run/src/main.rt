@@ -1,4 +1,6 @@
 // Runs faces and the grid beside plain counts of its own, and says how many are right.
+#![tactic(auto)]
+
 ghost use Rattle.std.proofs.Math.Option.{get_or};
 ghost use Rattle.std.specs.Prelude.{◌≡◌, ◌≤◌, ◌<◌};
 ghost use Rattle.rules.specs.Cells.{cells, neighbour};

@@ -1,4 +1,6 @@
 // What an entry does to the index: the room that it needs, and links and slots through its work, with the steps that it takes.
+#![tactic(auto)]
+
 ghost use Rattle.std.specs.Prelude.{◌≡◌, [], ◌∷◌, ℕ, ◌+◌, ◌*◌, ◌^◌, ◌≤◌, ◌<◌, max, length};
 ghost use Rattle.rules.specs.Cells.{UNIT, key_of, set_of};
 ghost use Rattle.rules.specs.Mesh.{NONE};
@@ -16,7 +18,7 @@ use vav::{free_row, moved_by};
 use works::{Work, does_cut, key_place, type_of};
 
 // The number of quads, how many have changed their place, the highest number of quads on the way, and the number of steps.
-#[derive(Drop)]
+#[derive(Clone, Copy)]
 pub struct Tally {
     pub quads: usize,
     pub moved: u64,

@@ -1,4 +1,6 @@
 // The tests of what is lent that mesh, update and check share, each with its refusal.
+#![tactic(auto)]
+
 ghost use Rattle.std.specs.Prelude.{◌≡◌, ℕ, ◌*◌, ◌<◌, ◌≤◌, min, length, nat_le, nat_lt, slice_index};
 ghost use Rattle.rules.specs.Lists.{lowest};
 ghost use Rattle.rules.specs.Types.{Types};

@@ -1,4 +1,6 @@
 // What the program prints, written into a lent buffer: each function writes its bytes at a place and returns the next place.
+#![tactic(auto)]
+
 ghost use Rattle.std.specs.Prelude.{◌≡◌, [], ◌∷◌, ◌++◌, ◌/◌, ◌%◌, ◌≤◌, ◌<◌, length};
 ghost use Rattle.rules.specs.Lists.{only};
 ghost use Rattle.rules.specs.Cells.{code_in, key_in};

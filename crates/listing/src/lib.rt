@@ -1,4 +1,6 @@
 // The faces of a fresh mesh: the side sets of a row by either algorithm, how many quads they ask for, and their faces in the index and in a list.
+#![tactic(auto)]
+
 ghost use Rattle.std.specs.Prelude.{◌≡◌, false, List, ℕ, ◌+◌, ◌*◌, ◌%◌, ◌≤◌, ◌<◌, length, get_or};
 ghost use Rattle.rules.specs.Cells.{cells, quads_of};
 ghost use Rattle.face.specs.Face.{Ranked};

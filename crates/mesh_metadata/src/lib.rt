@@ -1,4 +1,6 @@
 // VIVI, which tells the quad of a face and the face of a quad, over lent links and slots.
+#![tactic(auto)]
+
 ghost use Rattle.std.specs.Prelude.{◌≡◌, map, ◌+◌, ◌-◌, ◌/◌, ◌^◌, ◌≤◌, ◌<◌, length, get_or, set, replicate};
 ghost use Rattle.rules.specs.Cells.{UNIT, link_word, code_in, key_of, key_in, first_vertex};
 ghost use Rattle.rules.specs.Mesh.{NONE};
@@ -8,7 +10,7 @@ ghost use Rattle.mesh_metadata.specs.Index.{vertex_in, vertex_of, shifted, renum
 use face::{Cell, Face, NONE, Quad, Vertex};
 
 // The first vertex of a quad.
-#[derive(Drop)]
+#[derive(Clone, Copy)]
 pub enum QuadIndex {
     At(Vertex),
     Nothing,

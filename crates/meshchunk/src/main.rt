@@ -1,4 +1,6 @@
 // Reads a work file on standard input and prints its mesh after its log, or the refusal.
+#![tactic(auto)]
+
 use chunk::{ANSWER_BYTES, answer_file};
 use libc::{STDIN_FILENO, STDOUT_FILENO};
 

@@ -1,4 +1,6 @@
 // Fresh meshing: the quads are counted, then the faces of each row entered into the index and written.
+#![tactic(auto)]
+
 ghost use Rattle.meshem.specs.Outcome.{Meshes};
 ghost use Rattle.terms.specs.Modes.{is_culling};
 ghost use Rattle.terms.specs.Loans.{scene_lent, before, after};
@@ -15,7 +17,7 @@ use terms::{Lengths, MeshingAlgorithm, Scene};
 use util::Row;
 
 // What the call answers.
-#[derive(Drop)]
+#[derive(Clone, Copy)]
 pub enum Meshed {
     Done(usize),
     Refused(Refusal, usize),

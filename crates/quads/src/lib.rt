@@ -1,5 +1,7 @@
 // The attributes of a quad: those of its four vertices, taken from the corners of a face, and positions moved to their cell. A face's corners are its four
 // vertices in a cube of the registry.
+#![tactic(auto)]
+
 ghost use Rattle.std.specs.Prelude.{◌≡◌, ◌+◌, ◌*◌, ◌≤◌, ◌<◌, length, get_or};
 ghost use Rattle.rules.specs.Cells as cells;
 ghost use Rattle.rules.specs.Cells.{along};

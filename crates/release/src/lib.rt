@@ -1,5 +1,7 @@
 // The calls one after the other, as whoever releases a chunk makes them; each contract is a promise that holds of the calls' contracts, and
 // says the lists that are left.
+#![tactic(auto)]
+
 ghost use Rattle.std.specs.Prelude.{◌≡◌};
 ghost use Rattle.answers.specs.Verdicts.{verdict_of};
 ghost use Rattle.meshem.specs.Outcome.{answer_of};

@@ -1,4 +1,6 @@
 // The side sets of a row of cells: by bytes, sixteen cells at a time, where the types there are plainly clear or full; else cell by cell.
+#![tactic(auto)]
+
 ghost use Rattle.std.specs.Prelude.{◌≡◌, true, List, ℕ, ◌+◌, ◌≤◌, ◌<◌, length, get_or};
 ghost use Rattle.rules.specs.Cells.{cells};
 ghost use Rattle.face.specs.Face.{number};
@@ -48,7 +50,7 @@ fn full_from(kinds: &[u8], covers: &[u8]) -> u8
 }
 
 // What is the same for every row of a call: the outer faces, and from which types on they are plainly clear or full.
-#[derive(Drop)]
+#[derive(Clone, Copy)]
 pub struct Look {
     pub outer: u8,
     pub clear: u8,
@@ -65,7 +67,7 @@ pub fn look_of(outer: u8, kinds: &[u8], covers: &[u8]) -> Look
 }
 
 // The codes of the cells beside a cell.
-#[derive(Drop)]
+#[derive(Clone, Copy)]
 struct Codes {
     up: u8,
     down: u8,
@@ -114,7 +116,7 @@ pub fn sides_along(along: &mut [u8], width: u32)
 }
 
 // Where a row starts and the rows beside it start, and the sides that those are on. Where there is none, the row stands for it.
-#[derive(Drop)]
+#[derive(Clone, Copy)]
 struct Around {
     dims: Dimensions,
     at: usize,

@@ -22,8 +22,8 @@ pub data Within (ns : List ℕ) : Verdict → Type 0 where
   none_given : Within ns fine
   given : {n p : ℕ} → member n ns ≡ true → Within ns (refuse n p)
 
-infixr 20 ◌and-then◌
-◌and-then◌ : {ns : List ℕ} {a b : Verdict} → Within ns a → Within ns b → Within ns (a then b)
+infixr 20 ◌and_then◌
+◌and_then◌ : {ns : List ℕ} {a b : Verdict} → Within ns a → Within ns b → Within ns (a then b)
 unfolding ◌then◌
 none_given and_then w = w
 given h and_then w = given h

@@ -1,4 +1,6 @@
 // The steps of an update, replayed on the list of each attribute.
+#![tactic(auto)]
+
 ghost use Rattle.std.specs.Prelude.{◌≡◌, [], ◌∷◌, ◌/◌, ◌≤◌, ◌<◌, length};
 ghost use Rattle.rules.specs.Mesh.{vertices_of};
 ghost use Rattle.util.specs.Grid.{size_of, Inverts};

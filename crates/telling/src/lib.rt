@@ -1,4 +1,6 @@
 // What a call is asked and what it answers, by number.
+#![tactic(auto)]
+
 ghost use Rattle.std.specs.Prelude.{◌≡◌, List, ℕ};
 ghost use Rattle.rules.specs.Calls as rules;
 ghost use Rattle.answers.specs.Verdicts.{verdict_of};
@@ -18,7 +20,7 @@ use util::Dimensions;
 use voxel_mesh::Cubed;
 
 // An answer's number and place, the quads, and how many of them moved: 0 where an answer has none.
-#[derive(Drop)]
+#[derive(Clone, Copy)]
 pub struct Told {
     pub number: u32,
     pub place: usize,

@@ -1,4 +1,6 @@
 // The words that the calls share: what is told of the grid and the types, the two modes, how long the lists are, and how many quads there are.
+#![tactic(auto)]
+
 ghost use Rattle.std.specs.Prelude.{◌≡◌};
 ghost use Rattle.face.specs.Face.{number};
 ghost use Rattle.terms.specs.Modes.{is_culling, tested_by};
@@ -8,7 +10,7 @@ use floats::Triple;
 use util::Dimensions;
 
 // What mesh, update and check are told of the grid and the types.
-#[derive(Drop)]
+#[derive(Clone, Copy)]
 pub struct Scene {
     pub dims: Dimensions,
     pub coloured: bool,
@@ -17,7 +19,7 @@ pub struct Scene {
 }
 
 // How many words the lists of a mesh have.
-#[derive(Drop)]
+#[derive(Clone, Copy)]
 pub struct Lengths {
     pub positions: usize,
     pub normals: usize,
@@ -29,13 +31,13 @@ pub struct Lengths {
 }
 
 // The number of quads, and how many have changed their place.
-#[derive(Drop)]
+#[derive(Clone, Copy)]
 pub struct Count {
     pub quads: usize,
     pub moved: u64,
 }
 
-#[derive(Drop)]
+#[derive(Clone, Copy)]
 pub enum MeshingAlgorithm {
     Naive,
     Culling,
@@ -54,7 +56,7 @@ impl MeshingAlgorithm {
 
 // Which side of a voxel that comes, by Added or Replaced, decides whether the neighbour at a face loses its facing quad: the opposite of the face,
 // as the source has it, or the face itself.
-#[derive(Drop)]
+#[derive(Clone, Copy)]
 pub enum Tested {
     Opposite,
     Itself,

@@ -15,6 +15,8 @@
 // A patch: a place in the base's record, how many words, and the words. So any word of scene, types, grid and mesh can be another one;
 // the lengths can't.
 // A trial is wrong if it or its base does not keep this form.
+#![tactic(auto)]
+
 ghost use Rattle.std.specs.Prelude.{◌≡◌, ◌≤◌, ◌<◌, length};
 
 use checking::check_mesh;
@@ -40,7 +42,7 @@ type Words = [u32; 65536];
 
 type Bytes = [u8; 262144];
 
-#[derive(Drop)]
+#[derive(Clone, Copy)]
 struct Tally {
     kept: usize,
     count: Count,

@@ -1,4 +1,6 @@
 // The types' tests: BAD_TYPES, BAD_NUMBER and NOT_A_CUBE, in this order.
+#![tactic(auto)]
+
 ghost use Rattle.rules.specs.Calls.{registry_verdict};
 ghost use Rattle.std.specs.Prelude.{◌≡◌, Bool, List, ℕ, ◌+◌, ◌*◌, ◌/◌, ◌%◌, ◌<◌, length, T};
 ghost use Rattle.rules.specs.Lists.{every, lowest};
@@ -41,7 +43,7 @@ fn lowest_bad_type(kinds: &[u8], covers: &[u8]) -> usize
 }
 
 // The face that a triangle is classed to, if any.
-#[derive(Drop)]
+#[derive(Clone, Copy)]
 enum Class {
     Of(usize),
     Nothing,

@@ -1,4 +1,6 @@
 // An update: the mesh is mended in place, entry by entry of a log.
+#![tactic(auto)]
+
 ghost use Rattle.std.specs.Prelude.{◌≡◌, ◌*◌, ◌≤◌, length};
 ghost use Rattle.rules.specs.Mesh.{vertices_of, NONE, Lists};
 ghost use Rattle.rules.specs.Answers.{BAD_ENTRY};
@@ -25,7 +27,7 @@ use vav::clear;
 use works::{keys_around, work_of};
 
 // What a log is run under: the scene, the side tested, the room and the quads that there are.
-#[derive(Drop)]
+#[derive(Clone, Copy)]
 pub struct Task {
     pub scene: Scene,
     pub tested: Tested,
@@ -34,14 +36,14 @@ pub struct Task {
 }
 
 // How far a log has gone: through it, or to an entry that found no room.
-#[derive(Drop)]
+#[derive(Clone, Copy)]
 pub enum End {
     Through,
     Full(usize),
 }
 
 // What a log has come to, with the highest number of quads on the way.
-#[derive(Drop)]
+#[derive(Clone, Copy)]
 pub struct Ran {
     pub end: End,
     pub count: Count,
@@ -180,7 +182,7 @@ fn told_verdict(
 }
 
 // What an update answers: what was done; or why and where it refuses, and what was done before: nothing, unless an entry finds no room.
-#[derive(Drop)]
+#[derive(Clone, Copy)]
 pub enum Updated {
     Done(Count),
     Refused(Refusal, usize, Count),

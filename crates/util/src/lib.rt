@@ -1,4 +1,6 @@
 // The grid: its dimensions, its cells by number and by coordinates, its rows, and the neighbours of a cell.
+#![tactic(auto)]
+
 ghost use Rattle.std.specs.Prelude.{◌≡◌, not, ◌&&◌, ℕ, ◌+◌, ◌-◌, ◌*◌, ◌/◌, ◌^◌, ◌≤◌, ◌<◌, leb, ltb};
 ghost use Rattle.rules.specs.Cells.{cells, cell_at, coordinates, neighbour, only_if};
 ghost use Rattle.rules.specs.Answers.{bad_limits, out_of};
@@ -8,14 +10,14 @@ ghost use Rattle.util.specs.Grid.{inverse_of, Inverts, size_of, triple_of, cords
 use face::{Cell, Face};
 
 // Width goes along x, height along y and length along z.
-#[derive(Drop)]
+#[derive(Clone, Copy)]
 pub struct Dimensions {
     pub width: u32,
     pub height: u32,
     pub length: u32,
 }
 
-#[derive(Drop)]
+#[derive(Clone, Copy)]
 pub struct Coordinates {
     pub x: u32,
     pub y: u32,
@@ -23,14 +25,14 @@ pub struct Coordinates {
 }
 
 // A row of cells: its first, and its y and z.
-#[derive(Drop)]
+#[derive(Clone, Copy)]
 pub struct Row {
     pub first: u32,
     pub y: u32,
     pub z: u32,
 }
 
-#[derive(Drop)]
+#[derive(Clone, Copy)]
 pub enum Neighbor {
     At(Cell),
     Nothing,
@@ -88,7 +90,7 @@ pub fn three_d_cords(cell: Cell, dims: Dimensions) -> Coordinates
 }
 
 // 2³² over a width and a length, rounded up: what multiplies in place of a division.
-#[derive(Drop)]
+#[derive(Clone, Copy)]
 pub struct Inverse {
     pub width: u64,
     pub length: u64,

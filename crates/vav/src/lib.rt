@@ -1,4 +1,6 @@
 // Rows of a lent list of words, n words a row: one word a quad for links, six for triangles, and for the attributes of its four vertices 8, 12 or 16.
+#![tactic(auto)]
+
 ghost use Rattle.std.specs.Prelude.{◌≡◌, [], ◌∷◌, ◌+◌, ◌-◌, ◌*◌, ◌≤◌, ◌<◌, length};
 ghost use Rattle.rules.specs.Lists.{part};
 ghost use Rattle.rules.specs.Update.{moved_by};
@@ -6,7 +8,7 @@ ghost use Rattle.vav.specs.Attributes.{attribute_of};
 ghost use Rattle.vav.specs.Rows.{put, four, zeros, source_of, freed};
 
 // An attribute of a vertex, which has a list of its own.
-#[derive(Drop)]
+#[derive(Clone, Copy)]
 pub enum Attribute {
     Position,
     Normal,

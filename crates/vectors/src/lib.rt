@@ -1,4 +1,6 @@
 // What the programs share that read records of words and print how many were right.
+#![tactic(auto)]
+
 ghost use Rattle.std.specs.Prelude.{◌≡◌, ◌+◌, ◌*◌, ◌<◌, ◌≤◌, length};
 
 use libc::STDOUT_FILENO;
@@ -105,7 +107,7 @@ pub fn narrow(words: &[u32], bytes: &mut [u8]) {
     }
 }
 
-#[derive(Drop)]
+#[derive(Clone, Copy)]
 pub struct Count {
     pub right: u64,
     pub wrong: u64,

@@ -1,4 +1,6 @@
 // One cube's vertices: 24 of 8 words, or of 12 with colour, each word the bits of an f32.
+#![tactic(auto)]
+
 ghost use Rattle.std.specs.Prelude.{◌≡◌, cond, not, ◌&&◌, [], ◌++◌, ℕ, ◌+◌, ◌-◌, ◌*◌, ◌/◌, ◌<◌, ◌≤◌, length, get_or, drop, T, ltb};
 ghost use Rattle.std.proofs.Math.Option.{some};
 ghost use Rattle.rules.specs.Lists.{each, every, lowest, table};
@@ -13,7 +15,7 @@ use floats::{Triple, corner_word, is_finite_bits, uv_word};
 use vav::write_four;
 
 // What a cube is made from; each float is its bits.
-#[derive(Drop)]
+#[derive(Clone, Copy)]
 pub struct Shape {
     pub d: Triple,
     pub centre: Triple,
@@ -26,7 +28,7 @@ pub struct Shape {
 }
 
 // What the call answers.
-#[derive(Drop)]
+#[derive(Clone, Copy)]
 pub enum Cubed {
     Done,
     BadNumber,
@@ -193,7 +195,7 @@ fn verdict(shape: Shape, texture: &[u32], room: usize) -> Cubed
 }
 
 // Which entry of a texture names a face.
-#[derive(Drop)]
+#[derive(Clone, Copy)]
 enum Naming {
     Entry(usize),
     Nothing,
@@ -228,7 +230,7 @@ fn uv_at(shape: Shape, texture: &[u32], naming: Naming, end: bool, axis: usize) 
 }
 
 // Where the tile of a face starts and ends: left and right along u, top and bottom along v.
-#[derive(Drop)]
+#[derive(Clone, Copy)]
 struct Tile {
     left: u32,
     right: u32,

@@ -1,4 +1,6 @@
 // The work file: whether it is bad, what its trailer says, and its parts.
+#![tactic(auto)]
+
 ghost use Rattle.std.specs.Prelude.{◌≡◌, ◌+◌, ◌*◌, ◌≤◌, ◌<◌, length};
 ghost use Rattle.rules.specs.Lists.{filled};
 ghost use Rattle.rules.specs.Cells.{cells};
@@ -23,7 +25,7 @@ pub const MAX_TYPES: u32 = 8;
 pub const MAX_CELLS: u64 = 512;
 
 // What the trailer says; each float is its bits.
-#[derive(Drop)]
+#[derive(Clone, Copy)]
 pub struct Work {
     pub types: usize,
     pub entries: u32,

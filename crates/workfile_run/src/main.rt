@@ -1,4 +1,6 @@
 // Runs the cases that tools/workfiles.py wrote; prints how many are right.
+#![tactic(auto)]
+
 ghost use Rattle.std.specs.Prelude.{◌≡◌, true, ◌+◌, ◌≤◌, ◌<◌, length};
 ghost use Rattle.workfile.specs.Work.{Good};
 

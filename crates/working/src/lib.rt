@@ -1,4 +1,6 @@
 // The work that a file asks for, in lists that are lent: cubes for all types, then the mesh, then the update.
+#![tactic(auto)]
+
 ghost use Rattle.std.specs.Prelude.{◌≡◌, [], ◌*◌, ◌≤◌, ◌<◌, length};
 ghost use Rattle.rules.specs.Cube.{floats_of};
 ghost use Rattle.rules.specs.Program.{type_count, coloured_in, shape_in, build_from};

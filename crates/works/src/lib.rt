@@ -1,4 +1,6 @@
 // What an entry of a log means: four side sets, and the faces that they stand for. No list of the mesh is lent.
+#![tactic(auto)]
+
 ghost use Rattle.std.specs.Prelude.{◌≡◌, cond, ◌&&◌, [], ℕ, ◌+◌, ◌*◌, ◌/◌, ◌%◌, ◌<◌, get_or};
 ghost use Rattle.rules.specs.Cells as rule;
 ghost use Rattle.rules.specs.Cells.{cells, coordinates, neighbour, set_of};
@@ -19,7 +21,7 @@ const ALL_SIDES: u8 = 63;
 
 // Side sets, done in this order: own sides cut, neighbours' facing sides drawn, own sides drawn, neighbours' facing sides cut. What Sides hides is cut
 // as own.
-#[derive(Drop)]
+#[derive(Clone, Copy)]
 pub struct Work {
     pub own: u8,
     pub shown: u8,

@@ -11,5 +11,5 @@ returns-2 : tie.Need-returns-2
 unfolding refuse_if
 returns-2 c = rw c.if1.false
 
-pub refuse-if-spec : {M : Type 1} → statement M
-refuse-if-spec = tie.close (tie.spec returns returns-2)
+pub refuse_if_spec : {M : Type 1} → statement M
+refuse_if_spec = tie.close (tie.spec returns returns-2)
