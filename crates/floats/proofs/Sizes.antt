@@ -62,6 +62,7 @@ units_sign b f s q k = go (ltb (q * 2 ^ k) (2 ^ (low f + suc (emax f))))
     go : (t : Bool) → Within b (cond t (odd (suc (prec f)) false q k (low f)) (inf false))
         → Within b (cond t (odd (suc (prec f)) s q k (low f)) (inf s))
     go true w = odd_sign b (suc (prec f)) s q k (low f) w
+    go false w = elim w [ ]
 
 round_sign : (b : ℕ) (f : Format) (s : Bool) (a c : ℕ) → Within b (round f false a c) → Within b (round f s a c)
 round_sign b f s a c w = rw round_is (units_sign b f s _ _ (rw round_is at w))
@@ -84,6 +85,8 @@ below (plus_fin m e) (plus_fin n d) t (is_within s n' d' k) =
     is_within false m e (cross (m * up e) (n * up d) _ (down e) (down d) (down_pos d) (of_or (m * up e * down d)
     (n * up d * down e) true t) k)
 below plus_inf (plus_fin n d) t w = absurd t
+below {b = b} (plus_fin m e) plus_inf t w = elim w [ ]
+below {b = b} plus_inf plus_inf t w = elim w [ ]
 
 -- what is at most b rounds to what b rounds to, at most
 round_within : (s : Bool) (a c b top : ℕ) → 0 < c → a ≤ b * c → Within top (round binary32 false b 1) → Within top (round binary32 s a c)
@@ -130,6 +133,8 @@ fits_within (fin s (suc m) (negsuc k)) f t =
     let d : Bool = ltb (suc m * 1) (2 ^ 128 * 2 ^ suc k) in
     let h : suc m < 2 ^ 24 = ltb→lt (suc m) (2 ^ 24) (and_r a b (and_l (a && b) c (and_l (a && b && c) d t))) in
     is_within s (suc m) (negsuc k) (mul-le-mul (le_trans (le_of_lt h) (lit≤ tt)) (pow_pos (suc k)))
+fits_within nan f t = elim f [ ]
+fits_within (inf _) f t = elim f [ ]
 
 pub bits_within : (b : ℕ) → T (rules.finite b) → Within largest (of_bits binary32 b)
 bits_within b t = fits_within (of_bits binary32 b) (bits_finite b t) (of_bits-fits binary32 b)

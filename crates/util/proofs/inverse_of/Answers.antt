@@ -1,0 +1,9 @@
+-- `util::inverse_of` meets its contract. Assumes nothing.
+use mathlib.Core.Path.{refl}
+use borrow.Author.Rules.{rules}
+use Rattle.util.specs.Grid.{inverse_of}
+use Rattle.util.proofs.inverse_of.Goals as goal
+
+pub returns : goal.returns
+unfolding inverse_of
+returns c = refl
