@@ -7,7 +7,7 @@ use native.Mathlib.Omega.{arith}
 use lib.Dec.{T, eqb, ltb}
 use lib.ListN.{length, get_or}
 use lib.Ieee.Fits.{and_l}
-use borrow.Author.Tests.{ltb-false, eqb-true, eq-eqb, not_false}
+use borrow.Author.Tests.{ltb-false, eqb-true, eq-eqb, not-false}
 use Rattle.rules.specs.Lists.{every}
 use Rattle.rules.specs.Floats.{finite}
 use Rattle.rules.specs.Cells.{Triple}
@@ -35,10 +35,10 @@ counted T e =
     let cubes = eqb (length T.cubes) (24 * floats_of T.coloured * n) in
     let both = or_false (out_of n 1 255 || not covers) (not cubes) e in
     let first = or_false (out_of n 1 255) (not covers) both.0 in (
-      eqb-true _ n (not_false covers first.1),
+      eqb-true _ n (not-false covers first.1),
       record {
         few = ltb-false 255 n (or_false (ltb n 1) (ltb 255 n) first.0).1;
-        whole = eqb-true _ _ (not_false cubes both.1);
+        whole = eqb-true _ _ (not-false cubes both.1);
       },
     )
 
@@ -51,5 +51,5 @@ cube_placed types centre t e k =
     let n = floats types in
     let finite-all = every 72 (λ j. finite (position_of cube n (j / 3) (j % 3))) in
     let classed-all = every 6 (classed cube n centre) in
-    let whole : T (finite-all && classed-all) = subst T (sym (not_false (finite-all && classed-all) (rw (eq-eqb _ _ k) at e))) tt in
+    let whole : T (finite-all && classed-all) = subst T (sym (not-false (finite-all && classed-all) (rw (eq-eqb _ _ k) at e))) tt in
     placed cube n (and_l finite-all classed-all whole)

@@ -6,7 +6,7 @@ use Prim.Native.Nat.{ℕ, ◌+◌, ◌-◌, ◌*◌, ◌≤◌, ◌<◌}
 use lib.Dec.{eqb}
 use lib.ListN.{length, get_or, take, drop}
 use borrow.Author.Count.{below_more}
-use borrow.Author.Tests.{eqb-true, eqb-false, not_true, not_false}
+use borrow.Author.Tests.{eqb-true, eqb-false, not-true, not-false}
 use Rattle.rules.specs.Lists.{row, lowest}
 use Rattle.rules.specs.Cells.{coordinates}
 use Rattle.rules.specs.Cube.{floats_of}
@@ -211,7 +211,7 @@ loop2-again c =
     let w = read c.before in
     let at = place c.before in
     let e = (worded w).width.ensures in
-    let same = eqb-true (get_or (given w) at 0) (get_or (wanted w) at 0) (not_false _ (sym (told c.before) ∙ c.if1.false)) in (
+    let same = eqb-true (get_or (given w) at 0) (get_or (wanted w) at 0) (not-false _ (sym (told c.before) ∙ c.if1.false)) in (
       omega (arith, c.before.before.before.before.loop2-test.true),
       λ has k h. below_more (λ (k : ℕ). get_or (given w) k 0 ≡ get_or (wanted w) k 0) at (c.before.before.before.before.before.loop2.invariant.1 has) same k (omega arith),
     )
@@ -242,7 +242,7 @@ returns-2 : tie.Need-returns-2 invariant-loop2 decreases-loop2 invariant-loop de
 returns-2 c =
     let w = read c.before in
     let at = place c.before in
-    let other = eqb-false (get_or (given w) at 0) (get_or (wanted w) at 0) (not_true _ (sym (told c.before) ∙ c.if1.true)) in
+    let other = eqb-false (get_or (given w) at 0) (get_or (wanted w) at 0) (not-true _ (sym (told c.before) ∙ c.if1.true)) in
     found _ _ _ (counted w) (turn w).quads.inv (ap not (agreed_not (given w) (wanted w) at other)) ∙ by-rule (worded w)
 
 pub first-wrong-row-spec : {M : Type 1} → statement M

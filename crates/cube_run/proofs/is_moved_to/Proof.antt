@@ -1,7 +1,7 @@
 -- `cube_run::is_moved_to` meets its contract. Assumes nothing.
 use mathlib.Core.Path.{◌≡◌, sym, ◌∙◌, subst}
 use mathlib.Core.Bool.{Bool, false, not}
-use borrow.Author.Tests.{not_false}
+use borrow.Author.Tests.{not-false}
 use lib.Dec.{T}
 use borrow.Author.Rules.{rules}
 use native.Mathlib.Omega.{arith}
@@ -10,7 +10,7 @@ use Rattle.cube_run.proofs.is_moved_to.Tie as tie
 
 -- a test that was passed
 passed : {r b : Bool} → r ≡ b → not r ≡ false → T b
-passed {r} e n = subst T (sym (sym e ∙ not_false r n)) tt
+passed {r} e n = subst T (sym (sym e ∙ not-false r n)) tt
 
 moved-word-requires : tie.Need-moved-word-requires
 moved-word-requires c κs =

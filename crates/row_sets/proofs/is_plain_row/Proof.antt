@@ -1,6 +1,6 @@
 -- `row_sets::is_plain_row` meets its contract. Assumes nothing.
 use mathlib.Core.Bool.{false≢true}
-use borrow.Author.Tests.{not_false}
+use borrow.Author.Tests.{not-false}
 use Rattle.rules.proofs.ListLaws.{and_true}
 use Rattle.row_sets.proofs.Plain.{all_plain, plain_around}
 use borrow.Author.Rules.{rules}
@@ -37,7 +37,7 @@ returns-3 c =
     let two = and_true _ _ three.0 in
     let one = and_true _ _ two.0 in
     plain_around s.args.rows s.requires.0 s.args.look s.args.grid.now
-    (own.before.are-plain.ensures (not_false _ own.if2.false)) (c.before.before.before.are-plain2.ensures one.0) (c.before.before.are-plain3.ensures one.1) (c.before.are-plain4.ensures two.1) (c.are-plain5.ensures three.1)
+    (own.before.are-plain.ensures (not-false _ own.if2.false)) (c.before.before.before.are-plain2.ensures one.0) (c.before.before.are-plain3.ensures one.1) (c.before.are-plain4.ensures two.1) (c.are-plain5.ensures three.1)
 
 pub is-plain-row-spec : {M : Type 1} → statement M
 is-plain-row-spec =

@@ -4,7 +4,7 @@ use mathlib.Core.Path.{◌≡◌, refl, sym, ◌∙◌, subst}
 use mathlib.Core.Bool.{true}
 use Prim.Native.Nat.{◌≤◌, ◌-◌, ◌/◌, ◌%◌}
 use native.Mathlib.Numerals.{add-one}
-use borrow.Author.Tests.{not_true, not_false}
+use borrow.Author.Tests.{not-true, not-false}
 use lib.Dec.{T}
 use Rattle.rules.specs.Lists.{every}
 use Rattle.rules.specs.Floats.{finite}
@@ -26,11 +26,11 @@ decreases-loop cube floats centre triangles ok₀ face₀ ok face = 6 - face
 all_placed : (c : tie.Else1 invariant-loop decreases-loop) →
     let start = c.before.before.before in every 72 (λ k. finite (position_of start.args.cube.now start.args.floats
     (k / 3) (k % 3))) ≡ true
-all_placed c = sym c.before.is_placed.ensures ∙ not_false _ c.if1.false
+all_placed c = sym c.before.is_placed.ensures ∙ not-false _ c.if1.false
 
 returns : tie.Need-returns invariant-loop decreases-loop
 unfolding is_cube
-returns c = simp (← c.before.is_placed.ensures, not_true c.before.is_placed.result c.if1.true)
+returns c = simp (← c.before.is_placed.ensures, not-true c.before.is_placed.result c.if1.true)
 
 loop-holds : tie.Need-loop-init invariant-loop decreases-loop
 unfolding every

@@ -1,7 +1,7 @@
 -- `types::types_verdict` meets its contract: each return is the case that the tests before it pick. Assumes nothing.
 use mathlib.Core.Path.{◌≡◌, sym, ◌∙◌, subst}
 use mathlib.Core.Bool.{true, false, ◌&&◌}
-use borrow.Author.Tests.{not_true, not_false, lt-ltb, le-ltb}
+use borrow.Author.Tests.{not-true, not-false, lt-ltb, le-ltb}
 use lib.Dec.{T, ltb}
 use lib.ListN.{length}
 use lib.Ieee.Fits.{and_r}
@@ -36,7 +36,7 @@ numbers : (c : tie.Else3) →
     finite3 (triple_of args.d) && finite3 (triple_of args.centre) ≡ true
 numbers c =
     rw (c.before.before.is_finite.ensures, c.before.is-finite2.ensures) at
-    (not_false (c.before.before.is_finite.result && c.before.is-finite2.result) c.if3.false)
+    (not-false (c.before.before.is_finite.result && c.before.is-finite2.result) c.if3.false)
 
 returns : tie.Need-returns
 unfolding ◌then◌ refuse_if BAD_TYPES
@@ -59,7 +59,7 @@ returns-3 c =
       kinds c.before.before.before,
       ← c.before.before.is_finite.ensures,
       ← c.before.is-finite2.ensures,
-      not_true (c.before.before.is_finite.result && c.before.is-finite2.result)
+      not-true (c.before.before.is_finite.result && c.before.is-finite2.result)
           c.if3.true,
     )
 
