@@ -8,11 +8,11 @@ use Rattle.vav.specs.Attributes.{attribute_of}
 use Rattle.vav.specs.Rows.{put}
 use Rattle.vav.proofs.Laws.{length_part, part_lent}
 use borrow.Author.Rules.{rules}
-use Rattle.vav.proofs.select.Statement.{statement}
-use Rattle.vav.proofs.select.Tie as tie
+use Rattle.vav.proofs.select.Goals as goal
+use Rattle.vav.proofs.select.Goals.{Start}
 
 -- the part that is lent has the attribute's floats
-wide : (t : tie.Start) →
+wide : (t : Start) →
     let a = t.args in
     let at = a.n * a.from + (attribute_of a.attribute).start in
     let w = (attribute_of a.attribute).width in
@@ -23,14 +23,14 @@ wide t =
     let w = (attribute_of a.attribute).width in
     ap length (part_lent at w a.source.now) ∙ length_part at w a.source.now t.requires.1
 
-extend-requires : tie.Need-extend-requires
-extend-requires c κs =
-    let t = c.before.before.before.before.before.before in
+pub extend-requires : goal.extend-requires
+extend-requires c =
+    let t = c.before.before.before.before.before.before.before in
     rw (c.before.before.before.start.ensures, c.before.before.width.ensures, wide t) t.requires.0
 
-returns : tie.Need-returns
+pub returns : goal.returns
 returns c =
-    let t = c.before.before.before.before.before.before.before.before.before in
+    let t = c.before.before.before.before.before.before.before.before.before.before in
     let a = t.args in
     let at = a.n * a.from + (attribute_of a.attribute).start in
     let w = (attribute_of a.attribute).width in
@@ -39,9 +39,3 @@ returns c =
     ∙ rw (c.before.before.before.before.before.before.start.ensures, c.before.before.before.before.before.width.ensures)
     (ap (λ (k : ℕ). put (k * a.to) (part at (at + w - at) xs) a.list.now) (wide t)
     ∙ ap (λ (ys : List ℕ). put (w * a.to) ys a.list.now) (part_lent at w xs))
-
-pub select-spec : {M : Type 1} → statement M
-select-spec =
-    tie.close
-    (tie.spec (λ c. search rules) (λ c κs. search rules) (λ c. search rules) (λ c κs. search rules) (λ c. search rules) (λ c. search rules) (λ c. search rules)
-    (λ c. search rules) (λ c. search rules) extend-requires (λ c. search rules) returns)
