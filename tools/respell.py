@@ -96,6 +96,12 @@ def table():
 
 
 def turn_antt(text, rows):
+    # A name that the file has from the toolchain's library stays.
+    theirs = set()
+    for m in re.finditer(r"use (?!Rattle\.(?!std\b))[^\s{]+\.\{([^}]*)\}", text):
+        theirs |= {n.split(" as ")[0].strip() for n in m[1].split(",")}
+    rows = {o: n for o, n in rows.items() if o not in theirs}
+
     def word(m):
         return rows.get(m[0], m[0])
 

@@ -1,0 +1,16 @@
+use mathlib.Core.Path.{◌≡◌}
+use Prim.Native.Nat.{◌+◌, ◌*◌, ◌-◌, ◌≤◌, ◌<◌}
+use native.Mathlib.Omega.{arith}
+use lib.ListN.{length}
+use native.Mathlib.Nat.{le_trans, lt_of_lt_of_le}
+use Rattle.rules.specs.Program.{type_count, type_byte}
+use Rattle.rules.specs.Lists.{filled}
+use Rattle.workfile.proofs.Files.{types_are, type_inside}
+use Rattle.rules.proofs.Rows.{filled_none, filled_more, length-filled}
+use Rattle.workfile.proofs.type_bytes.Given as goal
+
+abbrev pub invariant-loop-t : goal.invariant-loop-t
+invariant-loop-t l = (l.t ≤ l.types) × (l.out ≡ filled l.t (λ k. type_byte l.file k l.i) l.initial.out)
+
+abbrev pub decreases-loop-t : goal.decreases-loop-t
+decreases-loop-t l = l.types - l.t
