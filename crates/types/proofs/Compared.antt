@@ -88,6 +88,8 @@ below_carried true false true a b c p q r P Q R e l h =
   where
     no_less : (n : ℕ) → n < 0 → ⊥
     no_less n h = omega arith
+below_carried false false true a b c p q r P Q R e l h = elim h [ ]
+below_carried false true true a b c p q r P Q R e l h = elim h [ ]
 
 lt_carried : {x y z : Float} → Finite x → Finite y → Finite z → T (eq x y) → T (lt x z) → T (lt y z)
 unfolding eq lt

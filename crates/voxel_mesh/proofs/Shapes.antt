@@ -10,7 +10,7 @@ use lib.Dec.{T, eqb, ltb, lit≤}
 use lib.ListN.{length, get_or}
 use lib.Ieee.Bits.{is_false}
 use lib.Ieee.Fits.{and_l, and_r}
-use borrow.Author.Tests.{ltb-false, eqb-true, not_false}
+use borrow.Author.Tests.{ltb-false, eqb-true, not-false}
 use Rattle.rules.specs.Lists.{every}
 use Rattle.rules.specs.Floats.{finite, finite3}
 use Rattle.rules.specs.Cells.{Triple, along}
@@ -76,7 +76,7 @@ module _ (q : Shape) (e : bad_atlas q ≡ false) where
     where
       fine : bad_tile q.texture i ≡ false
       fine = is_false _ (every_at (entries q.texture) (λ k. not (bad_tile q.texture k))
-          (subst T (sym (not_false tiles (or_false sizes (not tiles) e).1)) tt) i I)
+          (subst T (sym (not-false tiles (or_false sizes (not tiles) e).1)) tt) i I)
 
       both : (ltb 4095 (get_or q.texture (3 * i + 1) 0) ≡ false) × (ltb 4095 (get_or q.texture (3 * i + 2) 0) ≡ false)
       both = or_false _ _ fine
@@ -109,13 +109,13 @@ accepted q room r =
     let c = then_fine _ _ b.1 in
     let faces = refuse_lowest 7 (entries q.texture) (λ i. ltb 5 (get_or q.texture (3 * i) 0)) in
     let six = (then_fine faces (refuse_if (not (eqb (length q.texture) 18)) 7 6) c.0).1 in
-    let numbers : T (d && centre && pad) = subst T (sym (not_false (d && centre && pad) (if_fine _ 4 0 a.0))) tt in (
+    let numbers : T (d && centre && pad) = subst T (sym (not-false (d && centre && pad) (if_fine _ 4 0 a.0))) tt in (
       record {
         d = and_l d centre (and_l (d && centre) pad numbers);
         centre = and_r d centre (and_l (d && centre) pad numbers);
         padding = and_r (d && centre) pad numbers;
         atlas = if_fine _ 5 0 b.0;
-        six = eqb-true _ 18 (not_false _ (if_fine _ 7 6 six));
+        six = eqb-true _ 18 (not-false _ (if_fine _ 7 6 six));
       },
       ltb-false _ _ (if_fine _ 9 0 c.1),
     )

@@ -1,0 +1,21 @@
+use mathlib.Core.Path.{◌≡◌, refl}
+use mathlib.Core.List.{List}
+use Prim.Native.Nat.{ℕ, ◌+◌, ◌-◌, ◌≤◌}
+use lib.ListN.{length, length-set}
+use Rattle.rules.specs.Cells.{set_of}
+use Rattle.rules.specs.Mesh.{drawn}
+use Rattle.util.specs.Grid.{size_of}
+use Rattle.util.proofs.Rows.{row_end, row_cords}
+use Rattle.culling.specs.Culling.{world_of, outer_set}
+use Rattle.culling.proofs.Passing.{Passed, passed, pass}
+use borrow.Author.Rules.{rules}
+use native.Mathlib.Omega.{arith}
+use Rattle.culling.proofs.row_by_cells.Given as goal
+
+abbrev pub invariant-loop-x : goal.invariant-loop-x
+invariant-loop-x l =
+    (l.x ≤ l.dims.width) × (length l.sets ≡ length l.initial.sets) × ((faces : List ℕ) → l.outer ≡ outer_set faces
+    → Passed (λ k. set_of (drawn (world_of (size_of l.dims) l.kinds l.covers) faces l.grid (l.row.first + k))) l.initial.sets l.sets l.x)
+
+abbrev pub decreases-loop-x : goal.decreases-loop-x
+decreases-loop-x l = l.dims.width - l.x

@@ -1,0 +1,13 @@
+use Rattle.std.proofs.Common.{◌≡◌, ℕ, ◌-◌, ◌/◌, ◌≤◌, true, false, length, sym, ap, ◌∙◌, arith, rules}
+use Rattle.rules.specs.Lists.{lowest, lowest_from}
+use Rattle.rules.specs.Update.{ENTRY_BYTES}
+use Rattle.rules.specs.Answers.{bad_entry}
+use Rattle.entries.proofs.Entries.{lowest_here, lowest_next, lowest_end}
+use Rattle.entries.proofs.first_bad_entry.Given as goal
+
+abbrev pub invariant-loop-k : goal.invariant-loop-k
+invariant-loop-k l =
+    (l.k ≤ l.entries) × (lowest l.entries (bad_entry l.cells l.types l.log) ≡ lowest_from l.k (l.entries - l.k) (bad_entry l.cells l.types l.log))
+
+abbrev pub decreases-loop-k : goal.decreases-loop-k
+decreases-loop-k l = l.entries - l.k

@@ -1,0 +1,16 @@
+use mathlib.Core.Path.{◌≡◌, refl, ap, ◌∙◌}
+use mathlib.Core.List.{List, map}
+use Prim.Native.Nat.{ℕ, ◌-◌, ◌≤◌}
+use lib.ListN.{length, get_or, set}
+use Rattle.rules.specs.Cells.{key_in, first_vertex}
+use Rattle.mesh_metadata.specs.Index.{shifted}
+use Rattle.mesh_metadata.proofs.Slots.{none_shifted, step}
+use native.Mathlib.Omega.{arith}
+use borrow.Author.Rules.{rules}
+use Rattle.mesh_metadata.proofs.rename.Given as goal
+
+abbrev pub invariant-loop-i : goal.invariant-loop-i
+invariant-loop-i l = (l.from ≤ l.i) × (l.i ≤ l.count) × (l.slots ≡ map (shifted l.q l.from l.i) l.initial.slots) × (length l.slots ≡ length l.initial.slots)
+
+abbrev pub decreases-loop-i : goal.decreases-loop-i
+decreases-loop-i l = l.count - l.i
