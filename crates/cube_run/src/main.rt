@@ -8,7 +8,8 @@ ghost use Rattle.answers.specs.Verdicts as types;
 
 use answers::Verdict;
 use floats::Triple;
-use libc::STDIN_FILENO;
+use std::io;
+use std::io::Read;
 use types::types_verdict;
 use vectors::{Count, empty, holds, narrow, read_record, say, size};
 use voxel_mesh::{Cubed, Shape};
@@ -236,7 +237,7 @@ impl Tally {
     }
 }
 
-fn run(bytes: &mut [u8], words: &mut [u32]) -> Tally
+fn run<R: Read>(file: &mut R, bytes: &mut [u8], words: &mut [u32]) -> io::Result<Tally>
     requires { length bytes.old ≡ 4 * length words.old }
 {
     let mut tally = Tally {
@@ -246,15 +247,15 @@ fn run(bytes: &mut [u8], words: &mut [u32]) -> Tally
     };
     let mut turn: usize = 0;
     while turn < 4096 {
-        let n = read_record(STDIN_FILENO, bytes, words);
+        let n = read_record(file, bytes, words)?;
         if n == 0 {
-            return tally;
+            return Ok(tally);
         }
         let kind = words[0];
         tally = tally.and(kind, is_right(kind, &words[1..n]));
         turn += 1;
     }
-    tally
+    Ok(tally)
 }
 
 // Zeros, of which only the number counts.
@@ -270,11 +271,11 @@ fn bytes_of() -> [u8; 256]
     [0; 256]
 }
 
-fn main() {
-    let mut bytes = io::buffer();
+fn main(rt: HostRuntime) -> io::Result<()> {
+    let mut bytes = [0u8; 4096];
     let mut words = words_of();
-    let tally = run(&mut bytes, &mut words);
-    say(b"cubes (11 wrong on purpose):", tally.cubes);
-    say(b"types (6 wrong on purpose):", tally.types);
-    say(b"moved (5 wrong on purpose):", tally.moved);
+    let tally = run(&mut rt.reader(), &mut bytes, &mut words)?;
+    say(&rt, "cubes (11 wrong on purpose):", tally.cubes)?;
+    say(&rt, "types (6 wrong on purpose):", tally.types)?;
+    say(&rt, "moved (5 wrong on purpose):", tally.moved)
 }

@@ -9,6 +9,7 @@ ghost use Rattle.util.specs.Grid.{size_of, Within};
 
 use check::expect;
 use face::{Cell, Face, FoundFace};
+use std::io;
 use util::{Dimensions, Neighbor};
 use vectors::{Count, say};
 
@@ -185,7 +186,7 @@ fn try_wrong(tried: Count) -> Count {
     count.and(is_link(3_221_225_477, 5, Face::Top))
 }
 
-fn main() {
+fn main(rt: HostRuntime) -> io::Result<()> {
     examples();
     let mut count = try_neighbors(try_sets());
     count = try_links(count, 0);
@@ -193,7 +194,8 @@ fn main() {
     count = try_links(count, 1_048_575);
     count = try_links(count, 536_870_911);
     say(
-        b"faces, neighbours and links (8 wrong on purpose):",
+        &rt,
+        "faces, neighbours and links (8 wrong on purpose):",
         try_wrong(count),
-    );
+    )
 }

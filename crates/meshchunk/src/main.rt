@@ -2,15 +2,16 @@
 #![tactic(auto)]
 
 use chunk::{ANSWER_BYTES, answer_file};
-use libc::{STDIN_FILENO, STDOUT_FILENO};
+use std::io;
+use vectors::read_full;
 
 // One byte more than a work file may have: a longer file is bad by its first bytes.
 const READ_BYTES: usize = 8_193;
 
-fn main() {
+fn main(rt: HostRuntime) -> io::Result<()> {
     let mut bytes = [0u8; READ_BYTES];
     let mut out = [0u8; ANSWER_BYTES];
-    let n = io::read_full(STDIN_FILENO, &mut bytes);
+    let n = read_full(&mut rt.reader(), &mut bytes)?;
     let end = answer_file(&bytes[..n], &mut out);
-    io::write_all(STDOUT_FILENO, &out[..end]);
+    rt.write_all(&out[..end])
 }

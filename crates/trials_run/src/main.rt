@@ -22,7 +22,10 @@ ghost use Rattle.std.specs.Prelude.{◌≡◌, ◌≤◌, ◌<◌, length};
 use checking::check_mesh;
 use floats::Triple;
 use meshem::mesh_grid;
-use os::open_read;
+use std::fs::File;
+use std::io;
+use std::io::Read;
+use std::rt::Files;
 use telling::{Told, algorithm_of, tested_of, told_by_mesh, told_by_update, told_by_verdict};
 use terms::Scene;
 use update::update_mesh;
@@ -442,48 +445,43 @@ fn take_record(
     }
 }
 
-fn run(
-    file: i32,
+fn run<R: Read>(
+    file: &mut R,
     bytes: &mut Bytes,
     words: &mut Words,
     base: &mut Words,
     image: &mut Words,
-) -> Count {
+) -> io::Result<Count> {
     let mut tally = Tally {
         kept: 0,
         count: Count::none(),
     };
     let mut turn: usize = 0;
     while turn < 65536 {
-        let n = read_record(file, bytes, words);
+        let n = read_record(file, bytes, words)?;
         if n == 0 {
-            return tally.count;
+            return Ok(tally.count);
         }
         tally = take_record(part(words, 0, n), bytes, base, image, tally);
         turn += 1;
     }
-    tally.count
+    Ok(tally.count)
 }
 
 // Replays the trials of a file, and prints under a name how many were right.
-fn replay(path: &[u8], name: &[u8]) {
+fn replay(rt: &(impl Files + Print), path: &str, name: &str) -> io::Result<()> {
+    let mut file = File::open(rt, path)?;
     let mut bytes = [0; 262144];
     let mut words = [0; 65536];
     let mut base = [0; 65536];
     let mut image = [0; 65536];
-    let count = run(
-        open_read(path),
-        &mut bytes,
-        &mut words,
-        &mut base,
-        &mut image,
-    );
-    say(name, count);
+    let count = run(&mut file, &mut bytes, &mut words, &mut base, &mut image)?;
+    say(rt, name, count)
 }
 
-fn main() {
-    replay(b"damages", b"damages (36 wrong on purpose):");
-    replay(b"logs", b"logs (36 wrong on purpose):");
-    replay(b"meshes", b"meshes (36 wrong on purpose):");
-    replay(b"rust_answers", b"rust answers (36 wrong on purpose):");
+fn main(rt: HostRuntime) -> io::Result<()> {
+    replay(&rt, "damages", "damages (36 wrong on purpose):")?;
+    replay(&rt, "logs", "logs (36 wrong on purpose):")?;
+    replay(&rt, "meshes", "meshes (36 wrong on purpose):")?;
+    replay(&rt, "rust_answers", "rust answers (36 wrong on purpose):")
 }

@@ -1,10 +1,10 @@
 // What the programs share that read records of words and print how many were right.
 #![tactic(auto)]
 
-ghost use Rattle.std.specs.Prelude.{◌≡◌, ◌+◌, ◌*◌, ◌<◌, ◌≤◌, length};
+ghost use Rattle.std.specs.Prelude.{◌≡◌, ◌+◌, ◌*◌, ◌<◌, ◌≤◌, length, IfOk};
 
-use libc::STDOUT_FILENO;
-use std::num::wrapping_add_u64;
+use std::io;
+use std::io::Read;
 
 // The room that is lent holds this before the call.
 pub const SPARE: u32 = 0xa5a5_a5a5;
@@ -46,32 +46,47 @@ fn decode(bytes: &[u8], words: &mut [u32])
     }
 }
 
-fn read_words(file: i32, bytes: &mut [u8], words: &mut [u32]) -> bool
+// Reads until the bytes are full or the file ends, and answers how many it read.
+pub fn read_full<R: Read>(file: &mut R, bytes: &mut [u8]) -> io::Result<usize>
+    ensures { IfOk result (λ n. n ≤ length bytes.new) }
+{
+    let mut done = 0;
+    while done < bytes.len() {
+        let n = file.read(&mut bytes[done..])?;
+        if n == 0 {
+            break;
+        }
+        done += n;
+    }
+    Ok(done)
+}
+
+fn read_words<R: Read>(file: &mut R, bytes: &mut [u8], words: &mut [u32]) -> io::Result<bool>
     requires { length bytes.old ≡ 4 * length words.old }
 {
-    let got = io::read_full(file, bytes);
+    let got = read_full(file, bytes)?;
     decode(bytes, words);
-    got == bytes.len()
+    Ok(got == bytes.len())
 }
 
 // Reads the next record of a file, and answers how many words it has: none at the end.
-pub fn read_record(file: i32, bytes: &mut [u8], words: &mut [u32]) -> usize
+pub fn read_record<R: Read>(file: &mut R, bytes: &mut [u8], words: &mut [u32]) -> io::Result<usize>
     requires { length bytes.old ≡ 4 * length words.old }
-    ensures { result ≤ length words.old }
+    ensures { IfOk result (λ n. n ≤ length words.old) }
 {
     let mut head = [0u8; 4];
-    if io::read_full(file, &mut head) != 4 {
-        return 0;
+    if read_full(file, &mut head)? != 4 {
+        return Ok(0);
     }
     let count = size(word_at(&head, 0));
     if words.len() < count {
-        return 0;
+        return Ok(0);
     }
     let whole = 4 * count;
-    if read_words(file, &mut bytes[..whole], &mut words[..count]) {
-        return count;
+    if read_words(file, &mut bytes[..whole], &mut words[..count])? {
+        return Ok(count);
     }
-    0
+    Ok(0)
 }
 
 fn expected_at(words: &[u32], i: usize) -> u32 {
@@ -121,26 +136,21 @@ impl Count {
     pub fn and(self, ok: bool) -> Self {
         if ok {
             return Self {
-                right: wrapping_add_u64(self.right, 1),
+                right: self.right.wrapping_add(1),
                 wrong: self.wrong,
             };
         }
         Self {
             right: self.right,
-            wrong: wrapping_add_u64(self.wrong, 1),
+            wrong: self.wrong.wrapping_add(1),
         }
     }
 }
 
-pub fn say(name: &[u8], count: Count) {
+// Prints under a name how many were right and how many wrong.
+pub fn say(rt: &impl Print, name: &str, count: Count) -> io::Result<()> {
     let right = count.right;
     let wrong = count.wrong;
-    io::write_all(STDOUT_FILENO, name);
-    io::write_all(STDOUT_FILENO, b" ");
-    io::print_decimal(STDOUT_FILENO, wrapping_add_u64(right, wrong));
-    io::write_all(STDOUT_FILENO, b" right ");
-    io::print_decimal(STDOUT_FILENO, right);
-    io::write_all(STDOUT_FILENO, b" wrong ");
-    io::print_decimal(STDOUT_FILENO, wrong);
-    io::write_all(STDOUT_FILENO, b"\n");
+    let all = right.wrapping_add(wrong);
+    println!(rt; "{name} {all} right {right} wrong {wrong}")
 }

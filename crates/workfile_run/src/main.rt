@@ -5,8 +5,9 @@ ghost use Rattle.std.specs.Prelude.{◌≡◌, true, ◌+◌, ◌≤◌, ◌<◌
 ghost use Rattle.workfile.specs.Work.{Good};
 
 use check::same;
-use libc::STDIN_FILENO;
-use vectors::{Count, say};
+use std::io;
+use std::io::Read;
+use vectors::{Count, read_full, say};
 
 // Document 01's worked example: cell 1 with faces 5, 4, 0, 1, 2, 3.
 const EXAMPLE_LINKS: [u32; 6] = [
@@ -70,7 +71,7 @@ fn is_right_decimal(case: &[u8]) -> bool {
     if case.len() < 4 {
         return false;
     }
-    let mut out = io::buffer();
+    let mut out = [0u8; 4096];
     let end = lines::write_decimal(workfile::u32_at(case, 0) as u64, &mut out, 0);
     same(&out[..end], &case[4..])
 }
@@ -81,7 +82,7 @@ fn is_right_refusal(case: &[u8]) -> bool {
     }
     let number = workfile::u32_at(case, 0);
     let place = workfile::u32_at(case, 4) as u64;
-    let mut out = io::buffer();
+    let mut out = [0u8; 4096];
     let end = lines::write_refused(number, place, &mut out, 0);
     same(&out[..end], &case[8..])
 }
@@ -90,14 +91,14 @@ fn is_right_set(case: &[u8]) -> bool {
     if case.len() < 4 {
         return false;
     }
-    let mut out = io::buffer();
+    let mut out = [0u8; 4096];
     let end = lines::outer_of(case[0], &mut out);
     same(&out[..end], &case[4..])
 }
 
 fn is_right_example(case: &[u8]) -> bool {
     let links = EXAMPLE_LINKS;
-    let mut out = io::buffer();
+    let mut out = [0u8; 4096];
     let end = lines::write_lines(&links, 6, 14, &mut out, 0);
     same(&out[..end], case)
 }
@@ -131,12 +132,13 @@ fn run(input: &[u8]) -> Count {
     count
 }
 
-fn run_all(bytes: &mut [u8]) -> Count {
-    let n = io::read_full(STDIN_FILENO, bytes);
-    run(&bytes[..n])
+fn run_all<R: Read>(file: &mut R, bytes: &mut [u8]) -> io::Result<Count> {
+    let n = read_full(file, bytes)?;
+    Ok(run(&bytes[..n]))
 }
 
-fn main() {
-    let mut bytes = io::large_buffer();
-    say(b"cases (29 wrong on purpose):", run_all(&mut bytes));
+fn main(rt: HostRuntime) -> io::Result<()> {
+    let mut bytes = [0u8; 65536];
+    let count = run_all(&mut rt.reader(), &mut bytes)?;
+    say(&rt, "cases (29 wrong on purpose):", count)
 }
