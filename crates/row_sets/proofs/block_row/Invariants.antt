@@ -1,0 +1,13 @@
+use Prim.Native.Nat.{◌-◌, ◌≤◌}
+use Rattle.culling.proofs.Passing.{Passed, passed}
+use Rattle.row_sets.specs.Rows.{plain_in}
+use Rattle.row_sets.proofs.Plain.{fill}
+use borrow.Author.Rules.{rules}
+use native.Mathlib.Omega.{arith}
+use Rattle.row_sets.proofs.block_row.Given as goal
+
+abbrev pub invariant-loop-x : goal.invariant-loop-x
+invariant-loop-x l = (l.x ≤ l.width) × Passed (plain_in l.look l.grid l.rows) l.initial.sets l.sets l.x
+
+abbrev pub decreases-loop-x : goal.decreases-loop-x
+decreases-loop-x l = l.width - l.x
