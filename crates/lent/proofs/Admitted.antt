@@ -7,7 +7,7 @@ use Rattle.rules.specs.Floats.{finite3}
 use Rattle.rules.specs.Mesh.{position, of_positions, Lists}
 use Rattle.rules.specs.Answers.{fine, refuse_if, refuse_lowest, bad_counts, bad_type, not_a_cube, BAD_SIZE, BAD_GRID, BAD_TYPES, BAD_NUMBER, NOT_A_CUBE, BAD_OUTER, BAD_CELL, SHORT_SLOTS, BAD_COUNT}
 use Rattle.rules.specs.Calls.{Scene, room, types_verdict, input_verdict}
-use Rattle.rules.proofs.ListLaws.{or_false, not-true}
+use Rattle.rules.proofs.ListLaws.{or_false, not_true}
 use Rattle.rules.proofs.Checking.{then_fine, if_fine, lowest_fine}
 use Rattle.rules.proofs.Demands.{Room, room_for}
 use Rattle.util.specs.Grid.{Within}
@@ -38,7 +38,7 @@ typed S e =
       set = λ t h. ltb-false 63 (get_or types.covers t 0) (or_false (ltb 2 (get_or types.kinds t 0)) _ (each t h)).1;
       d = and_l (finite3 S.d) (finite3 S.centre) both;
       centre = and_r (finite3 S.d) (finite3 S.centre) both;
-      cube = λ t h k. not-true _ (rw (eq-eqb (get_or types.kinds t 0) 1 k) at (lowest_fine 6 n (not_a_cube types S.centre) b.1 t h));
+      cube = λ t h k. not_true _ (rw (eq-eqb (get_or types.kinds t 0) 1 k) at (lowest_fine 6 n (not_a_cube types S.centre) b.1 t h));
     }
 
 pub admitted : (S : Scene) (outer g : List ℕ) (B : Lists) → input_verdict S outer g B ≡ fine → Admitted S outer g B
@@ -50,7 +50,7 @@ admitted S outer g B e =
     let f = then_fine (BAD_CELL S.types g) (SHORT_SLOTS S.size B) d.1 in
     record {
       within = sized S a.0;
-      whole = eqb-true (length g) (cells S.size) (not-true _ (if_fine _ 2 0 b.0));
+      whole = eqb-true (length g) (cells S.size) (not_true _ (if_fine _ 2 0 b.0));
       typed = typed S c.0;
       face = λ i h. ltb-false 5 (get_or outer i 0) (lowest_fine 7 (length outer) (λ i. ltb 5 (get_or outer i 0)) d.0 i h);
       type = λ k h. leb-false _ _ (lowest_fine 8 (length g) (λ c. leb (length S.types.kinds) (get_or g c 0)) f.0 k h);

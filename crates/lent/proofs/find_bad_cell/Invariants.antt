@@ -1,0 +1,10 @@
+use Rattle.std.proofs.Common.{◌-◌, leb, length, get_or, rules, le-leb}
+use borrow.Author.Tests.{lt-leb}
+use Rattle.rules.proofs.Searches.{Searched, searched, found, passed, ended}
+use Rattle.lent.proofs.find_bad_cell.Given as goal
+
+abbrev pub invariant-loop-cell : goal.invariant-loop-cell
+invariant-loop-cell l = Searched (length l.grid) (λ c. leb l.types (get_or l.grid c 0)) l.cell
+
+abbrev pub decreases-loop-cell : goal.decreases-loop-cell
+decreases-loop-cell l = length l.grid - l.cell

@@ -1,0 +1,11 @@
+use Rattle.std.proofs.Common.{◌≡◌, ℕ, ◌+◌, ◌-◌, ◌≤◌, Bool, eqb, [], get_or, ap, arith, rules}
+use Rattle.rules.specs.Mesh.{NONE, book_of}
+use Rattle.rules.specs.Answers.{slots_filled}
+use Rattle.lent.proofs.Linked.{byte_le, filled_none, filled_more}
+use Rattle.lent.proofs.links.filled_slots.Given as goal
+
+abbrev pub invariant-loop-k : goal.invariant-loop-k
+invariant-loop-k l = (l.k ≤ l.n) × (l.full + l.k ≡ slots_filled l.k (book_of [] l.slots) + l.n)
+
+abbrev pub decreases-loop-k : goal.decreases-loop-k
+decreases-loop-k l = l.n - l.k

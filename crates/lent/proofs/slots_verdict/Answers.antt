@@ -1,0 +1,6 @@
+-- `lent::slots_verdict` meets its contract. Assumes nothing.
+use Rattle.std.proofs.Common.{◌∙◌, rules}
+use Rattle.lent.proofs.slots_verdict.Goals as goal
+
+pub returns : goal.returns
+returns c = λ B e. c.refuse_if.ensures ∙ rw (c.cell_count.ensures, e)
