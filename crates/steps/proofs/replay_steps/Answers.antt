@@ -16,16 +16,18 @@ use Rattle.drawing.proofs.Lengths.{Alike, alike_long}
 use Rattle.steps.specs.Steps.{Step, gone, came, step_in, step_at, Shelf, shelf, left, Can}
 use Rattle.steps.specs.Rows.{run_of, Shelves, shelves, ran_all, Drawn, ReplayingAll}
 use Rattle.steps.proofs.Turning.{Turning, Piecewise, start, this, turn, done}
-use Rattle.steps.proofs.replay_steps.Statement.{statement}
-use Rattle.steps.proofs.replay_steps.Tie as tie
+use Rattle.steps.proofs.replay_steps.Invariants.{Ready}
+use Rattle.steps.proofs.replay_steps.Goals as goal
+use Rattle.steps.proofs.replay_steps.Lts
+use Rattle.steps.proofs.replay_steps.Tie
+use Rattle.steps.proofs.replay_steps.Reads
+
+abbrev Start : Type 0
+Start = Lts.Start Tie.the-claims Reads.Pre Reads.Post goal.the-invariant-loop-i goal.the-decreases-loop-i
 
 -- what is asked of other steps, with quads that the room holds
 other : {S : Scene} {vs : Vertices} {xs ys : List Step} {Q R : ℕ} (p : ReplayingAll S xs vs Q) → R ≤ p.room → Can (Drawn S) p.room ys R → ReplayingAll S ys vs R
 other p h c = record { room = p.room; within = p.within; fits = p.fits; here = h; can = c }
-
--- steps can be done on lists as long as vs
-abbrev Ready : Scene → Vertices → List Step → Shelves → Type 0
-Ready S vs xs v = ReplayingAll S xs vs v.quads
 
 -- how many quads are left does not depend on the list
 left_is : (S : Scene) (e : Attribute) (xs : List Step) (v : Shelf) → (run_of S e xs v).quads ≡ left xs v.quads
@@ -78,59 +80,60 @@ lent-step i xs =
     let b = part_at (2 * i) 2 xs 1 (omega arith) in
     ap (λ (ys : List ℕ). step_at ys 0) e ∙ (λ j. step_in (a j) (b j))
 
-abbrev invariant-loop : tie.invariant-loop
-invariant-loop positions₀ normals₀ uvs₀ colours₀ scene cubes inverse steps count n left₀ i₀ positions normals uvs colours left i =
-    let S = scene_of scene [] [] cubes in
-    let vs = vertices_of positions₀ normals₀ uvs₀ colours₀ in
-    let ws = vertices_of positions normals uvs colours in
-    Turning (ran_all S) (Ready S vs) n (λ k. step_at steps k ∷ []) i (shelves vs count) (shelves ws left) × Alike ws vs
-
-abbrev decreases-loop : tie.decreases-loop
-decreases-loop positions₀ normals₀ uvs₀ colours₀ scene cubes inverse steps count n left₀ i₀ positions normals uvs colours left i = n - i
-
-abbrev scene : tie.Start invariant-loop decreases-loop → Scene
+abbrev scene : Start → Scene
 scene t = scene_of t.args.scene [] [] t.args.cubes.now
 
-abbrev vertices : tie.Start invariant-loop decreases-loop → Vertices
+abbrev vertices : Start → Vertices
 vertices t = vertices_of t.args.positions.now t.args.normals.now t.args.uvs.now t.args.colours.now
 
-replay-one-requires : tie.Need-replay-one-requires invariant-loop decreases-loop
-replay-one-requires c κs =
-    let l = c.before.before.before.before.before.before.loop in
-    let t = c.before.before.before.before.before.before.before.before.before.before.before.before.before in
-    let p = this l.invariant.0 (piecewise (scene t) (vertices t)) c.before.before.before.before.before.loop-test.true in
-    let i = c.before.before.before.before.before.loop-test.true in
+pub replay_one-left-requires : goal.replay_one-left-requires
+replay_one-left-requires c =
+    let l = c.loop-i in
+    let t = c.before.before.before.before.before.before.before.before.before.before.before.before.before.before in
+    let p = this l.invariant.0 (piecewise (scene t) (vertices t)) c.loop-i-test.true in
+    let i = c.loop-i-test.true in
     let x = lent-step l.i t.args.steps.now in (
       omega (arith, length_lent (2 * l.i) 2 t.args.steps.now (omega arith)),
       rw x (record { room = p.room; within = p.within; fits = alike_long t.args.scene.coloured _ _ _ l.invariant.1 p.fits; here = p.here; can = p.can }),
       t.requires.1,
     )
 
-add-i : tie.Need-overflow-add-i invariant-loop decreases-loop
-add-i c =
-    let begun = c.before.before.before.before.before.before.before.before.before.before.before.before.before.before.before.before in
-    let i = c.before.before.before.before.before.before.before.before.before.before.before.before.before.before.loop-test.true in
+pub overflow_add-i : goal.overflow_add-i
+overflow_add-i c =
+    let begun = c in
+    let i = c.loop-i-test.true in
     omega arith
 
-loop-again : tie.Need-loop-preserved invariant-loop decreases-loop
-loop-again c =
-    let went = c.before.before.before.before.before.before.before.before in
-    let l = c.before.before.before.before.before.before.before.before.before.before.before.before.before.before.before.loop in
-    let t = c.before.before.before.before.before.before.before.before.before.before.before.before.before.before.before.before.before.before.before.before.before.before in
-    let k = went.replay-one.auto in
+pub loop-i-preserved : goal.loop-i-preserved
+loop-i-preserved c =
+    let went = c in
+    let l = c.loop-i in
+    let t = c.before.before.before.before.before.before.before.before.before.before.before.before.before.before.before.before.before.before.before.before.before.before.before in
+    let k = went.replay_one-left.auto in
     let x = lent-step l.i t.args.steps.now in (
-      turn l.invariant.0 (piecewise (scene t) (vertices t)) c.before.before.before.before.before.before.before.before.before.before.before.before.before.before.loop-test.true (rw x at went.replay-one.ensures),
-      record { positions = k.0 ∙ l.invariant.1.positions; normals = k.1.0 ∙ l.invariant.1.normals; uvs = k.1.1.0 ∙ l.invariant.1.uvs; colours = k.1.1.1.0 ∙ l.invariant.1.colours },
+      turn l.invariant.0 (piecewise (scene t) (vertices t)) c.loop-i-test.true (rw x at went.replay_one-left.ensures),
+      record { positions = k.positions ∙ l.invariant.1.positions; normals = k.normals ∙ l.invariant.1.normals; uvs = k.uvs ∙ l.invariant.1.uvs; colours = k.colours ∙ l.invariant.1.colours },
     )
 
-returns : tie.Need-returns invariant-loop decreases-loop
+pub returns : goal.returns
 returns c =
-    let t = c.before.before.before.before.before.before.before.before in
-    ap (λ (v : Shelves). v.vertices) (done c.before.loop.invariant.0 (idle (scene t)) c.loop-test.false)
+    let t = c.before.before.before.before.before.before.before.before.before in
+    ap (λ (v : Shelves). v.vertices) (done c.loop-i.invariant.0 (idle (scene t)) c.loop-i-test.false)
 
-pub replay-steps-spec : {M : Type 1} → statement M
-replay-steps-spec =
-    tie.close
-    (tie.spec invariant-loop decreases-loop (λ c. (start c.before.before.before.before.before.before.requires.0, record { positions = refl; normals = refl; uvs = refl; colours = refl })) (λ c. search rules) (λ c. search rules) (λ c. search rules)
-    (λ c. search rules) (λ c. search rules) (λ c. search rules) replay-one-requires add-i (λ c. let i = c.before.before.before.before.before.before.before.before.before.before.before.before.before.before.loop-test.true in omega arith) loop-again (λ c. c.before.loop.invariant.1.positions)
-    (λ c. c.before.loop.invariant.1.normals) (λ c. c.before.loop.invariant.1.uvs) (λ c. c.before.loop.invariant.1.colours) returns)
+pub loop-i-init : goal.loop-i-init
+loop-i-init c = (start c.requires.0, record { positions = refl; normals = refl; uvs = refl; colours = refl })
+
+pub loop-i-smaller : goal.loop-i-smaller
+loop-i-smaller c = let i = c.loop-i-test.true in omega arith
+
+pub shape_of-positions : goal.shape_of-positions
+shape_of-positions c = c.loop-i.invariant.1.positions
+
+pub shape_of-normals : goal.shape_of-normals
+shape_of-normals c = c.loop-i.invariant.1.normals
+
+pub shape_of-uvs : goal.shape_of-uvs
+shape_of-uvs c = c.loop-i.invariant.1.uvs
+
+pub shape_of-colours : goal.shape_of-colours
+shape_of-colours c = c.loop-i.invariant.1.colours

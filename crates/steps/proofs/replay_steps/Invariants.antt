@@ -1,0 +1,32 @@
+use mathlib.Core.Path.{◌≡◌, refl, sym, ap, ◌∙◌}
+use mathlib.Core.List.{List, [], ◌∷◌, ◌++◌}
+use Prim.Native.Nat.{ℕ, ◌+◌, ◌-◌, ◌*◌, ◌≤◌}
+use native.Mathlib.Omega.{arith}
+use lib.ListN.{get_or, take, drop}
+use borrow.Author.Rules.{rules}
+use Rattle.rules.specs.Lists.{part}
+use Rattle.rules.specs.Mesh.{Attribute, Vertices, vertices_of}
+use Rattle.rules.specs.Calls.{Scene}
+use Rattle.rules.proofs.Rows.{length_lent}
+use Rattle.rules.proofs.Attributes.{each_list_lem, each_again, each_stays}
+use Rattle.vav.proofs.Laws.{part_at, part_lent}
+use Rattle.terms.specs.Scenes.{scene_of}
+use Rattle.drawing.proofs.Lengths.{Alike, alike_long}
+use Rattle.steps.specs.Steps.{Step, gone, came, step_in, step_at, Shelf, shelf, left, Can}
+use Rattle.steps.specs.Rows.{run_of, Shelves, shelves, ran_all, Drawn, ReplayingAll}
+use Rattle.steps.proofs.Turning.{Turning, Piecewise, start, this, turn, done}
+use Rattle.steps.proofs.replay_steps.Given as goal
+
+-- steps can be done on lists as long as vs
+abbrev pub Ready : Scene → Vertices → List Step → Shelves → Type 0
+Ready S vs xs v = ReplayingAll S xs vs v.quads
+
+abbrev pub invariant-loop-i : goal.invariant-loop-i
+invariant-loop-i l =
+    let S = scene_of l.scene [] [] l.cubes in
+    let vs = vertices_of l.initial.positions l.initial.normals l.initial.uvs l.initial.colours in
+    let ws = vertices_of l.positions l.normals l.uvs l.colours in
+    Turning (ran_all S) (Ready S vs) l.n (λ k. step_at l.steps k ∷ []) l.i (shelves vs l.count) (shelves ws l.left) × Alike ws vs
+
+abbrev pub decreases-loop-i : goal.decreases-loop-i
+decreases-loop-i l = l.n - l.i
