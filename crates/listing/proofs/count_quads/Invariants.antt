@@ -1,0 +1,23 @@
+use mathlib.Core.Path.{◌≡◌, refl, sym, ap, ◌∙◌}
+use Prim.Native.Nat.{ℕ, ◌+◌, ◌-◌, ◌≤◌, ◌<◌}
+use borrow.Author.Rules.{rules}
+use native.Mathlib.Omega.{arith}
+use lib.ListN.{length}
+use lib.Seq.{get_or-take, length-take-le}
+use Rattle.rules.specs.Cells.{Size, cells, coordinates}
+use Rattle.util.specs.Grid.{Starts, size_of, cords_of}
+use Rattle.culling.specs.Culling.{world_of}
+use Rattle.listing.specs.Fresh.{set_at, faces_of, asked}
+use Rattle.listing.proofs.Sets.{set_below}
+use Rattle.util.proofs.Rows.{first, row_end}
+use Rattle.listing.proofs.Rows.{asked_few, asked_row, asked_on}
+use Rattle.listing.proofs.count_quads.Given as goal
+
+abbrev pub invariant-loop-row : goal.invariant-loop-row
+invariant-loop-row l =
+    (l.end ≡ cells (size_of l.dims)) × (l.row.first ≤ l.end) × (length l.sets ≡ length l.initial.sets)
+    × (l.n ≡ asked (set_at l.culling (world_of (size_of l.dims) l.kinds l.covers) (faces_of l.look.outer) l.grid) 0 l.row.first)
+    × (cords_of 0 l.row.y l.row.z ≡ coordinates (size_of l.dims) l.row.first)
+
+abbrev pub decreases-loop-row : goal.decreases-loop-row
+decreases-loop-row l = l.end - l.row.first

@@ -1,0 +1,22 @@
+use mathlib.Core.Path.{refl, ap, ◌∙◌}
+use mathlib.Core.Bool.{cond}
+use mathlib.Core.List.{List}
+use Prim.Native.Nat.{ℕ, ◌+◌, ◌-◌, ◌≤◌, ◌<◌}
+use lib.Dec.{eqb}
+use lib.ListN.{length, get_or}
+use Rattle.rules.proofs.ListLaws.{within}
+use Rattle.culling.proofs.Passing.{Passed, passed, pass}
+use Rattle.listing.proofs.Sets.{naive_set}
+use borrow.Author.Rules.{rules}
+use native.Mathlib.Omega.{arith}
+use Rattle.listing.proofs.cube_row.Given as goal
+
+-- the set of cell c
+abbrev pub cubeSet : List ℕ → List ℕ → ℕ → ℕ
+cubeSet grid kinds c = cond (eqb (get_or kinds (get_or grid c 0) 0) 1) 63 0
+
+abbrev pub invariant-loop-x : goal.invariant-loop-x
+invariant-loop-x l = (l.x ≤ l.width) × Passed (λ k. cubeSet l.grid l.kinds (l.first + k)) l.initial.sets l.sets l.x
+
+abbrev pub decreases-loop-x : goal.decreases-loop-x
+decreases-loop-x l = l.width - l.x
