@@ -5,7 +5,8 @@ ghost use Rattle.std.specs.Prelude.{◌≡◌, Bool, true, cond, List, ℕ, ◌+
 ghost use Rattle.rules.specs.Lists.{lowest};
 ghost use Rattle.rules.specs.Cells.{cells, has, set_of};
 ghost use Rattle.util.specs.Grid.{size_of};
-ghost use Rattle.terms.specs.Loans.{scene_lent, before};
+ghost use Rattle.terms.specs.Loans.{lists_lent};
+ghost use Rattle.terms.specs.Scenes.{scene_of};
 ghost use Rattle.culling.specs.Culling.{world_of, outer_set};
 ghost use Rattle.row_sets.specs.Rows.{Along};
 ghost use Rattle.rules.specs.Answers.{is_filled, unlike};
@@ -190,8 +191,8 @@ pub fn check_mesh(
     slots: &[u32],
     count: usize,
 ) -> Verdict
-    ensures { Checks (scene_lent scene kinds covers cubes) outer.now grid.now
-        (before positions normals uvs colours triangles links slots) count result }
+    ensures { Checks (scene_of scene kinds.now covers.now cubes.now) outer.now grid.now
+        (lists_lent positions.now normals.now uvs.now colours.now triangles.now links.now slots.now) count result }
 {
     let lengths = Lengths {
         positions: positions.len(),

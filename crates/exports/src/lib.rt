@@ -3,7 +3,7 @@
 #![tactic(auto)]
 
 ghost use Rattle.std.specs.Prelude.{◌≡◌};
-ghost use Rattle.terms.specs.Loans.{before, after};
+ghost use Rattle.terms.specs.Loans.{lists_lent};
 ghost use Rattle.telling.specs.Numbers.{is_yes, answer, scene_from, TellsCube, TellsMesh, TellsUpdate, TellsCheck};
 ghost use Rattle.exports.specs.Arguments.{ABI, shape_from};
 
@@ -98,8 +98,8 @@ pub extern "C" fn meshem_mesh_grid(
     quads: &mut u64,
 ) -> u32
     ensures { TellsMesh (scene_from width height length kinds.now covers.now cubes.now coloured dx dy dz cx cy cz)
-        outer.now grid.now (is_yes algorithm) (before positions normals uvs colours triangles links slots)
-        (answer result place.new quads.new 0) (after positions normals uvs colours triangles links slots) }
+        outer.now grid.now (is_yes algorithm) (lists_lent positions.old normals.old uvs.old colours.old triangles.old links.old slots.old)
+        (answer result place.new quads.new 0) (lists_lent positions.new normals.new uvs.new colours.new triangles.new links.new slots.new) }
 {
     let scene = scene_of(width, height, length, coloured, dx, dy, dz, cx, cy, cz);
     let by = algorithm_of(is_yes(algorithm));
@@ -142,8 +142,8 @@ pub extern "C" fn meshem_update_mesh(
     moved: &mut u64,
 ) -> u32
     ensures { TellsUpdate tested (scene_from width height length kinds.now covers.now cubes.now coloured dx dy dz cx cy cz)
-        log.now (before positions normals uvs colours triangles links slots) count
-        (answer result place.new quads.new moved.new) (after positions normals uvs colours triangles links slots) }
+        log.now (lists_lent positions.old normals.old uvs.old colours.old triangles.old links.old slots.old) count
+        (answer result place.new quads.new moved.new) (lists_lent positions.new normals.new uvs.new colours.new triangles.new links.new slots.new) }
 {
     let scene = scene_of(width, height, length, coloured, dx, dy, dz, cx, cy, cz);
     let side = tested_of(is_yes(tested));
@@ -197,7 +197,7 @@ pub extern "C" fn meshem_check_mesh(
     place: &mut u64,
 ) -> u32
     ensures { TellsCheck (scene_from width height length kinds.now covers.now cubes.now coloured dx dy dz cx cy cz)
-        outer.now grid.now (before positions normals uvs colours triangles links slots) count result place.new }
+        outer.now grid.now (lists_lent positions.now normals.now uvs.now colours.now triangles.now links.now slots.now) count result place.new }
 {
     let scene = scene_of(width, height, length, coloured, dx, dy, dz, cx, cy, cz);
     let checked = told_by_verdict(check_mesh(

@@ -3,7 +3,8 @@
 
 ghost use Rattle.meshem.specs.Outcome.{Meshes};
 ghost use Rattle.terms.specs.Modes.{is_culling};
-ghost use Rattle.terms.specs.Loans.{scene_lent, before, after};
+ghost use Rattle.terms.specs.Loans.{lists_lent};
+ghost use Rattle.terms.specs.Scenes.{scene_of};
 
 use answers::{Refusal, Verdict};
 use culling::outer_set;
@@ -41,8 +42,8 @@ pub fn mesh_grid(
     links: &mut [u32],
     slots: &mut [u32],
 ) -> Meshed
-    ensures { Meshes (scene_lent scene kinds covers cubes) outer.now grid.now (is_culling algorithm)
-        (before positions normals uvs colours triangles links slots) result (after positions normals uvs colours triangles links slots) }
+    ensures { Meshes (scene_of scene kinds.now covers.now cubes.now) outer.now grid.now (is_culling algorithm)
+        (lists_lent positions.old normals.old uvs.old colours.old triangles.old links.old slots.old) result (lists_lent positions.new normals.new uvs.new colours.new triangles.new links.new slots.new) }
 {
     let told = input_verdict(scene, outer, grid, kinds, covers, cubes, slots.len());
     if let Verdict::Refuse(why, place) = told {

@@ -5,7 +5,8 @@
 ghost use Rattle.std.specs.Prelude.{◌≡◌};
 ghost use Rattle.answers.specs.Verdicts.{verdict_of};
 ghost use Rattle.meshem.specs.Outcome.{answer_of};
-ghost use Rattle.terms.specs.Loans.{scene_lent, before, after};
+ghost use Rattle.terms.specs.Loans.{lists_lent};
+ghost use Rattle.terms.specs.Scenes.{scene_of};
 ghost use Rattle.terms.specs.Modes.{tested_by};
 ghost use Rattle.demands.specs.Chunks.{LogFor, ground_after};
 ghost use Rattle.release.specs.Composed.{meshed_by, ends_with, checked_after, make_ending, mend_promise, mend_ending};
@@ -45,8 +46,8 @@ fn check_made(
     links: &[u32],
     slots: &[u32],
 ) -> Verdict
-    ensures { verdict_of result ≡ checked_after (answer_of made) (scene_lent scene kinds covers cubes) outer.now grid.now
-        (before positions normals uvs colours triangles links slots) }
+    ensures { verdict_of result ≡ checked_after (answer_of made) (scene_of scene kinds.now covers.now cubes.now) outer.now grid.now
+        (lists_lent positions.now normals.now uvs.now colours.now triangles.now links.now slots.now) }
 {
     match made {
         Meshed::Done(quads) => check_mesh(
@@ -73,8 +74,8 @@ pub fn make_and_check(
     covers: &[u8],
     cubes: &[u32],
 ) -> Verdict
-    ensures { ends_with (verdict_of result) (after positions normals uvs colours triangles links slots)
-        ≡ make_ending (scene_lent scene kinds covers cubes) outer.now grid.now (before positions normals uvs colours triangles links slots) }
+    ensures { ends_with (verdict_of result) (lists_lent positions.new normals.new uvs.new colours.new triangles.new links.new slots.new)
+        ≡ make_ending (scene_of scene kinds.now covers.now cubes.now) outer.now grid.now (lists_lent positions.old normals.old uvs.old colours.old triangles.old links.old slots.old) }
 {
     let made = mesh_grid(
         scene,
@@ -117,13 +118,13 @@ pub fn mend_and_check(
     log: &[u8],
     left: &[u8],
 ) -> Verdict
-    ensures { (ends_with (verdict_of result) (after positions normals uvs colours triangles links slots)
-        ≡ mend_ending (tested_by tested) (scene_lent scene kinds covers cubes) grid.now log.now left.now
-        (before positions normals uvs colours triangles links slots) quads)
-        × (LogFor tested (scene_lent scene kinds covers cubes) grid.now log.now
-        → left.now ≡ ground_after (scene_lent scene kinds covers cubes) log.now grid.now
-        → verdict_of result ≡ mend_promise (tested_by tested) (scene_lent scene kinds covers cubes) grid.now log.now
-        (before positions normals uvs colours triangles links slots) quads) }
+    ensures { (ends_with (verdict_of result) (lists_lent positions.new normals.new uvs.new colours.new triangles.new links.new slots.new)
+        ≡ mend_ending (tested_by tested) (scene_of scene kinds.now covers.now cubes.now) grid.now log.now left.now
+        (lists_lent positions.old normals.old uvs.old colours.old triangles.old links.old slots.old) quads)
+        × (LogFor tested (scene_of scene kinds.now covers.now cubes.now) grid.now log.now
+        → left.now ≡ ground_after (scene_of scene kinds.now covers.now cubes.now) log.now grid.now
+        → verdict_of result ≡ mend_promise (tested_by tested) (scene_of scene kinds.now covers.now cubes.now) grid.now log.now
+        (lists_lent positions.old normals.old uvs.old colours.old triangles.old links.old slots.old) quads) }
 {
     let no_face = &grid[..0];
     let passed = check_mesh(

@@ -2,7 +2,8 @@
 ghost use Rattle.std.specs.Prelude.{◌≡◌, ◌/◌, length};
 ghost use Rattle.rules.specs.Update.{ENTRY_BYTES};
 ghost use Rattle.answers.specs.Verdicts.{verdict_of};
-ghost use Rattle.terms.specs.Loans.{scene_lent, before, after};
+ghost use Rattle.terms.specs.Loans.{lists_lent};
+ghost use Rattle.terms.specs.Scenes.{scene_of};
 ghost use Rattle.terms.specs.Modes.{tested_by};
 ghost use Rattle.demands.specs.Chunks.{LogFor, ground_after};
 ghost use Rattle.release.specs.Composed.{ends_with};
@@ -32,10 +33,10 @@ fn mend_by_entries(
     log: &[u8],
     quads: usize,
 ) -> Meshed
-    ensures { went_of result (after positions normals uvs colours triangles links slots)
-        ≡ calls (tested_by tested) (scene_lent scene kinds covers cubes)
+    ensures { went_of result (lists_lent positions.new normals.new uvs.new colours.new triangles.new links.new slots.new)
+        ≡ calls (tested_by tested) (scene_of scene kinds.now covers.now cubes.now)
         log.now 0 (length log.now / ENTRY_BYTES)
-        (before positions normals uvs colours triangles links slots) quads }
+        (lists_lent positions.old normals.old uvs.old colours.old triangles.old links.old slots.old) quads }
 {
     let entries = log.len() / Entry::BYTES;
     let mut left = quads;
@@ -91,16 +92,16 @@ pub fn make_mend_and_check(
     log: &[u8],
     left: &[u8],
 ) -> Verdict
-    ensures { (ends_with (verdict_of result) (after positions normals uvs colours triangles links slots)
-        ≡ chain_ending (tested_by tested) (scene_lent scene kinds covers cubes)
+    ensures { (ends_with (verdict_of result) (lists_lent positions.new normals.new uvs.new colours.new triangles.new links.new slots.new)
+        ≡ chain_ending (tested_by tested) (scene_of scene kinds.now covers.now cubes.now)
         grid.now log.now left.now
-        (before positions normals uvs colours triangles links slots))
-        × (LogFor tested (scene_lent scene kinds covers cubes) grid.now log.now
-        → left.now ≡ ground_after (scene_lent scene kinds covers cubes)
+        (lists_lent positions.old normals.old uvs.old colours.old triangles.old links.old slots.old))
+        × (LogFor tested (scene_of scene kinds.now covers.now cubes.now) grid.now log.now
+        → left.now ≡ ground_after (scene_of scene kinds.now covers.now cubes.now)
         log.now grid.now
-        → verdict_of result ≡ chain_promise (tested_by tested) (scene_lent scene kinds covers cubes)
+        → verdict_of result ≡ chain_promise (tested_by tested) (scene_of scene kinds.now covers.now cubes.now)
         grid.now log.now
-        (before positions normals uvs colours triangles links slots)) }
+        (lists_lent positions.old normals.old uvs.old colours.old triangles.old links.old slots.old)) }
 {
     let made = mesh_grid(
         scene,

@@ -7,7 +7,7 @@ ghost use Rattle.rules.specs.Answers.{BAD_ENTRY};
 ghost use Rattle.answers.specs.Verdicts.{verdict_of};
 ghost use Rattle.terms.specs.Scenes.{scene_of};
 ghost use Rattle.terms.specs.Modes.{tested_by};
-ghost use Rattle.terms.specs.Loans.{scene_lent, before, after};
+ghost use Rattle.terms.specs.Loans.{lists_lent};
 ghost use Rattle.update.specs.Runs.{ran_of, ran_by, Logging, patterns_mended};
 ghost use Rattle.lent.specs.Scenes.{Long};
 ghost use Rattle.update.specs.Outcome.{Updates, told_verdict};
@@ -205,8 +205,8 @@ pub fn update_mesh(
     slots: &mut [u32],
     quads: usize,
 ) -> Updated
-    ensures { Updates (tested_by tested) (scene_lent scene kinds covers cubes) log.now
-        (before positions normals uvs colours triangles links slots) quads result (after positions normals uvs colours triangles links slots) }
+    ensures { Updates (tested_by tested) (scene_of scene kinds.now covers.now cubes.now) log.now
+        (lists_lent positions.old normals.old uvs.old colours.old triangles.old links.old slots.old) quads result (lists_lent positions.new normals.new uvs.new colours.new triangles.new links.new slots.new) }
 {
     let none = Count { quads: 0, moved: 0 };
     let lengths = Lengths {

@@ -4,7 +4,7 @@
 ghost use Rattle.std.specs.Prelude.{◌≡◌, [], ◌*◌, ◌≤◌, ◌<◌, length};
 ghost use Rattle.rules.specs.Cube.{floats_of};
 ghost use Rattle.rules.specs.Program.{type_count, coloured_in, shape_in, build_from};
-ghost use Rattle.terms.specs.Loans.{before, after};
+ghost use Rattle.terms.specs.Loans.{lists_lent};
 ghost use Rattle.telling.specs.Numbers.{told_of, outcome, TellsCube};
 ghost use Rattle.workfile.specs.Work.{Good, work_in};
 ghost use Rattle.working.specs.Steps.{shape_by, scene_by, scene_with, built_of, worked_on};
@@ -117,9 +117,9 @@ pub fn work_lists(
     slots: &mut [u32],
 ) -> Told
     requires { Good file.now }
-    ensures { outcome (told_of result) (after positions normals uvs colours triangles links slots)
+    ensures { outcome (told_of result) (lists_lent positions.new normals.new uvs.new colours.new triangles.new links.new slots.new)
         ≡ worked_on file.now (scene_with file.now kinds.now covers.now cubes.now)
-        outer.now (before positions normals uvs colours triangles links slots) }
+        outer.now (lists_lent positions.old normals.old uvs.old colours.old triangles.old links.old slots.old) }
 {
     let scene = scene_in(file);
     let algorithm = algorithm_of(read_work(file).culling);
