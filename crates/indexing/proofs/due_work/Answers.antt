@@ -11,8 +11,16 @@ use Rattle.works.specs.declared.Work.{Work}
 use Rattle.works.specs.Sets.{sets, key_met}
 use Rattle.indexing.specs.Due.{is_bare, is_met, goes, comes, due_of}
 use borrow.Author.Rules.{rules}
-use Rattle.indexing.proofs.due_work.Statement.{statement}
-use Rattle.indexing.proofs.due_work.Tie as tie
+use Rattle.indexing.proofs.due_work.Goals as goal
+use Rattle.indexing.proofs.due_work.Lts
+use Rattle.indexing.proofs.due_work.Tie
+use Rattle.indexing.proofs.due_work.Reads
+
+abbrev After-own_bare-bare : Type 0
+After-own_bare-bare = Lts.After-own_bare Tie.the-claims Reads.Pre Reads.Post
+
+abbrev After-facing_bare-facing : Type 0
+After-facing_bare-facing = Lts.After-facing_bare Tie.the-claims Reads.Pre Reads.Post
 
 -- a set of sides, and the others
 module _ (p : ℕ → Bool) {set : ℕ} (s : set ≡ set_of p) where
@@ -72,21 +80,27 @@ module _ (slots keys : List ℕ) (c : ℕ) (w : Work) {empty bare met : ℕ} (e 
       λ i. sets (own i) (shown i) (drawn i) (hidden i)
 
 -- no set has more than six sides
-few_own : (c : tie.After-own-bare) → c.own_bare.result ≤ 63
-few_own c = let a = c.before.before.args in omega (arith, c.own_bare.ensures, set_of_lt (λ f. is_bare a.slots.now (key_of a.cell.0 f)))
+few_own : (c : After-own_bare-bare) → c.own_bare-bare.result ≤ 63
+few_own c = let a = c.args in omega (arith, c.own_bare-bare.ensures, set_of_lt (λ f. is_bare a.slots.now (key_of a.cell.0 f)))
 
-few_facing : (c : tie.After-facing-bare) → c.facing-bare.result ≤ 63
-few_facing c = let a = c.before.before.before.args in omega (arith, c.facing-bare.ensures, set_of_lt (λ f. is_bare a.slots.now (key_met a.keys.now 1 f)))
+few_facing : (c : After-facing_bare-facing) → c.facing_bare-facing.result ≤ 63
+few_facing c = let a = c.args in omega (arith, c.facing_bare-facing.ensures, set_of_lt (λ f. is_bare a.slots.now (key_met a.keys.now 1 f)))
 
-returns : tie.Need-returns
+pub returns : goal.returns
 returns c =
-    let met = c.before.before in
-    let bare = met.before.before.before in
-    let t = bare.before.before.before in
-    made t.args.slots.now t.args.keys.now t.args.cell.0 t.args.work bare.before.own_bare.ensures bare.facing-bare.ensures met.met-sides.ensures
+    let met = c in
+    let bare = met in
+    let t = bare in
+    made t.args.slots.now t.args.keys.now t.args.cell.0 t.args.work bare.own_bare-bare.ensures bare.facing_bare-facing.ensures met.met_sides.ensures
 
-pub due-work-spec : {M : Type 1} → statement M
-due-work-spec =
-    tie.close
-    (tie.spec (λ c κs. (let p = c.before.requires in (omega (arith, p.0.small, p.1), p.1))) (λ c κs. c.before.before.requires.0) (λ c. omega (arith, few_own c.before)) (λ c κs. search rules)
-    (λ c. omega (arith, few_facing c.before.before.before.before)) returns)
+pub own_bare-bare-requires : goal.own_bare-bare-requires
+own_bare-bare-requires c = (let p = c.requires in (omega (arith, p.0.small, p.1), p.1))
+
+pub facing_bare-facing-requires : goal.facing_bare-facing-requires
+facing_bare-facing-requires c = c.requires.0
+
+pub overflow_sub-own : goal.overflow_sub-own
+overflow_sub-own c = omega (arith, few_own c.before.before)
+
+pub overflow_sub-result : goal.overflow_sub-result
+overflow_sub-result c = omega (arith, few_facing c.before.before.before.before.before)

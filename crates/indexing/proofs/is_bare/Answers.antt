@@ -1,0 +1,23 @@
+-- `indexing::is_bare` meets its contract. Assumes nothing.
+use mathlib.Core.Path.{sym, ap}
+use Prim.Native.Nat.{ℕ}
+use native.Mathlib.Omega.{arith}
+use lib.Dec.{eqb}
+use lib.ListN.{get_or, get_or-eq_default}
+use borrow.Author.Tests.{eq-eqb}
+use Rattle.rules.specs.Mesh.{NONE}
+use Rattle.rules.proofs.ListLaws.{within}
+use borrow.Author.Rules.{rules}
+use Rattle.indexing.proofs.is_bare.Goals as goal
+
+pub returns-then-key-eq-NONE : goal.returns-then-key-eq-NONE
+returns-then-key-eq-NONE c =
+    let t = c in
+    let k = c.if-key-eq-NONE.true in
+    sym (eq-eqb (get_or t.args.slots.now t.args.key NONE) NONE (get_or-eq_default t.args.slots.now NONE (omega (arith, t.requires.1))))
+
+pub bounds-slots-at : goal.bounds-slots-at
+bounds-slots-at c = let e = c in e.requires.0 e.if-key-eq-NONE.false
+
+pub returns : goal.returns
+returns c = let e = c in let t = e in ap (λ (w : ℕ). eqb w NONE) (within t.args.slots.now t.args.key 0 NONE (t.requires.0 e.if-key-eq-NONE.false))
