@@ -1,0 +1,21 @@
+-- `working::build_cube` meets its contract: the cube call's, of the shape that the file tells. Assumes nothing.
+use mathlib.Core.Path.{◌∙◌}
+use native.Mathlib.Omega.{arith}
+use Rattle.rules.specs.Calls.{generate_voxel_mesh}
+use Rattle.voxel_mesh.specs.Outcome.{shape_of}
+use Rattle.telling.proofs.Telling.{cube_told}
+use borrow.Author.Rules.{rules}
+use Rattle.working.proofs.build_cube.Goals as goal
+
+pub texture_of-requires : goal.texture_of-requires
+texture_of-requires c = let s = c in (s.requires.0, omega (arith, s.requires.1), search rules)
+
+pub returns : goal.returns
+returns c =
+    let called = c in
+    let shape = called in
+    let textured = shape in
+    let a = textured.args in
+    cube_told c.told_by_cube.ensures
+    (called.generate_voxel_mesh.ensures
+    ∙ (λ i. generate_voxel_mesh (shape_of (shape.shape_in.ensures i) (textured.texture_of.ensures i)) a.out.now))
