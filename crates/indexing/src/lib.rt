@@ -3,7 +3,7 @@
 
 ghost use Rattle.std.specs.Prelude.{◌≡◌, [], ◌∷◌, ℕ, ◌+◌, ◌*◌, ◌^◌, ◌≤◌, ◌<◌, max, length};
 ghost use Rattle.rules.specs.Cells.{UNIT, key_of, set_of};
-ghost use Rattle.rules.specs.Mesh.{NONE};
+ghost use Rattle.rules.specs.Mesh as rule;
 ghost use Rattle.face.specs.Face.{number};
 ghost use Rattle.entries.specs.Log.{entry_in};
 ghost use Rattle.works.specs.Sets.{set_in, key_met, deed_by, deeds};
@@ -154,7 +154,7 @@ fn lacks(slots: &[u32], cell: Cell, face: Face) -> bool
 
 // Whether the face of a key has none. NONE is no face, so it has none.
 fn is_bare(slots: &[u32], key: u32) -> bool
-    requires { ((key ≡ NONE → ⊥) → key < length slots.now) × (length slots.now ≤ NONE) }
+    requires { ((key ≡ rule.NONE → ⊥) → key < length slots.now) × (length slots.now ≤ rule.NONE) }
     ensures { result ≡ is_bare slots.now key }
 {
     if key == NONE {

@@ -3,7 +3,7 @@
 
 ghost use Rattle.std.specs.Prelude.{◌≡◌, map, ◌+◌, ◌-◌, ◌/◌, ◌^◌, ◌≤◌, ◌<◌, length, get_or, set, replicate};
 ghost use Rattle.rules.specs.Cells.{UNIT, link_word, code_in, key_of, key_in, first_vertex};
-ghost use Rattle.rules.specs.Mesh.{NONE};
+ghost use Rattle.rules.specs.Mesh as rule;
 ghost use Rattle.face.specs.Face.{number};
 ghost use Rattle.mesh_metadata.specs.Index.{vertex_in, vertex_of, shifted, renum, Linked};
 
@@ -42,7 +42,7 @@ fn fill(slots: &mut [u32], slot: usize, quad: Quad)
 
 // No face has a quad.
 pub fn new(slots: &mut [u32])
-    ensures { slots.new ≡ replicate (length slots.old) NONE }
+    ensures { slots.new ≡ replicate (length slots.old) rule.NONE }
 {
     let mut i = 0;
     while i < slots.len() {
@@ -65,7 +65,7 @@ pub fn insert(links: &mut [u32], slots: &mut [u32], face: Face, cell: Cell, quad
 
 pub fn get_quad_index(slots: &[u32], face: Face, cell: Cell) -> QuadIndex
     requires { (cell.0 < UNIT) × (key_of cell.0 (number face) < length slots.now) }
-    ensures { vertex_in result ≡ vertex_of (get_or slots.now (key_of cell.0 (number face)) NONE) }
+    ensures { vertex_in result ≡ vertex_of (get_or slots.now (key_of cell.0 (number face)) rule.NONE) }
 {
     let slot = wide(face::key(cell, face));
     let vertex = slots[slot];
@@ -79,7 +79,7 @@ pub fn get_quad_index(slots: &[u32], face: Face, cell: Cell) -> QuadIndex
 // The same by the face's key, where there is one.
 pub fn quad_of(slots: &[u32], key: u32) -> Quad
     requires { key < length slots.now }
-    ensures { result.0 ≡ get_or slots.now key NONE / 4 }
+    ensures { result.0 ≡ get_or slots.now key rule.NONE / 4 }
 {
     let slot = wide(key);
     let vertex = Vertex(slots[slot]);
@@ -99,7 +99,7 @@ pub fn change_quad_index(slots: &mut [u32], links: &[u32], old: Quad, new: Quad)
 // The slot of a removed quad's face, by its key, names none.
 pub fn remove_quad(slots: &mut [u32], key: u32)
     requires { key < length slots.old }
-    ensures { slots.new ≡ set slots.old key NONE }
+    ensures { slots.new ≡ set slots.old key rule.NONE }
 {
     let slot = wide(key);
     slots[slot] = NONE;

@@ -102,12 +102,12 @@ module _ (S : Scene) (g : List ℕ) (sets : ℕ → ℕ) where
       kept_slots = ap length d.slots_are ∙ kept_named 0 (keys_of sets 0 c) ss₀
 
 -- ---- the sets that the code finds are those of the fresh mesh
-module _ (S : Scene) (outer g : List ℕ) (culling by : Bool) (set : ℕ) (mode : by ≡ culling) (Named-by : set ≡ outer_set outer) where
+module _ (S : Scene) (outer g : List ℕ) (culling by : Bool) (set : ℕ) (mode : by ≡ culling) (named_by : set ≡ outer_set outer) where
   abbrev pub found : ℕ → ℕ
   found = set_at by (world_of S.size S.types.kinds S.types.covers) (faces_of set) g
 
   found_is : (c : ℕ) → found c ≡ set_at culling (world S) outer g c
-  found_is c = set_world S by (faces_of set) g c ∙ rw (mode, Named-by) (named_set culling (world S) outer g c)
+  found_is c = set_world S by (faces_of set) g c ∙ rw (mode, named_by) (named_set culling (world S) outer g c)
 
   pub found_asked : asked found 0 (cells S.size) ≡ length (fresh_mesh S outer g culling)
   found_asked = asked_moved found (set_at culling (world S) outer g) (cells S.size) 0 0 (λ x h. found_is (0 + x)) ∙ asked_fresh S outer g culling
