@@ -1,9 +1,9 @@
-# Sourced at the repository's root by the tools that build: whether a file was built by this tool and this kit from these very sources.
+# Sourced at the repository's root by the tools that build: whether a file was built by this kit from these very sources.
 # FILE.known beside it has the digest of the sources that it was built from, and its own.
-kit=${RATTLE_HOME:-$(dirname "$(readlink -f "$(command -v rt)")")/..}
+kit=$(dirname "$(readlink -f "$(command -v rt)")")/..
 sources=$({
   cat "$kit/KIT-ID"
-  find "tools/$(basename "$0")" crates.txt crates/*/src crates/*/specs crates/*/proofs -type f -exec sha256sum {} + | LC_ALL=C sort
+  find crates.txt crates/*/src crates/*/specs crates/*/proofs -type f -exec sha256sum {} + | LC_ALL=C sort
 } | sha256sum)
 
 digests() { echo "$sources $(sha256sum < "$1")"; }
