@@ -16,8 +16,8 @@ WORD = r"[^\s(){}.;,@\"«»\[\]|]+"
 DECLARED = re.compile(r"^[ \t]*(?:(?:pub|abbrev|unfoldable|data|record) +)*(" + WORD + r"(?: +" + WORD + r")*)((?: *[({][^\n]*?[)}])*) *:(?!=)", re.M)
 # Words of the library that a lemma's name may join by a dash.
 LIBRARY = {"length", "take", "drop", "get_or", "map", "append", "sum"}
-# Lemmas whose names would be those of a parameter or a field beside them, by hand.
-BY_HAND = {"put-mid": "put_mid_lem"}
+# Names by hand: one that the library has too, and an operator of words.
+BY_HAND = {"put-mid": "put_mid_lem", "◌and-then◌": "◌and_then◌"}
 LIBRARY_MEETS = {"put_mid"}
 CLAUSE = re.compile(r"(?:requires|ensures)\s*\*?\s*(?:\w+\s*)?\{|ghost\s*(?:\w+\s*(?::\s*(?:(?:owns|lends)\s*)?|=\s*))?\{")
 
@@ -40,13 +40,15 @@ def read(path):
         return f.read()
 
 
+def rewrite(path, text):
+    if text != read(path):
+        with open(path, "w", encoding="utf-8") as f:
+            f.write(text)
+
+
 def kind_of(path):
     parts = path.split("/")
     return "spec" if parts[2] == "specs" else "law" if len(parts) == 4 else "function"
-
-
-# An operator of words.
-BY_HAND["◌and-then◌"] = "◌and_then◌"
 
 
 def snake(name):
@@ -152,18 +154,9 @@ def main():
             if n.endswith("_lem") or "-" in n:
                 print("  ", o, n)
         return
-    for path in texts(".antt"):
-        text = read(path)
-        new = turn_antt(text, rows)
-        if new != text:
-            with open(path, "w", encoding="utf-8") as f:
-                f.write(new)
-    for path in texts(".rt"):
-        text = read(path)
-        new = turn_rt(text, rows)
-        if new != text:
-            with open(path, "w", encoding="utf-8") as f:
-                f.write(new)
+    for ending, turn in ((".antt", turn_antt), (".rt", turn_rt)):
+        for path in texts(ending):
+            rewrite(path, turn(read(path), rows))
     print(len(rows), "names")
     move_file("demands", "Contracts", "Promised")
 
@@ -179,9 +172,7 @@ def move_file(crate, old, new):
         turned = re.sub(rf"{crate}\.specs\.{old}\b", f"{crate}.specs.{new}", text)
         if path == f"crates/{crate}/specs/Lib.antt":
             turned = turned.replace(f"pub mod {old}\n", f"pub mod {new}\n")
-        if turned != text:
-            with open(path, "w", encoding="utf-8") as f:
-                f.write(turned)
+        rewrite(path, turned)
 
 
 main()
