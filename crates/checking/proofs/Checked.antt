@@ -12,7 +12,7 @@ use Rattle.rules.specs.Cells.{cells, code, code_in, cell_in}
 use Rattle.rules.specs.Floats.{finite}
 use Rattle.rules.specs.Types.{floats, cube_of, position_of, classed, is_cube}
 use Rattle.rules.specs.Mesh.{Lists, type_at, is_normal_cube, drawn, decoded, decode}
-use Rattle.rules.specs.Answers.{fine, ◌then◌, refuse_if, BAD_COUNT, wrong_face, WRONG_SET, wrong_vertex, WRONG_VERTEX}
+use Rattle.rules.specs.Answers.{fine, refuse_if, BAD_COUNT, wrong_face, WRONG_SET, wrong_vertex, WRONG_VERTEX}
 use Rattle.rules.specs.Check.{linked}
 use Rattle.rules.specs.Calls as rules
 use Rattle.rules.specs.Calls.{words_in, world, open_verdict, book_verdict, input_verdict}

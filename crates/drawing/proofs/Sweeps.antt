@@ -13,7 +13,7 @@ use Rattle.vav.specs.Rows.{put}
 use Rattle.vav.proofs.Laws.{put_none}
 use Rattle.drawing.specs.Written.{rows_of, side_row, side_words, quad_written, rows_written, Long}
 use Rattle.drawing.proofs.Sides.{row_wide}
-use Rattle.drawing.proofs.Turns.{Written, next, kept_rows}
+use Rattle.drawing.proofs.Turns.{next, kept_rows}
 
 module _ (S : Scene) (c base : ℕ) (sides : List ℕ) (vs : Vertices) where
   -- the quads of the first i faces are written

@@ -10,7 +10,7 @@ use borrow.Author.Tests.{ne_eqb}
 use Rattle.rules.specs.Lists.{table}
 use Rattle.rules.specs.Cells.{link_of, first_vertex}
 use Rattle.rules.specs.Mesh.{Quad, NONE, there, place_of, laid, slot_of}
-use Rattle.rules.specs.Update.{blank, remove_at, remove, moved_by, moved, step, run, moved_in, moves, highest}
+use Rattle.rules.specs.Update.{blank, remove_at, remove, moved_by, step, run, moved_in, moves, highest}
 use Rattle.rules.proofs.ListLaws.{All, all_at, all_kept, split, not_false, get_d_table}
 use Rattle.rules.proofs.Quads.{placed, length-remove_at}
 use Rattle.rules.proofs.Laying.{Fits}

@@ -13,7 +13,7 @@ use mir.Val.{bool_byte}
 use lib.Seq.{get_or-set_same, get_or-set_other}
 use borrow.Author.Count.{below_more}
 use borrow.Author.Tests.{ltb-true, ltb-false, lt-ltb, leb-true, leb-false, eq-eqb, ne_eqb, eqb-true, eqb-false}
-use Rattle.rules.specs.Lists.{every, member}
+use Rattle.rules.specs.Lists.{member}
 use Rattle.rules.specs.Cells.{Size, Triple, cells, coordinates, opposite, only_if, neighbour, has, set_of}
 use Rattle.rules.specs.Mesh.{type_at, shown, drawn}
 use Rattle.rules.proofs.ListLaws.{within}

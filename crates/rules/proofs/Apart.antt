@@ -13,7 +13,6 @@ use borrow.Author.Tests.{ltb-false}
 use Rattle.rules.specs.Lists.{each, part, row, table}
 use Rattle.rules.specs.Cells.{cells, key_in}
 use Rattle.rules.specs.Cube.{floats_of}
-use Rattle.rules.specs.Types.{floats}
 use Rattle.rules.specs.Mesh.{Quad, Attribute, position, normal, uv, colour, attribute_in, HasList, of_positions, of_normals, of_uvs, of_colours, Lists, rows, laid, attribute_laid, layout, decoded}
 use Rattle.rules.specs.Update.{Tested, Course}
 use Rattle.rules.specs.Answers.{Verdict, fine, refuse, ◌then◌, refuse_if, BAD_SIZE, SHORT_SLOTS, room_of, BAD_COUNT, bad_link, BAD_LINKS, BAD_ENTRY, WRONG_SET, wrong_vertex, WRONG_VERTEX}

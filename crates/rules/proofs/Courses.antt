@@ -13,7 +13,7 @@ use borrow.Author.Tests.{leb-true}
 use Rattle.rules.specs.Lists.{each, only}
 use Rattle.rules.specs.Cells.{cells, opposite, neighbour, key_of}
 use Rattle.rules.specs.Mesh.{Quad, World, is_normal_cube, covering, mesh_by, quads_by, type_at, there, place_of, quad_of}
-use Rattle.rules.specs.Update.{Change, Broken, Added, Sides, Replaced, Entry, given_at, blank, draw, shifts, remove_at, remove, moved, Op, put, cut, step, run, moves, highest, Work, Tested, sides, quads, conceal, reveal, all, is_open, to_hide, draws, nothing, added, added_if_cube, broken, first_half, second_half, work_by, work, cuts, puts, ops, needed, Course, course_from, mesh_after, empty_type, grid_by, grid_after, grid_log, Honest, Mends, AddsAlike}
+use Rattle.rules.specs.Update.{Change, Broken, Added, Sides, Replaced, Entry, given_at, blank, draw, shifts, remove_at, remove, Op, put, cut, step, run, moves, highest, Work, Tested, sides, quads, conceal, reveal, all, is_open, to_hide, draws, nothing, added, added_if_cube, broken, first_half, second_half, work_by, work, cuts, puts, ops, needed, Course, course_from, mesh_after, empty_type, grid_by, grid_after, grid_log, Honest, Mends, AddsAlike}
 use Rattle.rules.proofs.ListLaws.{All, all_append, all_take, all_drop, all_at, all_each, all_only, split, only_few, each_few}
 use Rattle.rules.proofs.Neighbours.{beside, opposite_lt}
 use Rattle.rules.proofs.Quads.{Once, placed, moved_le, length-remove_at, run-append, run_once}

@@ -14,7 +14,7 @@ use Rattle.rules.specs.Cells.{cells, first_vertex, link_of}
 use Rattle.rules.specs.Cube.{floats_of}
 use Rattle.rules.specs.Mesh.{Quad, Attribute, attribute_in, HasList, each_list, row_of, attribute_laid, Lists, NONE, there, place_of, rows, laid, slot_of, slotted, layout, pattern, decode}
 use Rattle.rules.specs.Update.{ENTRY_BYTES, Tested, source, Work, nothing, ops, needed, work, entry_at, blank, course_from}
-use Rattle.rules.specs.Answers.{fine, slot_at, SHORT_SLOTS, BAD_COUNT, BAD_SIZE, ◌then◌, BAD_ENTRY}
+use Rattle.rules.specs.Answers.{fine, slot_at, SHORT_SLOTS, BAD_COUNT, BAD_SIZE, BAD_ENTRY}
 use Rattle.rules.specs.Check.{linked}
 use Rattle.rules.specs.Calls.{answered, Scene, world, faces, room, book_verdict, lent_verdict, types_verdict, update_verdict, update_mesh}
 use Rattle.rules.proofs.Abacus.{scene, quads_in, above, below, with_above, null_unrefused, null_idle}

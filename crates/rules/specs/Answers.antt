@@ -1,5 +1,5 @@
 -- 01, "Limits and answers"; 02, Q-6, Q-7 and Q-8: the refusals, each with its condition and its place. Definitions only.
-use Rattle.std.specs.Prelude.{ℕ, ◌+◌, ◌-◌, ◌*◌, ◌/◌, ◌%◌, min, Bool, cond, not, ◌&&◌, ◌||◌, List, length, get_or, eqb, leb, ltb}
+use Rattle.std.specs.Prelude.{ℕ, ◌+◌, ◌*◌, ◌/◌, ◌%◌, min, Bool, cond, not, ◌&&◌, ◌||◌, List, length, get_or, eqb, leb, ltb}
 use Rattle.rules.specs.Lists.{every, count, lowest, row, same}
 use Rattle.rules.specs.Cells.{Size, Triple, cells, cell_in, code_in, key_in, first_vertex}
 use Rattle.rules.specs.Floats.{finite, finite3}

@@ -15,7 +15,7 @@ use Rattle.rules.specs.Lists.{every}
 use Rattle.rules.specs.Floats.{finite, finite3}
 use Rattle.rules.specs.Cells.{Triple, along}
 use Rattle.rules.specs.Cube.{Shape, floats_of, last_naming, atlas_along}
-use Rattle.rules.specs.Answers.{fine, ◌then◌, refuse_if, refuse_lowest, out_of, entries, bad_tile, bad_atlas, BAD_NUMBER, BAD_TEXTURE}
+use Rattle.rules.specs.Answers.{fine, refuse_if, refuse_lowest, out_of, entries, bad_tile, bad_atlas, BAD_NUMBER, BAD_TEXTURE}
 use Rattle.voxel_mesh.specs.Outcome.{Accepted, verdict_in}
 use Rattle.rules.proofs.ListLaws.{split, or_false}
 use Rattle.rules.proofs.Checking.{then_fine, if_fine}

@@ -13,7 +13,6 @@ use Rattle.terms.specs.Scenes.{scene_of}
 use Rattle.answers.proofs.Chains.{stops, passes, goes, then_assoc}
 use Rattle.lent.proofs.Linked.{few_linked}
 use Rattle.checking.proofs.Checked.{Opened, opened, gridded, faces_told, comparable, quads_told}
-use borrow.Author.Rules.{rules}
 use native.Mathlib.Omega.{arith}
 use Rattle.checking.proofs.check_mesh.Goals as goal
 use Rattle.checking.proofs.check_mesh.Lts

@@ -4,7 +4,6 @@ use Prim.Native.Nat.{◌+◌, ◌*◌}
 use Rattle.face.proofs.Sets.{set_of_lem}
 use Rattle.rules.specs.Answers.{is_filled}
 use Rattle.checking.proofs.Faces.{slot_is}
-use borrow.Author.Rules.{rules}
 use native.Mathlib.Omega.{arith}
 use Rattle.checking.proofs.filled_set.Goals as goal
 

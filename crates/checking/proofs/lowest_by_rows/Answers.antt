@@ -2,18 +2,17 @@
 use mathlib.Core.Path.{◌≡◌, refl, sym, ap, ◌∙◌}
 use mathlib.Core.Bool.{Bool}
 use mathlib.Core.List.{List}
-use Prim.Native.Nat.{ℕ, ◌+◌, ◌-◌, ◌*◌, ◌≤◌, ◌<◌}
-use borrow.Author.Rules.{rules}
+use Prim.Native.Nat.{ℕ, ◌+◌, ◌*◌, ◌≤◌, ◌<◌}
 use native.Mathlib.Omega.{arith}
 use lib.ListN.{length}
 use lib.Seq.{get_or-take, length-take-le}
 use Rattle.rules.specs.Lists.{lowest}
-use Rattle.rules.specs.Cells.{Size, cells, coordinates}
+use Rattle.rules.specs.Cells.{Size, cells}
 use Rattle.rules.specs.Mesh.{World, drawn}
-use Rattle.rules.proofs.Searches.{Searched, searched, ended}
-use Rattle.util.specs.Grid.{Starts, size_of, cords_of}
+use Rattle.rules.proofs.Searches.{searched, ended}
+use Rattle.util.specs.Grid.{Starts, size_of}
 use Rattle.culling.specs.Culling.{world_of, outer_set}
-use Rattle.checking.specs.Faces.{wrong_slot, wrong_in_row}
+use Rattle.checking.specs.Faces.{wrong_in_row}
 use Rattle.util.proofs.Rows.{first, row_end}
 use Rattle.checking.proofs.Rows.{row_right, row_wrong}
 use Rattle.checking.proofs.lowest_by_rows.Goals as goal
@@ -69,18 +68,17 @@ row i = let l = i.loop-row in record { inside = omega (arith, l.invariant.0, i.l
 
 pub drawn_row-requires : goal.drawn_row-requires
 drawn_row-requires c =
-    let i = c in
-    let s = given i.before.before in
+    let s = given c.before.before in
     let ok = s.requires.0 in
-    let look = i.look_of-look.ensures in (
+    let look = c.look_of-look.ensures in (
       record {
         grid = record { within = ok.within; whole = ok.whole; typed = ok.typed };
         both = s.requires.1;
         plain = look.1;
         outer = omega (arith, look.0, s.requires.3);
       },
-      row i.before.before,
-      omega (arith, i.loop-row.invariant.2, s.requires.4),
+      row c.before.before,
+      omega (arith, c.loop-row.invariant.2, s.requires.4),
       s.requires.5,
     )
 

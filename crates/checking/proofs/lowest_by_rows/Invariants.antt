@@ -1,20 +1,12 @@
-use mathlib.Core.Path.{◌≡◌, refl, sym, ap, ◌∙◌}
-use mathlib.Core.Bool.{Bool}
+use mathlib.Core.Path.{◌≡◌}
 use mathlib.Core.List.{List}
-use Prim.Native.Nat.{ℕ, ◌+◌, ◌-◌, ◌*◌, ◌≤◌, ◌<◌}
-use borrow.Author.Rules.{rules}
-use native.Mathlib.Omega.{arith}
+use Prim.Native.Nat.{ℕ, ◌-◌, ◌*◌, ◌≤◌}
 use lib.ListN.{length}
-use lib.Seq.{get_or-take, length-take-le}
-use Rattle.rules.specs.Lists.{lowest}
-use Rattle.rules.specs.Cells.{Size, cells, coordinates}
-use Rattle.rules.specs.Mesh.{World, drawn}
-use Rattle.rules.proofs.Searches.{Searched, searched, ended}
-use Rattle.util.specs.Grid.{Starts, size_of, cords_of}
+use Rattle.rules.specs.Cells.{cells, coordinates}
+use Rattle.rules.proofs.Searches.{Searched}
+use Rattle.util.specs.Grid.{size_of, cords_of}
 use Rattle.culling.specs.Culling.{world_of, outer_set}
-use Rattle.checking.specs.Faces.{wrong_slot, wrong_in_row}
-use Rattle.util.proofs.Rows.{first, row_end}
-use Rattle.checking.proofs.Rows.{row_right, row_wrong}
+use Rattle.checking.specs.Faces.{wrong_slot}
 use Rattle.checking.proofs.lowest_by_rows.Given as goal
 
 abbrev pub invariant-loop-row : goal.invariant-loop-row

@@ -1,17 +1,16 @@
 -- `checking::lowest_in_row` meets its contract. Assumes nothing.
 use mathlib.Core.Path.{◌≡◌, sym, ap, ◌∙◌}
 use mathlib.Core.Bool.{Bool}
-use Prim.Native.Nat.{ℕ, ◌+◌, ◌*◌, ◌≤◌, ◌<◌, ◌-◌}
+use Prim.Native.Nat.{ℕ, ◌+◌, ◌*◌, ◌≤◌, ◌<◌}
 use lib.ListN.{length, get_or}
-use Rattle.rules.specs.Cells.{has, set_of, key_of}
+use Rattle.rules.specs.Cells.{has, key_of}
 use Rattle.rules.proofs.ListLaws.{lowest_from_le}
 use Rattle.rules.proofs.Sets.{set_of_lt}
-use Rattle.rules.proofs.Searches.{Searched, searched, ended}
+use Rattle.rules.proofs.Searches.{searched, ended}
 use Rattle.rules.specs.Answers.{is_filled, unlike}
 use Rattle.checking.specs.Faces.{filled_set, wrong_in_row}
 use Rattle.checking.proofs.Faces.{all_like, first_unlike, cells_like, four_same, same_side}
 use Rattle.checking.proofs.Rows.{row_slot}
-use borrow.Author.Rules.{rules}
 use native.Mathlib.Omega.{arith}
 use Rattle.checking.proofs.lowest_in_row.Goals as goal
 use Rattle.checking.proofs.lowest_in_row.Lts
@@ -82,14 +81,13 @@ loop-x-smaller-then-are_alike c = omega (arith, inside c.before.before.before)
 
 pub loop-x-preserved-then-are_alike : goal.loop-x-preserved-then-are_alike
 loop-x-preserved-then-are_alike c =
-    let i = c in
-    let s = start i.before.before.before in
+    let s = start c.before.before.before in
     let sets = s.args.sets.now in
     let slots = s.args.slots.now in
     let first = s.args.first in
-    let x = i.loop-x.x in (
+    let x = c.loop-x.x in (
       fits c.before,
-      λ sides e. cells_like (6 * length sets) (wrong_in_row sides slots first) x 4 (omega (arith, fits c.before)) (i.loop-x.invariant.1 sides e)
+      λ sides e. cells_like (6 * length sets) (wrong_in_row sides slots first) x 4 (omega (arith, fits c.before)) (c.loop-x.invariant.1 sides e)
           (λ j l f h. let there : x + j < length sets = omega (arith, fits c.before) in
           let key : first + x + j ≡ first + (x + j) = omega arith in
           row_slot sides slots first (x + j) f h

@@ -1,17 +1,10 @@
-use mathlib.Core.Path.{◌≡◌, sym, ap, ◌∙◌}
+use mathlib.Core.Path.{◌≡◌}
 use mathlib.Core.Bool.{Bool}
-use Prim.Native.Nat.{ℕ, ◌+◌, ◌*◌, ◌≤◌, ◌<◌, ◌-◌}
+use Prim.Native.Nat.{ℕ, ◌*◌, ◌≤◌, ◌<◌, ◌-◌}
 use lib.ListN.{length, get_or}
-use Rattle.rules.specs.Cells.{has, set_of, key_of}
-use Rattle.rules.proofs.ListLaws.{lowest_from_le}
-use Rattle.rules.proofs.Sets.{set_of_lt}
-use Rattle.rules.proofs.Searches.{Searched, searched, ended}
-use Rattle.rules.specs.Answers.{is_filled, unlike}
-use Rattle.checking.specs.Faces.{filled_set, wrong_in_row}
-use Rattle.checking.proofs.Faces.{all_like, first_unlike, cells_like, four_same, same_side}
-use Rattle.checking.proofs.Rows.{row_slot}
-use borrow.Author.Rules.{rules}
-use native.Mathlib.Omega.{arith}
+use Rattle.rules.specs.Cells.{set_of}
+use Rattle.rules.proofs.Searches.{Searched}
+use Rattle.checking.specs.Faces.{wrong_in_row}
 use Rattle.checking.proofs.lowest_in_row.Given as goal
 
 abbrev pub invariant-loop-x : goal.invariant-loop-x

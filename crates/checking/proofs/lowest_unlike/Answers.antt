@@ -1,14 +1,13 @@
 -- `checking::lowest_unlike` meets its contract. Assumes nothing.
 use mathlib.Core.Path.{◌≡◌, sym, ap, ◌∙◌}
 use mathlib.Core.Bool.{not}
-use Prim.Native.Nat.{◌-◌, ◌/◌, ◌%◌, ◌^◌}
+use Prim.Native.Nat.{◌/◌, ◌%◌, ◌^◌}
 use lib.Dec.{eqb}
 use borrow.Author.Tests.{eq-eqb, ne_eqb}
 use Rattle.rules.specs.Cells.{has}
 use Rattle.rules.specs.Answers.{unlike}
 use Rattle.checking.proofs.Faces.{unlike_bits}
-use Rattle.rules.proofs.Searches.{Searched, searched, found, passed, ended}
-use borrow.Author.Rules.{rules}
+use Rattle.rules.proofs.Searches.{searched, found, passed, ended}
 use native.Mathlib.Omega.{arith}
 use Rattle.checking.proofs.lowest_unlike.Goals as goal
 use Rattle.checking.proofs.lowest_unlike.Goals.{In-loop-face}

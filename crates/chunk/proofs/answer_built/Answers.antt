@@ -13,7 +13,6 @@ use Rattle.lines.proofs.Lining.{faces_room}
 use Rattle.working.specs.Steps.{scene_with, worked_on}
 use Rattle.chunk.proofs.Rooms.{first_filled, first_wrote}
 use lib.Dec.{lit≤}
-use borrow.Author.Rules.{rules}
 use Rattle.chunk.proofs.answer_built.Goals as goal
 use Rattle.chunk.proofs.answer_built.Lts
 use Rattle.chunk.proofs.answer_built.Tie
@@ -29,7 +28,7 @@ abbrev After-covers_of : Type 0
 After-covers_of = Lts.After-covers_of Tie.the-claims Reads.Pre Reads.Post
 
 few-types : (c : After-read_work-work) → c.read_work-work.result.types ≤ 8
-few-types c = let s = c in omega (arith, types_are _ s.requires.0 c.read_work-work.ensures, s.requires.0.types)
+few-types c = omega (arith, types_are _ c.requires.0 c.read_work-work.ensures, c.requires.0.types)
 
 few-kinds : (c : After-kinds_of) → c.read_work-work.result.types ≤ length c.kinds_of.new.out
 few-kinds c = omega (arith, few-types c.before.before, c.kinds_of.auto.out)
@@ -41,10 +40,10 @@ pub read_work-work-requires : goal.read_work-work-requires
 read_work-work-requires c = c.requires.0
 
 pub kinds_of-requires : goal.kinds_of-requires
-kinds_of-requires c = let start = c in (start.requires.0, start.requires.0.types)
+kinds_of-requires c = (c.requires.0, c.requires.0.types)
 
 pub covers_of-requires : goal.covers_of-requires
-covers_of-requires c = let start = c in (start.requires.0, start.requires.0.types)
+covers_of-requires c = (c.requires.0, c.requires.0.types)
 
 pub outer_of-faces-requires : goal.outer_of-faces-requires
 outer_of-faces-requires c = lit≤ tt
@@ -73,18 +72,13 @@ answer_typed-requires c = c.requires
 
 pub returns : goal.returns
 returns c =
-    let called = c in
-    let faces = called in
-    let covered = faces in
-    let kinded = covered in
-    let read = kinded.read_work-work in
-    let s = kinded in
-    let file = s.args.file.now in
-    let cubes = s.args.cubes.now in
-    let types = types_are file s.requires.0 read.ensures in
-    let kinds = first_filled (λ t. type_byte file t 0) (type_count file) read.result.types _ _ types kinded.kinds_of.ensures in
-    let covers = first_filled (λ t. type_byte file t 1) (type_count file) read.result.types _ _ types covered.covers_of.ensures in
-    let outer = first_wrote faces.outer_of-faces.ensures ∙ ap (λ (w : Work). faces_of w.outer) read.ensures in
+    let read = c.read_work-work in
+    let file = c.args.file.now in
+    let cubes = c.args.cubes.now in
+    let types = types_are file c.requires.0 read.ensures in
+    let kinds = first_filled (λ t. type_byte file t 0) (type_count file) read.result.types _ _ types c.kinds_of.ensures in
+    let covers = first_filled (λ t. type_byte file t 1) (type_count file) read.result.types _ _ types c.covers_of.ensures in
+    let outer = first_wrote c.outer_of-faces.ensures ∙ ap (λ (w : Work). faces_of w.outer) read.ensures in
     wrote_as
     (λ i. lines_of (scene_with file (kinds i) (covers i) cubes) (worked_on file (scene_with file (kinds i) (covers i) cubes) (outer i) (room_in file)))
-    called.answer_typed.ensures
+    c.answer_typed.ensures

@@ -11,7 +11,6 @@ use Rattle.lines.proofs.Lining.{refused_room}
 use Rattle.telling.specs.Numbers.{told_of}
 use Rattle.chunk.proofs.Rooms.{room_lent, part_inside}
 use Rattle.working.proofs.Cubing.{stopped_lines, built_lines_lem}
-use borrow.Author.Rules.{rules}
 use Rattle.chunk.proofs.answer_good.Goals as goal
 use Rattle.chunk.proofs.answer_good.Lts
 use Rattle.chunk.proofs.answer_good.Tie
@@ -23,8 +22,7 @@ After-build_cubes-told = Lts.After-build_cubes Tie.the-claims Reads.Pre Reads.Po
 -- as much comes back as was lent
 back : (c : After-build_cubes-told) → length c.build_cubes-told.new.registry ≡ c.registry_words-words.result
 back c =
-    let words = c in
-    c.build_cubes-told.auto.registry ∙ sym (room_lent words.empty_room-registry.ensures _ (omega (arith, words.registry_words-words.ensures.1)))
+    c.build_cubes-told.auto.registry ∙ sym (room_lent c.empty_room-registry.ensures _ (omega (arith, c.registry_words-words.ensures.1)))
 
 back-first : (c : After-build_cubes-told)
     → take c.registry_words-words.result (c.build_cubes-told.new.registry ++ drop c.registry_words-words.result c.empty_room-registry.result)
@@ -47,11 +45,8 @@ write_refused-requires c = refused_room _ _ (omega arith) (omega arith) (omega a
 
 pub returns-then-told-ne0 : goal.returns-then-told-ne0
 returns-then-told-ne0 c =
-    let wrote = c in
-    let refused = wrote in
-    let made = refused in
-    wrote_as (stopped_lines made.args.file.now (told_of made.build_cubes-told.result) _ made.build_cubes-told.ensures refused.if-told-ne0.true)
-    wrote.write_refused.ensures
+    wrote_as (stopped_lines c.args.file.now (told_of c.build_cubes-told.result) _ c.build_cubes-told.ensures c.if-told-ne0.true)
+    c.write_refused.ensures
 
 pub slice_bounds-registry-end-2 : goal.slice_bounds-registry-end-2
 slice_bounds-registry-end-2 c = part_inside c.build_cubes-told.new.registry _ (back c.before.before.before.before)
@@ -64,11 +59,9 @@ answer_built-requires c = c.requires
 
 pub returns : goal.returns
 returns c =
-    let called = c in
-    let unless = called in
-    let made = unless.before.before.before.before.before.before.before.before.before in
+    let made = c.before.before.before.before.before.before.before.before.before in
     let file = made.args.file.now in
     wrote_as
     (ap (λ (cubes : List ℕ). lines_of (scene_in file cubes) (worked file (scene_in file cubes))) (back-first made)
-    ∙ built_lines_lem file (told_of made.build_cubes-told.result) _ made.build_cubes-told.ensures unless.if-told-ne0.false)
-    called.answer_built.ensures
+    ∙ built_lines_lem file (told_of made.build_cubes-told.result) _ made.build_cubes-told.ensures c.if-told-ne0.false)
+    c.answer_built.ensures

@@ -14,7 +14,6 @@ use Rattle.working.specs.Steps.{scene_with, worked_on}
 use Rattle.chunk.specs.Steps.{lines_with, Shown}
 use Rattle.chunk.proofs.Rooms.{room_lent, room_first, part_inside}
 use Rattle.chunk.proofs.Printing.{worked_shown, worked_lines}
-use borrow.Author.Rules.{rules}
 use Rattle.chunk.proofs.answer_typed.Goals as goal
 use Rattle.chunk.proofs.answer_typed.Lts
 use Rattle.chunk.proofs.answer_typed.Tie
@@ -102,15 +101,14 @@ write_answer-requires c =
 
 pub returns : goal.returns
 returns c =
-    let wrote = c in
-    let w = worked wrote.before.before.before.before.before.before in
+    let w = worked c.before.before.before.before.before.before in
     let t = start (counted w) in
     let a = t.args in
     wrote_as
     (ap (lines_with (told_of w.work_lists-told.result)) (back-first w)
     ∙ worked_lines a.file.now (scene t) a.outer.now (room_in a.file.now) (told_of w.work_lists-told.result) (exit w) (worked-so w)
     (λ e. (shown-in w a.out.now t.requires.1 e).most))
-    wrote.write_answer.ensures
+    c.write_answer.ensures
 
 pub slice_bounds-work_lists-end : goal.slice_bounds-work_lists-end
 slice_bounds-work_lists-end c = room_lent c.empty_room-positions.ensures _ (omega arith)

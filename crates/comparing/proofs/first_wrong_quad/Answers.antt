@@ -135,10 +135,9 @@ first_wrong_row-third-requires c =
 
 pub first_wrong_row-requires : goal.first_wrong_row-requires
 first_wrong_row-requires c =
-    let s = c in
-    let t = start1 s.before.before.before.before in
+    let t = start1 c.before.before.before.before in
     let has = of_colours c.if-scene.true in
-    (asked t s.first_wrong_row-third.result (omega (arith, third s.before.before, lowest_le t.args.count (three t))) colour _ has, t.requires.1, third-past s.before.before, right s.before.before.before.before.before colour _ has)
+    (asked t c.first_wrong_row-third.result (omega (arith, third c.before.before, lowest_le t.args.count (three t))) colour _ has, t.requires.1, third-past c.before.before, right c.before.before.before.before.before colour _ has)
 
 pub returns-then-scene : goal.returns-then-scene
 returns-then-scene c =
@@ -150,6 +149,5 @@ returns-then-scene c =
 
 pub returns : goal.returns
 returns c =
-    let s = c in
-    let t = start1 s.before.before.before.before in
-    third s.before.before ∙ ap (λ (b : Bool). lowest t.args.count (λ q. cond b (three t q || other t colour t.args.colours.now q) (three t q))) (sym c.if-scene.false)
+    let t = start1 c.before.before.before.before in
+    third c.before.before ∙ ap (λ (b : Bool). lowest t.args.count (λ q. cond b (three t q || other t colour t.args.colours.now q) (three t q))) (sym c.if-scene.false)

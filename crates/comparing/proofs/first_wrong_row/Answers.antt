@@ -15,11 +15,9 @@ use Rattle.util.specs.Grid.{size_of, triple_of}
 use Rattle.vav.specs.Attributes.{attribute_of}
 use Rattle.vav.proofs.Attributes.{few_floats}
 use Rattle.voxel_mesh.proofs.Shapes.{few, row_within}
-use Rattle.rules.proofs.Searches.{Searched, found, passed, ended}
-use Rattle.quads.specs.Quads.{Has}
+use Rattle.rules.proofs.Searches.{found, passed, ended}
 use Rattle.comparing.specs.Quads.{other_row, Comparable}
-use Rattle.comparing.proofs.Compared.{Agreed, agreed_same, agreed_not, searched_from, lent_is, row_next, Named, words_of, named_word, length-words, corners_within, drawable, row_inside, length_row_in}
-use borrow.Author.Rules.{rules}
+use Rattle.comparing.proofs.Compared.{agreed_same, agreed_not, searched_from, lent_is, row_next, Named, words_of, named_word, length-words, corners_within, drawable, row_inside, length_row_in}
 use native.Mathlib.Omega.{arith}
 use Rattle.comparing.proofs.first_wrong_row.Goals as goal
 use Rattle.comparing.proofs.first_wrong_row.Lts
@@ -264,13 +262,13 @@ pub loop-float-init : goal.loop-float-init
 loop-float-init c = (omega arith, λ has k h. c.loop-vertex.invariant.1 has k (omega arith))
 
 pub offset_bounds-list-row_start : goal.offset_bounds-list-row_start
-offset_bounds-list-row_start c = let w = c in let s = start w.before.before.before.before.before in omega (arith, words w.before.before.before.before.before)
+offset_bounds-list-row_start c = let s = start c.before.before.before.before.before in omega (arith, words c.before.before.before.before.before)
 
 pub slice_bounds-is_other_word-end : goal.slice_bounds-is_other_word-end
 slice_bounds-is_other_word-end c = words c.before.before.before.before.before
 
 pub offset_bounds-cubes-start : goal.offset_bounds-cubes-start
-offset_bounds-cubes-start c = let w = c in let s = start w.before.before.before.before.before.before in omega (arith, stretch w.before.before.before.before.before.before)
+offset_bounds-cubes-start c = let s = start c.before.before.before.before.before.before in omega (arith, stretch c.before.before.before.before.before.before)
 
 pub slice_bounds-is_other_word-end-in-loop-float : goal.slice_bounds-is_other_word-end-in-loop-float
 slice_bounds-is_other_word-end-in-loop-float c = stretch c.before.before.before.before.before.before

@@ -1,25 +1,11 @@
-use mathlib.Core.Path.{◌≡◌, sym, ap, subst, ◌∙◌}
-use mathlib.Core.Bool.{Bool, not}
-use mathlib.Core.List.{List}
-use Prim.Native.Nat.{ℕ, ◌+◌, ◌-◌, ◌*◌, ◌≤◌, ◌<◌}
-use lib.Dec.{eqb}
-use lib.ListN.{length, get_or, take, drop}
-use borrow.Author.Count.{below_more}
-use borrow.Author.Tests.{eqb-true, eqb-false, not-true, not-false}
-use Rattle.rules.specs.Lists.{row, lowest}
-use Rattle.rules.specs.Cells.{coordinates}
-use Rattle.rules.specs.Cube.{floats_of}
-use Rattle.rules.specs.Mesh.{Attribute}
-use Rattle.util.specs.Grid.{size_of, triple_of}
+use Prim.Native.Nat.{◌+◌, ◌-◌, ◌*◌, ◌≤◌}
+use lib.ListN.{get_or}
+use Rattle.rules.specs.Lists.{row}
 use Rattle.vav.specs.Attributes.{attribute_of}
-use Rattle.vav.proofs.Attributes.{few_floats}
-use Rattle.voxel_mesh.proofs.Shapes.{few, row_within}
-use Rattle.rules.proofs.Searches.{Searched, found, passed, ended}
+use Rattle.rules.proofs.Searches.{Searched}
 use Rattle.quads.specs.Quads.{Has}
-use Rattle.comparing.specs.Quads.{other_row, Comparable}
-use Rattle.comparing.proofs.Compared.{Agreed, agreed_same, agreed_not, searched_from, lent_is, row_next, Named, words_of, named_word, length-words, corners_within, drawable, row_inside, length_row_in}
-use borrow.Author.Rules.{rules}
-use native.Mathlib.Omega.{arith}
+use Rattle.comparing.specs.Quads.{other_row}
+use Rattle.comparing.proofs.Compared.{Agreed, words_of}
 use Rattle.comparing.proofs.first_wrong_row.Given as goal
 
 abbrev pub invariant-loop-float : goal.invariant-loop-float

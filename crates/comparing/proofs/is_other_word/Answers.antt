@@ -5,7 +5,6 @@ use Prim.Native.Nat.{ℕ, ◌+◌, ◌*◌, ◌<◌}
 use native.Mathlib.Omega.{arith}
 use lib.Dec.{eqb}
 use lib.ListN.{length, get_or}
-use borrow.Author.Rules.{rules}
 use Rattle.comparing.proofs.is_other_word.Goals as goal
 use Rattle.comparing.proofs.is_other_word.Lts
 use Rattle.comparing.proofs.is_other_word.Tie
@@ -16,10 +15,10 @@ After-width = Lts.After-width Tie.the-claims Reads.Pre Reads.Post
 
 -- the word lies in the row
 inside : (c : After-width) → let a = c.args in c.width.result * a.i + a.k < length a.row.now
-inside c = let t = c in subst (λ (w : ℕ). w * t.args.i + t.args.k < length t.args.row.now) (sym c.width.ensures) t.requires.4
+inside c = subst (λ (w : ℕ). w * c.args.i + c.args.k < length c.args.row.now) (sym c.width.ensures) c.requires.4
 
 pub quad_word-requires : goal.quad_word-requires
-quad_word-requires c = let t = c in (t.requires.0, t.requires.1, t.requires.2, t.requires.3)
+quad_word-requires c = (c.requires.0, c.requires.1, c.requires.2, c.requires.3)
 
 pub returns : goal.returns
 returns c =

@@ -5,12 +5,11 @@ use mathlib.Core.List.{List}
 use Prim.Native.Nat.{ℕ, ◌+◌, ◌-◌, ◌*◌, ◌≤◌}
 use native.Mathlib.Omega.{arith}
 use lib.ListN.{length, take, drop}
-use borrow.Author.Rules.{rules}
 use Rattle.rules.specs.Lists.{row, same}
 use Rattle.rules.specs.Cube.{floats_of}
 use Rattle.rules.specs.Types.{quad_words}
 use Rattle.rules.specs.Mesh.{Attribute, position, normal, uv, colour, attribute_in, Vertices, vertices_of, HasList, of_positions, of_normals, of_uvs, of_colours}
-use Rattle.rules.proofs.ListLaws.{not_true, same_refl}
+use Rattle.rules.proofs.ListLaws.{same_refl}
 use Rattle.rules.proofs.Rows.{length_lent}
 use Rattle.rules.proofs.Attributes.{inside_of}
 use Rattle.util.specs.Grid as grid

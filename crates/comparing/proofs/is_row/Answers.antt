@@ -1,21 +1,15 @@
 -- `comparing::is_row` meets its contract: a row whose vertices are all right. Assumes nothing.
 use mathlib.Core.Path.{◌≡◌, sym, subst, ◌∙◌}
-use mathlib.Core.Bool.{true, false, true≢false}
-use mathlib.Core.List.{List}
-use Prim.Native.Nat.{ℕ, zero, suc, ◌+◌, ◌-◌, ◌*◌, ◌≤◌, ◌<◌}
+use mathlib.Core.Bool.{true≢false}
+use Prim.Native.Nat.{ℕ, zero, suc, ◌+◌, ◌*◌, ◌≤◌, ◌<◌}
 use native.Mathlib.Nat.{mul-le-mul, mul-le-mul_left}
 use native.Mathlib.Omega.{arith}
 use lib.ListN.{length, get_or}
 use borrow.Author.Count.{below_more}
-use borrow.Author.Rules.{rules}
 use borrow.Author.Tests.{eqb-true}
-use Rattle.rules.specs.Types.{quad_words}
-use Rattle.rules.specs.Mesh.{Attribute, attribute_in}
 use Rattle.rules.proofs.ListLaws.{and_true, not_true, not_false}
 use Rattle.util.specs.Grid as grid
-use Rattle.util.specs.declared.Coordinates.{Coordinates}
 use Rattle.floats.specs.Triples.{triple_of}
-use Rattle.floats.specs.declared.Triple.{Triple}
 use Rattle.vav.specs.Attributes.{attribute_of}
 use Rattle.vav.proofs.Attributes.{few_floats}
 use Rattle.vav.proofs.Laws.{Begun, none_begun, begun_on, begun_all}
@@ -50,8 +44,7 @@ vertex-below n w i l e f h = below_four w i (subst (λ (k : ℕ). k * i < 4 * w)
 module _ (c : In-loop-i) where
   turning : c.loop-i.i < 4
   turning =
-      let t = c in
-      vertex-below _ _ _ _ c.width-width.ensures t.requires.2 c.loop-i-test.true
+      vertex-below _ _ _ _ c.width-width.ensures c.requires.2 c.loop-i-test.true
 
 long : (t : Start) →
     let a = t.args in length (wanted a.corners.now a.floats (attribute_of a.attribute) a.at a.d) ≡ 4 * (attribute_of a.attribute).width
@@ -71,22 +64,19 @@ overflow_mul-width c =
 
 pub is_other_word-requires : goal.is_other_word-requires
 is_other_word-requires c =
-    let t = c in
-    let w = (attribute_of t.args.attribute).width in
+    let w = (attribute_of c.args.attribute).width in
     let i = turning c.before.before.before in
     let e = c.width-width.ensures in
     let k : c.loop-k.k < w = omega (arith, c.loop-k-test.true) in
-    (t.requires.0, t.requires.1, i, k, omega (arith, row_within w c.loop-i.i 4 i, t.requires.2))
+    (c.requires.0, c.requires.1, i, k, omega (arith, row_within w c.loop-i.i 4 i, c.requires.2))
 
 pub overflow_add-k : goal.overflow_add-k
 overflow_add-k c =
-    let t = c in
-    omega (arith, c.loop-k-test.true, c.width-width.ensures, few_floats t.args.attribute)
+    omega (arith, c.loop-k-test.true, c.width-width.ensures, few_floats c.args.attribute)
 
 pub loop-k-preserved : goal.loop-k-preserved
 loop-k-preserved c =
-    let t = c in
-    let a = t.args in
+    let a = c.args in
     let b = attribute_of a.attribute in
     let i = c.loop-i.i in
     let k = c.loop-k.k in
@@ -97,14 +87,13 @@ loop-k-preserved c =
           let both = and_true _ _ good in
           let here : get_or a.row.now (b.width * i + k) 0 ≡ get_or words (b.width * i + k) 0 =
           eqb-true _ _ (not_true _ (sym c.is_other_word.ensures ∙ not_false _ both.1))
-          ∙ sym (word_at a.corners.now a.floats (triple_of a.d) 0 (grid.triple_of a.at) b t.requires.1 i k (turning c.before.before.before.before) K) in
+          ∙ sym (word_at a.corners.now a.floats (triple_of a.d) 0 (grid.triple_of a.at) b c.requires.1 i k (turning c.before.before.before.before) K) in
           below_more (λ (j : ℕ). get_or a.row.now (b.width * i + j) 0 ≡ get_or words (b.width * i + j) 0) k (c.loop-k.invariant.1 both.0) here,
     )
 
 pub loop-i-preserved : goal.loop-i-preserved
 loop-i-preserved c =
-    let t = c in
-    let a = t.args in
+    let a = c.args in
     let b = attribute_of a.attribute in
     let l = c.loop-i in
     let e = c.width-width.ensures in
@@ -117,11 +106,10 @@ loop-i-preserved c =
 
 pub returns : goal.returns
 returns c good =
-    let t = c in
-    let b = attribute_of t.args.attribute in
+    let b = attribute_of c.args.attribute in
     let past : 4 * b.width ≤ b.width * c.loop-i.i =
-    subst (λ (k : ℕ). 4 * b.width ≤ k * c.loop-i.i) c.width-width.ensures (subst (λ (k : ℕ). k ≤ c.width-width.result * c.loop-i.i) t.requires.2 c.loop-i-test.false) in
-    begun_all _ (omega (arith, long t.before.before.before.before.before.before)) c.loop-i.invariant.1
+    subst (λ (k : ℕ). 4 * b.width ≤ k * c.loop-i.i) c.width-width.ensures (subst (λ (k : ℕ). k ≤ c.width-width.result * c.loop-i.i) c.requires.2 c.loop-i-test.false) in
+    begun_all _ (omega (arith, long c.before.before.before.before.before.before)) c.loop-i.invariant.1
 
 pub loop-k-init : goal.loop-k-init
 loop-k-init c = (omega arith, λ good j h. absurd (omega arith))

@@ -1,26 +1,16 @@
-use mathlib.Core.Path.{◌≡◌, sym, subst, ◌∙◌}
-use mathlib.Core.Bool.{true, false, true≢false}
+use mathlib.Core.Path.{◌≡◌}
+use mathlib.Core.Bool.{true}
 use mathlib.Core.List.{List}
-use Prim.Native.Nat.{ℕ, zero, suc, ◌+◌, ◌-◌, ◌*◌, ◌≤◌, ◌<◌}
-use native.Mathlib.Nat.{mul-le-mul, mul-le-mul_left}
-use native.Mathlib.Omega.{arith}
-use lib.ListN.{length, get_or}
-use borrow.Author.Count.{below_more}
-use borrow.Author.Rules.{rules}
-use borrow.Author.Tests.{eqb-true}
+use Prim.Native.Nat.{ℕ, ◌+◌, ◌-◌, ◌*◌, ◌≤◌, ◌<◌}
+use lib.ListN.{get_or}
 use Rattle.rules.specs.Types.{quad_words}
 use Rattle.rules.specs.Mesh.{Attribute, attribute_in}
-use Rattle.rules.proofs.ListLaws.{and_true, not_true, not_false}
 use Rattle.util.specs.Grid as grid
 use Rattle.util.specs.declared.Coordinates.{Coordinates}
 use Rattle.floats.specs.Triples.{triple_of}
 use Rattle.floats.specs.declared.Triple.{Triple}
 use Rattle.vav.specs.Attributes.{attribute_of}
-use Rattle.vav.proofs.Attributes.{few_floats}
-use Rattle.vav.proofs.Laws.{Begun, none_begun, begun_on, begun_all}
-use Rattle.voxel_mesh.proofs.Shapes.{row_within}
-use Rattle.quads.proofs.Writing.{word_at, length_row_of}
-use Rattle.comparing.proofs.Compared.{row_next}
+use Rattle.vav.proofs.Laws.{Begun}
 use Rattle.comparing.proofs.is_row.Given as goal
 
 -- the words as they should be

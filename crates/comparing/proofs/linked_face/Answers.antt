@@ -2,14 +2,12 @@
 use mathlib.Core.Path.{ap, ◌∙◌}
 use Prim.Native.Nat.{ℕ, ◌+◌, ◌-◌, ◌*◌}
 use lib.ListN.{get_or}
-use borrow.Author.Rules.{rules}
 use Rattle.rules.specs.Cells.{cell_in}
 use Rattle.rules.proofs.ListLaws.{within}
 use Rattle.comparing.proofs.linked_face.Goals as goal
 
 pub returns : goal.returns
 returns c =
-    let t = c in
-    let g = t.args.grid.now in
-    let kind = ap (λ (k : ℕ). get_or g k 0) c.cell_of-place.ensures ∙ within g (cell_in t.args.link) 0 255 t.requires.1 in
+    let g = c.args.grid.now in
+    let kind = ap (λ (k : ℕ). get_or g k 0) c.cell_of-place.ensures ∙ within g (cell_in c.args.link) 0 255 c.requires.1 in
     c.face_among.ensures ∙ (λ i. 6 * kind i + (5 - c.code_of.ensures i))

@@ -2,16 +2,14 @@
 use mathlib.Core.Path.{◌≡◌, sym, ap, subst, ◌∙◌}
 use mathlib.Core.Bool.{false}
 use mathlib.Core.List.{List}
-use Prim.Native.Nat.{ℕ, ◌+◌, ◌-◌, ◌*◌, ◌≤◌, ◌<◌}
+use Prim.Native.Nat.{ℕ, ◌+◌, ◌*◌, ◌≤◌, ◌<◌}
 use native.Mathlib.Omega.{arith}
 use lib.ListN.{length, get_or}
 use borrow.Author.Count.{below_more}
-use borrow.Author.Rules.{rules}
 use Rattle.rules.specs.Cells.{Triple, coordinates}
 use Rattle.rules.specs.Cube.{floats_of}
 use Rattle.rules.specs.Types.{quad_words}
 use Rattle.rules.specs.Mesh.{Vertices, vertices_of}
-use Rattle.rules.proofs.ListLaws.{not_true}
 use Rattle.util.specs.Grid as grid
 use Rattle.util.specs.Grid.{size_of}
 use Rattle.floats.specs.Triples.{triple_of}
@@ -164,7 +162,7 @@ pub slice_bounds-is_quad-end : goal.slice_bounds-is_quad-end
 slice_bounds-is_quad-end c = stretch c.before
 
 pub overflow_add-quad : goal.overflow_add-quad
-overflow_add-quad c = let w = c in let s = start w.before.before.before.before in omega (arith, counted w.before.before.before.before)
+overflow_add-quad c = let s = start c.before.before.before.before in omega (arith, counted c.before.before.before.before)
 
 pub loop-quad-smaller : goal.loop-quad-smaller
 loop-quad-smaller c = omega (arith, counted c.before.before.before.before)

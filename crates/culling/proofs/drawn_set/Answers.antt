@@ -11,7 +11,6 @@ use Rattle.culling.specs.Culling.{world_of, shown_at}
 use Rattle.rules.proofs.ListLaws.{within}
 use mathlib.Core.List.{[]}
 use Rattle.culling.proofs.Sides.{six_sides, set_of_cong, shown_by, only_if}
-use borrow.Author.Rules.{rules}
 use native.Mathlib.Omega.{arith}
 use Rattle.culling.proofs.drawn_set.Goals as goal
 use Rattle.culling.proofs.drawn_set.Lts
@@ -43,17 +42,16 @@ bounds-kinds-code c =
 
 pub returns : goal.returns
 returns c =
-    λ faces e. let sides = c in
-    let w = sides.before.before.before.before.before.before.before.before.before.before in
+    λ faces e. let w = c.before.before.before.before.before.before.before.before.before.before in
     let args = (start w).args in
     let size = size_of args.dims in
     let g = args.grid.now in
     let side : ℕ → Bool = shown_at size args.covers.now faces g args.cell.0 in
     c.bit_if.ensures.0
     ∙ ap (λ (n : ℕ). cond (is_cube w w.wide-code.result) n 0)
-    (sides.side_set-shown.ensures
-    ∙ six_sides side (sides.is_shown.ensures faces e) (sides.is_shown-2.ensures faces e) (sides.is_shown-3.ensures faces e)
-    (sides.is_shown-4.ensures faces e) (sides.is_shown-5.ensures faces e) (sides.is_shown-6.ensures faces e))
+    (c.side_set-shown.ensures
+    ∙ six_sides side (c.is_shown.ensures faces e) (c.is_shown-2.ensures faces e) (c.is_shown-3.ensures faces e)
+    (c.is_shown-4.ensures faces e) (c.is_shown-5.ensures faces e) (c.is_shown-6.ensures faces e))
     ∙ only_if (is_cube w w.wide-code.result) side
     ∙ set_of_cong (λ f. is_cube w w.wide-code.result && side f) (drawn (world_of size args.kinds.now args.covers.now) faces g args.cell.0)
     (λ f l. rw (cube w) (ap (λ (b : Bool). is_cube w w.wide-code.result && b) (shown_by (world_of size [] args.covers.now) (world_of size args.kinds.now args.covers.now) faces g f (neighbour size args.cell.0 f) refl)))

@@ -3,16 +3,15 @@ use mathlib.Core.Path.{◌≡◌, sym, ap, ◌∙◌}
 use mathlib.Core.Bool.{not}
 use mathlib.Core.Option.{none, some}
 use Prim.Native.Nat.{ℕ, ◌<◌}
-use lib.ListN.{length}
+use lib.ListN.{length, get_or}
 use Rattle.rules.specs.Lists.{member}
-use Rattle.rules.specs.Cells.{neighbour}
+use Rattle.rules.specs.Cells.{neighbour, has}
 use Rattle.rules.proofs.Neighbours.{beside}
 use Rattle.face.specs.Face.{number}
 use Rattle.face.proofs.Laws.{number_below}
 use Rattle.util.specs.Grid.{size_of, cell_in}
 use Rattle.rules.proofs.ListLaws.{within}
 use Rattle.rules.proofs.Sets.{has-set_of}
-use borrow.Author.Rules.{rules}
 use Rattle.culling.proofs.is_shown.Goals as goal
 use Rattle.culling.proofs.is_shown.Lts
 use Rattle.culling.proofs.is_shown.Tie
@@ -51,7 +50,8 @@ pub returns-in-At : goal.returns-in-At
 returns-in-At c =
     λ faces e. let side = c.before.before.before.before.before.before.before in
     let code = within (start side).args.grid.now (cell side) 0 255 (inside side) in
-    rw (next side) (ap not (rw (c.opposite-facing.ensures, c.wide-code.ensures, code) at c.has.ensures))
+    let facing = ap (has (get_or c.args.covers.now c.wide-code.result 0)) c.opposite-facing.ensures in
+    rw (next side) (ap not (rw (c.wide-code.ensures, code) at (c.has.ensures ∙ facing)))
 
 pub returns-in-Nothing : goal.returns-in-Nothing
 returns-in-Nothing c =

@@ -1,12 +1,10 @@
 -- `culling::outer_set` meets its contract. Assumes nothing.
-use mathlib.Core.Path.{◌≡◌, ap, ◌∙◌}
-use Prim.Native.Nat.{◌≤◌, ◌-◌}
+use mathlib.Core.Path.{ap, ◌∙◌}
 use lib.Bits.{bit_or}
-use lib.ListN.{length, get_or, take}
+use lib.ListN.{get_or}
 use lib.Seq.{take_all}
 use Rattle.culling.specs.Culling.{outer_set}
 use Rattle.culling.proofs.Sides.{outer_none, outer_more, shifted}
-use borrow.Author.Rules.{rules}
 use native.Mathlib.Omega.{arith}
 use Rattle.culling.proofs.outer_set.Goals as goal
 

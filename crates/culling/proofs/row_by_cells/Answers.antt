@@ -1,15 +1,10 @@
 -- `culling::row_by_cells` meets its contract: the cells before x are done. Assumes nothing.
-use mathlib.Core.Path.{◌≡◌, refl}
-use mathlib.Core.List.{List}
-use Prim.Native.Nat.{ℕ, ◌+◌, ◌-◌, ◌≤◌}
-use lib.ListN.{length, length-set}
-use Rattle.rules.specs.Cells.{set_of}
-use Rattle.rules.specs.Mesh.{drawn}
+use mathlib.Core.Path.{refl}
+use Prim.Native.Nat.{◌+◌, ◌≤◌}
+use lib.ListN.{length-set}
 use Rattle.util.specs.Grid.{size_of}
 use Rattle.util.proofs.Rows.{row_end, row_cords}
-use Rattle.culling.specs.Culling.{world_of, outer_set}
-use Rattle.culling.proofs.Passing.{Passed, passed, pass}
-use borrow.Author.Rules.{rules}
+use Rattle.culling.proofs.Passing.{passed, pass}
 use native.Mathlib.Omega.{arith}
 use Rattle.culling.proofs.row_by_cells.Goals as goal
 use Rattle.culling.proofs.row_by_cells.Lts
@@ -31,10 +26,9 @@ overflow_add-row c = omega (arith, ends c.before.before.before.before.before.bef
 
 pub drawn_set-requires : goal.drawn_set-requires
 drawn_set-requires c =
-    let s = c in
-    let size = size_of s.args.dims in
-    let w = s.requires.0.within in
-    (s.requires.0, omega (arith, row_end size w s.requires.2), row_cords size w s.requires.2 _ c.loop-x-test.true, s.requires.1)
+    let size = size_of c.args.dims in
+    let w = c.requires.0.within in
+    (c.requires.0, omega (arith, row_end size w c.requires.2), row_cords size w c.requires.2 _ c.loop-x-test.true, c.requires.1)
 
 pub bounds-sets-x : goal.bounds-sets-x
 bounds-sets-x c = omega arith

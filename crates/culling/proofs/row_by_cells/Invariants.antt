@@ -1,15 +1,12 @@
-use mathlib.Core.Path.{◌≡◌, refl}
+use mathlib.Core.Path.{◌≡◌}
 use mathlib.Core.List.{List}
 use Prim.Native.Nat.{ℕ, ◌+◌, ◌-◌, ◌≤◌}
-use lib.ListN.{length, length-set}
+use lib.ListN.{length}
 use Rattle.rules.specs.Cells.{set_of}
 use Rattle.rules.specs.Mesh.{drawn}
 use Rattle.util.specs.Grid.{size_of}
-use Rattle.util.proofs.Rows.{row_end, row_cords}
 use Rattle.culling.specs.Culling.{world_of, outer_set}
-use Rattle.culling.proofs.Passing.{Passed, passed, pass}
-use borrow.Author.Rules.{rules}
-use native.Mathlib.Omega.{arith}
+use Rattle.culling.proofs.Passing.{Passed}
 use Rattle.culling.proofs.row_by_cells.Given as goal
 
 abbrev pub invariant-loop-x : goal.invariant-loop-x

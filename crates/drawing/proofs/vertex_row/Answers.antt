@@ -1,15 +1,12 @@
 -- `drawing::vertex_row` meets its contract: before face i, the faces before it are written. Assumes nothing.
 use mathlib.Core.Path.{◌≡◌, refl, ◌∙◌}
 use mathlib.Core.List.{[]}
-use Prim.Native.Nat.{◌-◌, ◌≤◌}
 use native.Mathlib.Omega.{arith}
 use lib.ListN.{length}
-use borrow.Author.Rules.{rules}
-use Rattle.rules.specs.Mesh.{vertices_of}
 use Rattle.rules.specs.Calls.{Scene}
 use Rattle.terms.specs.Scenes.{scene_of}
-use Rattle.drawing.proofs.Lengths.{Alike, alike_long, fewer}
-use Rattle.drawing.proofs.Sweeps.{Swept, begun, further, swept}
+use Rattle.drawing.proofs.Lengths.{alike_long, fewer}
+use Rattle.drawing.proofs.Sweeps.{begun, further, swept}
 use Rattle.drawing.proofs.vertex_row.Goals as goal
 use Rattle.drawing.proofs.vertex_row.Lts
 use Rattle.drawing.proofs.vertex_row.Tie
@@ -24,19 +21,17 @@ scene t = scene_of t.args.scene [] [] t.args.cubes.now
 pub write_side-requires : goal.write_side-requires
 write_side-requires c =
     let l = c.loop-i in
-    let t = c in
     let i = c.loop-i-test.true in
-    (t.requires.0, t.requires.1, t.requires.2 l.i i, fewer t.args.scene.coloured _ (omega arith) (alike_long t.args.scene.coloured _ _ _ l.invariant.1 t.requires.3))
+    (c.requires.0, c.requires.1, c.requires.2 l.i i, fewer c.args.scene.coloured _ (omega arith) (alike_long c.args.scene.coloured _ _ _ l.invariant.1 c.requires.3))
 
 pub loop-i-preserved : goal.loop-i-preserved
 loop-i-preserved c =
-    let wrote = c in
     let l = c.loop-i in
     let t = c.before.before.before.before.before.before.before.before.before.before.before.before.before.before.before.before.before.before.before.before.before.before.before in
-    let k = wrote.write_side.auto in (
+    let k = c.write_side.auto in (
       omega arith,
       record { positions = k.positions ∙ l.invariant.1.positions; normals = k.normals ∙ l.invariant.1.normals; uvs = k.uvs ∙ l.invariant.1.uvs; colours = k.colours ∙ l.invariant.1.colours },
-      further (scene t) _ _ _ _ t.requires.3 c.loop-i-test.true l.invariant.2 wrote.write_side.ensures,
+      further (scene t) _ _ _ _ t.requires.3 c.loop-i-test.true l.invariant.2 c.write_side.ensures,
     )
 
 pub returns : goal.returns

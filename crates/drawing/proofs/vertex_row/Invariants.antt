@@ -1,14 +1,10 @@
-use mathlib.Core.Path.{◌≡◌, refl, ◌∙◌}
 use mathlib.Core.List.{[]}
 use Prim.Native.Nat.{◌-◌, ◌≤◌}
-use native.Mathlib.Omega.{arith}
 use lib.ListN.{length}
-use borrow.Author.Rules.{rules}
 use Rattle.rules.specs.Mesh.{vertices_of}
-use Rattle.rules.specs.Calls.{Scene}
 use Rattle.terms.specs.Scenes.{scene_of}
-use Rattle.drawing.proofs.Lengths.{Alike, alike_long, fewer}
-use Rattle.drawing.proofs.Sweeps.{Swept, begun, further, swept}
+use Rattle.drawing.proofs.Lengths.{Alike}
+use Rattle.drawing.proofs.Sweeps.{Swept}
 use Rattle.drawing.proofs.vertex_row.Given as goal
 
 abbrev pub invariant-loop-i : goal.invariant-loop-i

@@ -2,7 +2,6 @@
 use Prim.Native.Nat.{◌+◌, ◌*◌}
 use native.Mathlib.Omega.{arith}
 use lib.ListN.{length-set}
-use borrow.Author.Rules.{rules}
 use Rattle.drawing.proofs.Turns.{six_stored}
 use Rattle.drawing.proofs.write_pattern.Goals as goal
 

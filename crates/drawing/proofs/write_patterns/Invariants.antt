@@ -1,6 +1,5 @@
 use Prim.Native.Nat.{◌-◌, ◌≤◌}
-use native.Mathlib.Omega.{arith}
-use Rattle.drawing.proofs.Patterns.{Patterned, start, next, stop}
+use Rattle.drawing.proofs.Patterns.{Patterned}
 use Rattle.drawing.proofs.write_patterns.Given as goal
 
 abbrev pub invariant-loop-q : goal.invariant-loop-q

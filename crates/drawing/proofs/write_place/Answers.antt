@@ -3,7 +3,6 @@ use mathlib.Core.Path.{◌≡◌, sym, ap, ◌∙◌, subst}
 use Prim.Native.Nat.{ℕ, ◌+◌, ◌-◌, ◌*◌, ◌≤◌}
 use native.Mathlib.Omega.{arith}
 use lib.ListN.{length, take, drop}
-use borrow.Author.Rules.{rules}
 use Rattle.rules.specs.Mesh.{attribute_in}
 use Rattle.rules.specs.Types.{quad_words}
 use Rattle.rules.proofs.Rows.{length_lent}
@@ -44,20 +43,19 @@ long : (c : After-width-words) →
 long c = length_lent (words c * (begun c).args.q) (words c) (begun c).args.list.now (fits c) ∙ ap (λ (w : ℕ). 4 * w) c.width-words.ensures
 
 pub write_attribute-requires : goal.write_attribute-requires
-write_attribute-requires c = let w = c in let t = begun w.before.before in (t.requires.0, t.requires.1, long w.before.before)
+write_attribute-requires c = let t = begun c.before.before in (t.requires.0, t.requires.1, long c.before.before)
 
 pub returns : goal.returns
 returns c =
-    let wrote = c in
-    let w = wrote.before.before.before.before.before in
+    let w = c.before.before.before.before.before in
     let t = begun w in
     let a = t.args in
     let n = a.floats in
     let b = attribute_of a.attribute in
     let d = triple_of a.d in
     let at = grid.triple_of a.at in
-    lent (words w * a.q) (words w) a.list.now wrote.write_attribute.new.out (attribute_in n b 4 (quad_words a.corners.now n d 0 at))
-    wrote.write_attribute.ensures (length_row_of a.corners.now n d 0 at b t.requires.1 ∙ ap (λ (k : ℕ). 4 * k) (sym w.width-words.ensures))
+    lent (words w * a.q) (words w) a.list.now c.write_attribute.new.out (attribute_in n b 4 (quad_words a.corners.now n d 0 at))
+    c.write_attribute.ensures (length_row_of a.corners.now n d 0 at b t.requires.1 ∙ ap (λ (k : ℕ). 4 * k) (sym w.width-words.ensures))
     ∙ ap (λ (k : ℕ). put (4 * k * a.q) (attribute_in n b 4 (quad_words a.corners.now n d 0 at)) a.list.now) w.width-words.ensures
 
 pub overflow_mul-start : goal.overflow_mul-start

@@ -3,7 +3,6 @@ use mathlib.Core.Path.{◌≡◌, ap, ◌∙◌}
 use mathlib.Core.List.{List}
 use Prim.Native.Nat.{ℕ, ◌+◌, ◌*◌, ◌≤◌}
 use lib.ListN.{length}
-use borrow.Author.Rules.{rules}
 use Rattle.rules.specs.Cube.{floats_of}
 use Rattle.rules.specs.Types.{quad_words}
 use Rattle.rules.specs.Mesh.{Attribute, position, normal, uv, colour, attribute_in, Vertices, vertices_of, HasList, of_positions, of_normals, of_uvs, of_colours}

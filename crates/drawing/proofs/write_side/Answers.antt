@@ -5,7 +5,6 @@ use mathlib.Core.List.{List, []}
 use Prim.Native.Nat.{ℕ, ◌+◌, ◌-◌, ◌*◌, ◌/◌, ◌%◌, ◌≤◌, ◌<◌}
 use native.Mathlib.Omega.{arith}
 use lib.ListN.{length, take, drop}
-use borrow.Author.Rules.{rules}
 use Rattle.rules.specs.Cells.{Triple, coordinates}
 use Rattle.rules.specs.Cube.{floats_of}
 use Rattle.rules.specs.Types.{floats, cube_of, quad_words}
@@ -87,25 +86,21 @@ module _ (s : Start) {b : Bool} (tint : s.args.scene.coloured ≡ b) where
   said e = e ∙ λ i. quad_written (sym tint i) s.args.q (drawn i) (vertices s)
 
 pub slice_bounds-write_places-end : goal.slice_bounds-write_places-end
-slice_bounds-write_places-end c = let arm = c in ends (given arm.before.before.before.before.before.before) arm.if-scene.true
+slice_bounds-write_places-end c = ends (given c.before.before.before.before.before.before) c.if-scene.true
 
 pub write_places-requires : goal.write_places-requires
-write_places-requires c = let arm = c in asked (given arm.before.before.before.before.before.before.before.before) arm.if-scene.true
+write_places-requires c = asked (given c.before.before.before.before.before.before.before.before) c.if-scene.true
 
 pub returns-then-scene : goal.returns-then-scene
 returns-then-scene c =
-    let wrote = c in
-    let arm = wrote in
-    said (given arm.before.before.before.before.before.before.before.before.before.before.before.before.before.before.before.before.before) arm.if-scene.true wrote.write_places.ensures
+    said (given c.before.before.before.before.before.before.before.before.before.before.before.before.before.before.before.before.before) c.if-scene.true c.write_places.ensures
 
 pub slice_bounds-write_places-end-2 : goal.slice_bounds-write_places-end-2
-slice_bounds-write_places-end-2 c = let arm = c in ends (given arm.before.before.before.before.before.before) arm.if-scene.false
+slice_bounds-write_places-end-2 c = ends (given c.before.before.before.before.before.before) c.if-scene.false
 
 pub write_places-requires-2 : goal.write_places-requires-2
-write_places-requires-2 c = let arm = c in asked (given arm.before.before.before.before.before.before.before.before) arm.if-scene.false
+write_places-requires-2 c = asked (given c.before.before.before.before.before.before.before.before) c.if-scene.false
 
 pub returns : goal.returns
 returns c =
-    let wrote = c in
-    let arm = wrote in
-    said (given arm.before.before.before.before.before.before.before.before.before.before.before.before.before.before.before.before.before) arm.if-scene.false wrote.write_places-2.ensures
+    said (given c.before.before.before.before.before.before.before.before.before.before.before.before.before.before.before.before.before) c.if-scene.false c.write_places-2.ensures

@@ -1,4 +1,4 @@
-use Rattle.std.proofs.Common.{◌+◌, get_or, rules, eq-eqb, ne_eqb}
+use Rattle.std.proofs.Common.{◌+◌, get_or, eq-eqb, ne_eqb}
 use Rattle.rules.specs.Answers.{bad_bytes}
 use Rattle.entries.proofs.bad_bytes.Goals as goal
 

@@ -1,4 +1,4 @@
-use Rattle.std.proofs.Common.{◌+◌, ◌*◌, ◌||◌, ltb, leb, get_or, rules}
+use Rattle.std.proofs.Common.{◌+◌, ◌*◌, ◌||◌, ltb, leb, get_or}
 use Rattle.rules.specs.Update.{ENTRY_BYTES}
 use Rattle.rules.specs.Answers.{bad_former, bad_entry}
 use Rattle.entries.proofs.bad_entry.Goals as goal
@@ -7,11 +7,7 @@ use Rattle.entries.proofs.bad_entry.Goals as goal
 pub returns : goal.returns
 unfolding bad_entry bad_former
 returns c =
-    let former = c in
-    let bytes = former in
-    let voxel = bytes in
-    let cell = voxel in
-    let a = cell.args in
+    let a = c.args in
     let at = ENTRY_BYTES * a.k in
-    λ i. leb 16777216 a.k || leb a.cells (cell.u32_at.ensures i) || ltb 3 (get_or a.log.now (at + 4) 0) || leb a.types (voxel.wide_byte.ensures.0 i) || bytes.bad_bytes.ensures i
-    || former.bad_former.ensures i || c.bad_spare.ensures i
+    λ i. leb 16777216 a.k || leb a.cells (c.u32_at.ensures i) || ltb 3 (get_or a.log.now (at + 4) 0) || leb a.types (c.wide_byte.ensures.0 i) || c.bad_bytes.ensures i
+    || c.bad_former.ensures i || c.bad_spare.ensures i

@@ -1,5 +1,5 @@
 -- `entries::bad_former` meets its contract: of Replaced, and of the others. Assumes nothing.
-use Rattle.std.proofs.Common.{◌≡◌, ℕ, not, eqb, ap, ◌∙◌, arith, rules}
+use Rattle.std.proofs.Common.{ℕ, not, eqb, ap, ◌∙◌, arith}
 use Rattle.entries.proofs.Entries.{former_own, former_last}
 use Rattle.entries.proofs.bad_former.Goals as goal
 

@@ -1,5 +1,5 @@
 use Rattle.entries.proofs.Entries.{one_test}
-use Rattle.std.proofs.Common.{arith, rules}
+use Rattle.std.proofs.Common.{arith}
 use Rattle.entries.proofs.bad_neighbour.Goals as goal
 
 pub returns : goal.returns

@@ -1,6 +1,6 @@
-use Rattle.std.proofs.Common.{◌≡◌, ℕ, ◌+◌, ◌-◌, ◌≤◌, Bool, not, List, get_or, refl, ap, arith, rules}
+use Rattle.std.proofs.Common.{◌≡◌, not, refl, ap, arith}
 use Rattle.rules.specs.Lists.{every}
-use Rattle.rules.specs.Answers.{bad_neighbour, bad_neighbours}
+use Rattle.rules.specs.Answers.{bad_neighbours}
 use Rattle.entries.proofs.Entries.{every_more}
 use Rattle.entries.proofs.bad_neighbours.Invariants.{isGood}
 use Rattle.entries.proofs.bad_neighbours.Goals as goal

@@ -1,7 +1,6 @@
-use Rattle.std.proofs.Common.{◌≡◌, ℕ, ◌+◌, ◌-◌, ◌≤◌, Bool, not, List, get_or, refl, ap, arith, rules}
+use Rattle.std.proofs.Common.{◌≡◌, ℕ, ◌+◌, ◌-◌, ◌≤◌, Bool, not, List, get_or}
 use Rattle.rules.specs.Lists.{every}
-use Rattle.rules.specs.Answers.{bad_neighbour, bad_neighbours}
-use Rattle.entries.proofs.Entries.{every_more}
+use Rattle.rules.specs.Answers.{bad_neighbour}
 use Rattle.entries.proofs.bad_neighbours.Given as goal
 
 abbrev pub isGood : List ℕ → ℕ → ℕ → ℕ → Bool

@@ -1,4 +1,4 @@
-use Rattle.std.proofs.Common.{◌≡◌, ℕ, ◌+◌, ◌-◌, ◌≤◌, Bool, not, ltb, List, get_or, refl, ap, arith, rules}
+use Rattle.std.proofs.Common.{◌≡◌, not, refl, ap, arith}
 use Rattle.rules.specs.Lists.{every}
 use Rattle.rules.specs.Answers.{bad_sides}
 use Rattle.entries.proofs.Entries.{every_more}

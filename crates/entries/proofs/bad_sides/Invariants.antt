@@ -1,7 +1,5 @@
-use Rattle.std.proofs.Common.{◌≡◌, ℕ, ◌+◌, ◌-◌, ◌≤◌, Bool, not, ltb, List, get_or, refl, ap, arith, rules}
+use Rattle.std.proofs.Common.{◌≡◌, ℕ, ◌+◌, ◌-◌, ◌≤◌, Bool, not, ltb, List, get_or}
 use Rattle.rules.specs.Lists.{every}
-use Rattle.rules.specs.Answers.{bad_sides}
-use Rattle.entries.proofs.Entries.{every_more}
 use Rattle.entries.proofs.bad_sides.Given as goal
 
 abbrev pub isGood : List ℕ → ℕ → ℕ → Bool

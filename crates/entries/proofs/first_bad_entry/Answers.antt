@@ -1,5 +1,5 @@
-use Rattle.std.proofs.Common.{◌≡◌, ℕ, ◌-◌, ◌/◌, ◌≤◌, true, false, length, sym, ap, ◌∙◌, arith, rules}
-use Rattle.rules.specs.Lists.{lowest, lowest_from}
+use Rattle.std.proofs.Common.{◌≡◌, ℕ, ◌-◌, ◌/◌, true, false, length, sym, ap, ◌∙◌, arith}
+use Rattle.rules.specs.Lists.{lowest_from}
 use Rattle.rules.specs.Update.{ENTRY_BYTES}
 use Rattle.rules.specs.Answers.{bad_entry}
 use Rattle.entries.proofs.Entries.{lowest_here, lowest_next, lowest_end}

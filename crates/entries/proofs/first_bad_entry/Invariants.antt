@@ -1,8 +1,6 @@
-use Rattle.std.proofs.Common.{◌≡◌, ℕ, ◌-◌, ◌/◌, ◌≤◌, true, false, length, sym, ap, ◌∙◌, arith, rules}
+use Rattle.std.proofs.Common.{◌≡◌, ◌-◌, ◌≤◌}
 use Rattle.rules.specs.Lists.{lowest, lowest_from}
-use Rattle.rules.specs.Update.{ENTRY_BYTES}
 use Rattle.rules.specs.Answers.{bad_entry}
-use Rattle.entries.proofs.Entries.{lowest_here, lowest_next, lowest_end}
 use Rattle.entries.proofs.first_bad_entry.Given as goal
 
 abbrev pub invariant-loop-k : goal.invariant-loop-k

@@ -1,4 +1,4 @@
-use Rattle.std.proofs.Common.{◌+◌, ◌*◌, get_or, arith, rules}
+use Rattle.std.proofs.Common.{◌+◌, ◌*◌, get_or, arith}
 use Rattle.rules.specs.Update.{ENTRY_BYTES, entry_at}
 use Rattle.entries.proofs.Entries.{six}
 use Rattle.entries.proofs.read_entry.Goals as goal
@@ -6,10 +6,9 @@ use Rattle.entries.proofs.read_entry.Goals as goal
 pub returns : goal.returns
 unfolding entry_at
 returns c =
-    let t = c in
-    let log = t.args.log.now in
-    let at = ENTRY_BYTES * t.args.k + 6 in
+    let log = c.args.log.now in
+    let at = ENTRY_BYTES * c.args.k + 6 in
     let s = six at log (omega arith) in
     let x = c.u32_at.ensures in
     let y = c.from_u8-change.ensures in
-    λ i. record { cell = x i; change = y i; type = get_or log (ENTRY_BYTES * t.args.k + 5) 0; given = s i; former = get_or log (ENTRY_BYTES * t.args.k + 12) 0 }
+    λ i. record { cell = x i; change = y i; type = get_or log (ENTRY_BYTES * c.args.k + 5) 0; given = s i; former = get_or log (ENTRY_BYTES * c.args.k + 12) 0 }

@@ -4,16 +4,13 @@ use Rattle.rules.specs.Calls.{Scene, check_by, check_mesh}
 use Rattle.answers.specs.Verdicts.{verdict_of}
 use Rattle.rules.specs.Mesh.{vertices_of, lists_of}
 use Rattle.telling.proofs.Telling.{bare}
-use borrow.Author.Rules.{rules}
 use Rattle.exports.proofs.meshem_check_mesh.Goals as goal
 
 pub returns : goal.returns
 returns c =
-    let k = c in
-    let s = k in
-    let a = s.args in
-    bare c.told_by_verdict-checked.result (verdict_of k.check_mesh.result) c.told_by_verdict-checked.ensures
-    ∙ ap check_by k.check_mesh.ensures
+    let a = c.args in
+    bare c.told_by_verdict-checked.result (verdict_of c.check_mesh.result) c.told_by_verdict-checked.ensures
+    ∙ ap check_by c.check_mesh.ensures
     ∙ ap (λ (S : Scene). check_mesh S a.outer.now a.grid.now
     (lists_of (vertices_of a.positions.now a.normals.now a.uvs.now a.colours.now) a.triangles.now a.links.now a.slots.now) a.count)
-    (s.scene_of-scene.ensures a.kinds.now a.covers.now a.cubes.now)
+    (c.scene_of-scene.ensures a.kinds.now a.covers.now a.cubes.now)

@@ -1,12 +1,9 @@
 -- `exports::meshem_generate_voxel_mesh` meets its contract: the cube call's, with the answer told. Assumes nothing.
 use Rattle.voxel_mesh.specs.Outcome.{verdict_of}
 use Rattle.telling.proofs.Telling.{bare, cube_told}
-use borrow.Author.Rules.{rules}
 use Rattle.exports.proofs.meshem_generate_voxel_mesh.Goals as goal
 
 pub returns : goal.returns
 returns c =
-    let g = c in
-    let y = g in
-    cube_told (bare c.told_by_cube-cubed.result (verdict_of g.generate_voxel_mesh.result) c.told_by_cube-cubed.ensures)
-    (rw y.is_yes.ensures at g.generate_voxel_mesh.ensures)
+    cube_told (bare c.told_by_cube-cubed.result (verdict_of c.generate_voxel_mesh.result) c.told_by_cube-cubed.ensures)
+    (rw c.is_yes.ensures at c.generate_voxel_mesh.ensures)

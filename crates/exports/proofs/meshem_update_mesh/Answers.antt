@@ -4,16 +4,12 @@ use Rattle.rules.specs.Calls.{update_mesh}
 use Rattle.rules.specs.Mesh.{vertices_of, lists_of}
 use Rattle.telling.specs.Numbers.{tested_if}
 use Rattle.telling.proofs.Telling.{mesh_told}
-use borrow.Author.Rules.{rules}
 use Rattle.exports.proofs.meshem_update_mesh.Goals as goal
 
 pub returns : goal.returns
 returns c =
-    let m = c in
-    let side = m in
-    let s = side in
-    let a = s.args in
-    let scene = s.scene_of-scene.ensures a.kinds.now a.covers.now a.cubes.now in
-    let mode = side.tested_of-side.ensures ∙ ap tested_if side.is_yes.ensures in
+    let a = c.args in
+    let scene = c.scene_of-scene.ensures a.kinds.now a.covers.now a.cubes.now in
+    let mode = c.tested_of-side.ensures ∙ ap tested_if c.is_yes.ensures in
     let lists = lists_of (vertices_of a.positions.now a.normals.now a.uvs.now a.colours.now) a.triangles.now a.links.now a.slots.now in
-    mesh_told c.told_by_update-mended.ensures (m.update_mesh.ensures ∙ (λ i. update_mesh (mode i) (scene i) a.log.now lists a.count))
+    mesh_told c.told_by_update-mended.ensures (c.update_mesh.ensures ∙ (λ i. update_mesh (mode i) (scene i) a.log.now lists a.count))

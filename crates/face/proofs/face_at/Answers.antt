@@ -1,5 +1,4 @@
 use mathlib.Core.Path.{sym, ◌∙◌}
-use borrow.Author.Rules.{rules}
 use Rattle.face.proofs.Laws.{face_number, face_nothing}
 use Rattle.face.proofs.face_at.Goals as goal
 

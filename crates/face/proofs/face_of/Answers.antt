@@ -1,6 +1,5 @@
 use mathlib.Core.Path.{◌∙◌}
 use native.Mathlib.Omega.{arith}
-use borrow.Author.Rules.{rules}
 use Rattle.face.proofs.Laws.{word_of_high}
 use Rattle.face.proofs.face_of.Goals as goal
 

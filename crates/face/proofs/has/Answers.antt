@@ -1,6 +1,5 @@
 use mathlib.Core.Path.{ap}
 use native.Mathlib.Omega.{arith}
-use borrow.Author.Rules.{rules}
 use Rattle.rules.specs.Cells.{has}
 use Rattle.face.proofs.Laws.{number_below}
 use Rattle.face.proofs.has.Goals as goal

@@ -1,5 +1,4 @@
 use native.Mathlib.Omega.{arith}
-use borrow.Author.Rules.{rules}
 use Rattle.face.proofs.Laws.{number_below}
 use Rattle.face.proofs.key.Goals as goal
 

@@ -1,5 +1,4 @@
 use mathlib.Core.Path.{ap, ◌∙◌}
-use borrow.Author.Rules.{rules}
 use lib.Bits.{bit_or, or_shifted_r}
 use Rattle.rules.specs.Cells.{code}
 use Rattle.face.specs.Face.{number}

@@ -1,7 +1,6 @@
 use mathlib.Core.Path.{ap, ◌∙◌}
 use Rattle.rules.specs.Cells.{rank}
 use Rattle.face.proofs.Laws.{number_below}
-use borrow.Author.Rules.{rules}
 use native.Mathlib.Omega.{arith}
 use Rattle.face.proofs.rank.Goals as goal
 

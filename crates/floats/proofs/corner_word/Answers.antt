@@ -4,7 +4,6 @@ use lib.Ieee.{Float, binary32, to_bits}
 use Rattle.rules.specs.Cube.{corner_word}
 use Rattle.floats.proofs.Numbers.{no_nan}
 use Rattle.floats.proofs.Corners.{corner_number}
-use borrow.Author.Rules.{rules}
 use Rattle.floats.proofs.corner_word.Goals as goal
 
 pub float_to_bits-result : goal.float_to_bits-result

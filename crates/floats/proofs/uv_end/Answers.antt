@@ -1,6 +1,5 @@
 -- `floats::uv_end` meets its contract. Assumes nothing.
 use Rattle.floats.proofs.Numbers.{no_nan_bits, whole_casts}
-use borrow.Author.Rules.{rules}
 use native.Mathlib.Omega.{arith}
 use Rattle.floats.proofs.uv_end.Goals as goal
 

@@ -3,7 +3,6 @@ use Rattle.rules.specs.Cube.{uv_word}
 use Rattle.floats.proofs.Numbers.{no_nan, number}
 use Rattle.floats.proofs.Sizes.{finite}
 use Rattle.floats.proofs.Corners.{start_within, end_number}
-use borrow.Author.Rules.{rules}
 use Rattle.floats.proofs.uv_word.Goals as goal
 
 pub float_to_bits-result : goal.float_to_bits-result

@@ -1,7 +1,7 @@
 -- `indexing::append_quad` meets its contract. Assumes nothing.
 use mathlib.Core.Path.{◌≡◌, refl, ap, ◌∙◌}
 use mathlib.Core.List.{[], ◌∷◌, ◌++◌}
-use Prim.Native.Nat.{ℕ, ◌+◌, ◌/◌}
+use Prim.Native.Nat.{ℕ, ◌/◌}
 use native.Mathlib.Omega.{arith}
 use lib.ListN.{set, length-set}
 use Rattle.rules.specs.Cells.{link_word, key_of, first_vertex}
@@ -9,7 +9,6 @@ use Rattle.face.specs.Face.{number}
 use Rattle.steps.specs.Steps.{Step, steps_in}
 use Rattle.indexing.specs.Index.{came_at}
 use Rattle.indexing.proofs.Doing.{same_index, steps_more, came_in}
-use borrow.Author.Rules.{rules}
 use Rattle.indexing.proofs.append_quad.Goals as goal
 use Rattle.indexing.proofs.append_quad.Lts
 use Rattle.indexing.proofs.append_quad.Tie
@@ -34,14 +33,13 @@ insert-requires c = let d = (begun c.before).requires.0 in (d.cell, omega (arith
 pub returns : goal.returns
 unfolding came_at
 returns c =
-    let put = c in
-    let faced = put.before.before.before.before.before.before.before.before in
+    let faced = c.before.before.before.before.before.before.before.before in
     let t = begun faced in
     let a = t.args in
     let at = a.tally.steps in
     let xs = a.steps.now in
-    same_index (put.insert.ensures.0 ∙ ap (λ (f : ℕ). set a.links.now a.tally.quads (link_word (a.key / 6) f)) faced.face_at.ensures)
-    (put.insert.ensures.1 ∙ ap (λ (k : ℕ). set a.slots.now k (first_vertex a.tally.quads)) (back faced)) refl refl c.larger.ensures
+    same_index (c.insert.ensures.0 ∙ ap (λ (f : ℕ). set a.links.now a.tally.quads (link_word (a.key / 6) f)) faced.face_at.ensures)
+    (c.insert.ensures.1 ∙ ap (λ (k : ℕ). set a.slots.now k (first_vertex a.tally.quads)) (back faced)) refl refl c.larger.ensures
     (steps_more at a.key a.voxel xs t.requires.1 ∙ ap (λ (x : Step). steps_in at xs ++ (x ∷ [])) (came_in a.key a.voxel (omega arith)))
 
 pub face_at-requires : goal.face_at-requires

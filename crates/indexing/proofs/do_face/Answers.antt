@@ -7,7 +7,6 @@ use lib.ListN.{length}
 use Rattle.works.specs.Sets.{deed_by}
 use Rattle.indexing.specs.Index.{Index, index_of, gone_at, index_run, Ready, Removable}
 use Rattle.indexing.proofs.Doing.{space_left, slotted, removable, drawable}
-use borrow.Author.Rules.{rules}
 use Rattle.indexing.proofs.do_face.Goals as goal
 use Rattle.indexing.proofs.do_face.Lts
 use Rattle.indexing.proofs.do_face.Tie
@@ -37,18 +36,13 @@ cutting c = c.before.before.before.before
 
 pub remove_quad-requires : goal.remove_quad-requires
 remove_quad-requires c =
-    let found = c in
-    let test = found in
-    let t = cutting test.before.before.before.before in
-    (subst (λ (q : ℕ). Removable t.args.key q (there t)) (sym found.quad_of-quad.ensures) (removable (known t test.if-cuts.true)), space_left t.args.steps.now t.args.tally t.requires)
+    let t = cutting c.before.before.before.before in
+    (subst (λ (q : ℕ). Removable t.args.key q (there t)) (sym c.quad_of-quad.ensures) (removable (known t c.if-cuts.true)), space_left t.args.steps.now t.args.tally t.requires)
 
 pub returns-then-cuts : goal.returns-then-cuts
 returns-then-cuts c =
-    let went = c in
-    let found = went in
-    let test = found in
-    let t = cutting test.before.before.before.before.before.before.before.before.before.before.before.before in
-    went.remove_quad.ensures ∙ ap (λ (q : ℕ). gone_at q (there t)) found.quad_of-quad.ensures ∙ ran t test.if-cuts.true
+    let t = cutting c.before.before.before.before.before.before.before.before.before.before.before.before in
+    c.remove_quad.ensures ∙ ap (λ (q : ℕ). gone_at q (there t)) c.quad_of-quad.ensures ∙ ran t c.if-cuts.true
 
 -- ---- a draw
 abbrev drawing : Else-cuts → Start
@@ -56,15 +50,13 @@ drawing c = c.before.before.before.before
 
 pub append_quad-requires : goal.append_quad-requires
 append_quad-requires c =
-    let test = c in
-    let t = drawing test.before.before.before in
-    (drawable (known t test.if-cuts.false), space_left t.args.steps.now t.args.tally t.requires)
+    let t = drawing c.before.before.before in
+    (drawable (known t c.if-cuts.false), space_left t.args.steps.now t.args.tally t.requires)
 
 pub returns : goal.returns
 returns c =
-    let went = c in
-    let test = went.before.before.before.before.before.before.before.before.before.before.before in
-    went.append_quad.ensures ∙ ran (drawing test) test.if-cuts.false
+    let test = c.before.before.before.before.before.before.before.before.before.before.before in
+    c.append_quad.ensures ∙ ran (drawing test) test.if-cuts.false
 
 pub quad_of-quad-requires : goal.quad_of-quad-requires
 quad_of-quad-requires c = slotted (known (cutting c.before) c.if-cuts.true)

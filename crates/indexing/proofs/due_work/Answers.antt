@@ -10,7 +10,6 @@ use Rattle.rules.proofs.Sets.{set_of_lt, has-set_of, set_is, has_and, has_or, ha
 use Rattle.works.specs.declared.Work.{Work}
 use Rattle.works.specs.Sets.{sets, key_met}
 use Rattle.indexing.specs.Due.{is_bare, is_met, goes, comes, due_of}
-use borrow.Author.Rules.{rules}
 use Rattle.indexing.proofs.due_work.Goals as goal
 use Rattle.indexing.proofs.due_work.Lts
 use Rattle.indexing.proofs.due_work.Tie
@@ -88,10 +87,7 @@ few_facing c = let a = c.args in omega (arith, c.facing_bare-facing.ensures, set
 
 pub returns : goal.returns
 returns c =
-    let met = c in
-    let bare = met in
-    let t = bare in
-    made t.args.slots.now t.args.keys.now t.args.cell.0 t.args.work bare.own_bare-bare.ensures bare.facing_bare-facing.ensures met.met_sides.ensures
+    made c.args.slots.now c.args.keys.now c.args.cell.0 c.args.work c.own_bare-bare.ensures c.facing_bare-facing.ensures c.met_sides.ensures
 
 pub own_bare-bare-requires : goal.own_bare-bare-requires
 own_bare-bare-requires c = (let p = c.requires in (omega (arith, p.0.small, p.1), p.1))

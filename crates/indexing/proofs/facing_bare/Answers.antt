@@ -6,7 +6,6 @@ use native.Mathlib.Omega.{arith}
 use lib.ListN.{length}
 use Rattle.rules.specs.Mesh.{NONE}
 use Rattle.works.specs.Sets.{key_met}
-use borrow.Author.Rules.{rules}
 use Rattle.indexing.proofs.facing_bare.Goals as goal
 use Rattle.indexing.proofs.facing_bare.Lts
 use Rattle.indexing.proofs.facing_bare.Tie
@@ -21,14 +20,8 @@ slotted t f l = (t.requires.near f l, omega (arith, t.requires.small))
 
 pub returns : goal.returns
 returns c =
-    let f = c in
-    let e = f in
-    let d = e in
-    let b = d in
-    let a = b in
-    let z = a in
     c.side_set.ensures
-    ∙ (λ i. cond (z.is_bare.ensures i) 1 0 + cond (a.is_bare-2.ensures i) 2 0 + cond (b.is_bare-3.ensures i) 4 0 + cond (d.is_bare-4.ensures i) 8 0 + cond (e.is_bare-5.ensures i) 16 0 + cond (f.is_bare-6.ensures i) 32 0)
+    ∙ (λ i. cond (c.is_bare.ensures i) 1 0 + cond (c.is_bare-2.ensures i) 2 0 + cond (c.is_bare-3.ensures i) 4 0 + cond (c.is_bare-4.ensures i) 8 0 + cond (c.is_bare-5.ensures i) 16 0 + cond (c.is_bare-6.ensures i) 32 0)
 
 pub is_bare-requires : goal.is_bare-requires
 is_bare-requires c = slotted c.before.before.before.before 0 (omega arith)

@@ -6,7 +6,6 @@ use lib.Dec.{leb}
 use borrow.Author.Tests.{le-leb}
 use Rattle.rules.specs.Cells.{has, quads_of}
 use Rattle.rules.proofs.Index.{count_le}
-use borrow.Author.Rules.{rules}
 use Rattle.indexing.proofs.has_room.Goals as goal
 
 few : (set : ℕ) → quads_of set ≤ 6
@@ -20,11 +19,9 @@ returns-then-count-room c =
 
 pub returns : goal.returns
 returns c =
-    let shown = c in
-    let own = shown in
-    let a = own.args in
-    let l : a.count + (shown.quads_of.result + c.quads_of-2.result) ≡ a.count + quads_of a.due.shown + quads_of a.due.drawn = omega (arith, shown.quads_of.ensures, c.quads_of-2.ensures) in
-    let r : a.room + own.quads_of-gone.result ≡ a.room + quads_of a.due.own = omega (arith, own.quads_of-gone.ensures) in
+    let a = c.args in
+    let l : a.count + (c.quads_of.result + c.quads_of-2.result) ≡ a.count + quads_of a.due.shown + quads_of a.due.drawn = omega (arith, c.quads_of.ensures, c.quads_of-2.ensures) in
+    let r : a.room + c.quads_of-gone.result ≡ a.room + quads_of a.due.own = omega (arith, c.quads_of-gone.ensures) in
     λ i. leb (l i) (r i)
 
 pub quads_of-gone-requires : goal.quads_of-gone-requires

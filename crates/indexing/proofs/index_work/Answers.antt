@@ -8,14 +8,13 @@ use lib.Bits.{and_le_r}
 use lib.Count.{count_trailing_zeros}
 use lib.ListN.{length, get_or}
 use Rattle.rules.specs.Lists.{only}
-use Rattle.face.proofs.Lowest.{Rest, rest_start, rest_none, rest_below, rest_from, rest_at, rest_skip, rest_next}
+use Rattle.face.proofs.Lowest.{rest_start, rest_none, rest_below, rest_from, rest_at, rest_skip, rest_next}
 use Rattle.entries.specs.Log.{entry_in}
 use Rattle.steps.specs.Steps.{Deed}
 use Rattle.steps.proofs.Turning.{Turning, start, this, skip, turn, done}
 use Rattle.works.specs.Sets.{deed_by, deed_by_side, deed_at}
 use Rattle.indexing.specs.Index.{Index, index_of, index_run, Ready}
 use Rattle.indexing.proofs.Doing.{piecewise}
-use borrow.Author.Rules.{rules}
 use Rattle.indexing.proofs.index_work.Goals as goal
 use Rattle.indexing.proofs.index_work.Lts
 use Rattle.indexing.proofs.index_work.Tie
@@ -61,15 +60,13 @@ turned-to i =
 
 -- what is done there
 told : (c : After-type_of-voxel) →
-    let cut = c in
-    let i = cut.before.before.before in
+    let i = c.before.before.before in
     let a = (begun i).args in
-    deed_by cut.does_cut-cuts.result c.type_of-voxel.result (get_or a.keys.now cut.key_place-at.result 0) ∷ [] ≡ deed_at a.keys.now (entry_in a.entry) a.sides (low i)
+    deed_by c.does_cut-cuts.result c.type_of-voxel.result (get_or a.keys.now c.key_place-at.result 0) ∷ [] ≡ deed_at a.keys.now (entry_in a.entry) a.sides (low i)
 told c =
-    let cut = c in
-    let i = cut.before.before.before in
+    let i = c.before.before.before in
     let a = (begun i).args in
-    (λ j. deed_by (cut.does_cut-cuts.ensures j) (c.type_of-voxel.ensures j) (get_or a.keys.now (cut.key_place-at.ensures.0 j) 0) ∷ [])
+    (λ j. deed_by (c.does_cut-cuts.ensures j) (c.type_of-voxel.ensures j) (get_or a.keys.now (c.key_place-at.ensures.0 j) 0) ∷ [])
     ∙ ap (deed-if (begun i) (low i)) (sym (rest_at i.loop-rest.invariant.2 i.loop-rest-test.true refl))
 
 pub do_face-left-requires : goal.do_face-left-requires
@@ -91,16 +88,15 @@ loop-rest-smaller c = let r = (into c.before).loop-rest.rest in omega (arith, an
 
 pub loop-rest-preserved : goal.loop-rest-preserved
 loop-rest-preserved c =
-    let went = c in
-    let side = went.before.before.before.before.before.before.before.before.before.before.before.before.before in
+    let side = c.before.before.before.before.before.before.before.before.before.before.before.before.before in
     let i = into c.before in
     let l = i.loop-rest in (
       low i + 1,
-      turn (turned-to i) (piecewise _) (below i) (went.do_face-left.ensures ∙ ap (λ (ds : List Deed). index_run ds (here i)) (told side)),
+      turn (turned-to i) (piecewise _) (below i) (c.do_face-left.ensures ∙ ap (λ (ds : List Deed). index_run ds (here i)) (told side)),
       rest_next l.invariant.2 i.loop-rest-test.true refl,
-      went.do_face-left.auto.links ∙ l.invariant.3,
-      went.do_face-left.auto.slots ∙ l.invariant.4,
-      went.do_face-left.auto.steps ∙ l.invariant.5,
+      c.do_face-left.auto.links ∙ l.invariant.3,
+      c.do_face-left.auto.slots ∙ l.invariant.4,
+      c.do_face-left.auto.steps ∙ l.invariant.5,
     )
 
 pub returns : goal.returns
@@ -110,7 +106,7 @@ returns c =
     done (skip t t.below (omega arith) (λ k u v. ap (deed-if c.before.before.before.before.before k) (rest_none l.invariant.2 c.loop-rest-test.false k u v))) (λ s. refl) (omega arith)
 
 pub loop-rest-init : goal.loop-rest-init
-loop-rest-init c = let t = c in (0, start t.requires.1, rest_start (omega arith) t.requires.0, refl, refl, refl)
+loop-rest-init c = (0, start c.requires.1, rest_start (omega arith) c.requires.0, refl, refl, refl)
 
 pub key_place-at-requires : goal.key_place-at-requires
 key_place-at-requires c = below c

@@ -7,17 +7,15 @@ use lib.ListN.{get_or, get_or-eq_default}
 use borrow.Author.Tests.{eq-eqb}
 use Rattle.rules.specs.Mesh.{NONE}
 use Rattle.rules.proofs.ListLaws.{within}
-use borrow.Author.Rules.{rules}
 use Rattle.indexing.proofs.is_bare.Goals as goal
 
 pub returns-then-key-eq-NONE : goal.returns-then-key-eq-NONE
 returns-then-key-eq-NONE c =
-    let t = c in
     let k = c.if-key-eq-NONE.true in
-    sym (eq-eqb (get_or t.args.slots.now t.args.key NONE) NONE (get_or-eq_default t.args.slots.now NONE (omega (arith, t.requires.1))))
+    sym (eq-eqb (get_or c.args.slots.now c.args.key NONE) NONE (get_or-eq_default c.args.slots.now NONE (omega (arith, c.requires.1))))
 
 pub bounds-slots-at : goal.bounds-slots-at
-bounds-slots-at c = let e = c in e.requires.0 e.if-key-eq-NONE.false
+bounds-slots-at c = c.requires.0 c.if-key-eq-NONE.false
 
 pub returns : goal.returns
-returns c = let e = c in let t = e in ap (λ (w : ℕ). eqb w NONE) (within t.args.slots.now t.args.key 0 NONE (t.requires.0 e.if-key-eq-NONE.false))
+returns c = ap (λ (w : ℕ). eqb w NONE) (within c.args.slots.now c.args.key 0 NONE (c.requires.0 c.if-key-eq-NONE.false))

@@ -7,7 +7,6 @@ use Rattle.rules.specs.Mesh.{NONE}
 use Rattle.face.specs.Face.{number}
 use Rattle.mesh_metadata.specs.Index.{vertex_in}
 use Rattle.indexing.proofs.Doing.{none_told, some_told}
-use borrow.Author.Rules.{rules}
 use Rattle.indexing.proofs.lacks.Goals as goal
 use Rattle.indexing.proofs.lacks.Lts
 use Rattle.indexing.proofs.lacks.Tie

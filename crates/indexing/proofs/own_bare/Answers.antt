@@ -1,5 +1,4 @@
 -- `indexing::own_bare` meets its contract: side by side. Assumes nothing.
-use borrow.Author.Rules.{rules}
 use Rattle.indexing.proofs.own_bare.Goals as goal
 
 pub returns : goal.returns

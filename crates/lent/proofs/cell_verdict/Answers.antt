@@ -1,5 +1,5 @@
 -- `lent::cell_verdict` meets its contract. Assumes nothing.
-use Rattle.std.proofs.Common.{◌∙◌, rules}
+use Rattle.std.proofs.Common.{◌∙◌}
 use Rattle.lent.proofs.cell_verdict.Goals as goal
 
 pub returns : goal.returns

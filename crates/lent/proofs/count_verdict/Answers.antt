@@ -1,5 +1,5 @@
 -- `lent::count_verdict` meets its contract. Assumes nothing.
-use Rattle.std.proofs.Common.{◌∙◌, rules}
+use Rattle.std.proofs.Common.{◌∙◌}
 use Rattle.lent.proofs.count_verdict.Goals as goal
 
 pub returns : goal.returns

@@ -1,7 +1,7 @@
 -- `lent::find_bad_cell` meets its contract. Assumes nothing.
-use Rattle.std.proofs.Common.{◌-◌, leb, length, get_or, rules, le-leb}
+use Rattle.std.proofs.Common.{le-leb}
 use borrow.Author.Tests.{lt-leb}
-use Rattle.rules.proofs.Searches.{Searched, searched, found, passed, ended}
+use Rattle.rules.proofs.Searches.{searched, found, passed, ended}
 use Rattle.lent.proofs.find_bad_cell.Goals as goal
 
 pub loop-cell-init : goal.loop-cell-init

@@ -1,6 +1,5 @@
-use Rattle.std.proofs.Common.{◌-◌, leb, length, get_or, rules, le-leb}
-use borrow.Author.Tests.{lt-leb}
-use Rattle.rules.proofs.Searches.{Searched, searched, found, passed, ended}
+use Rattle.std.proofs.Common.{◌-◌, leb, length, get_or}
+use Rattle.rules.proofs.Searches.{Searched}
 use Rattle.lent.proofs.find_bad_cell.Given as goal
 
 abbrev pub invariant-loop-cell : goal.invariant-loop-cell

@@ -1,5 +1,5 @@
 -- `lent::input_verdict` meets its contract: each return is what the tests before it leave. Assumes nothing.
-use Rattle.std.proofs.Common.{◌≡◌, sym, refl, ◌∙◌, rules}
+use Rattle.std.proofs.Common.{◌≡◌, sym, refl, ◌∙◌}
 use Rattle.rules.specs.Answers.{Verdict, ◌then◌, BAD_SIZE, BAD_GRID, BAD_OUTER, BAD_CELL}
 use Rattle.rules.specs.Calls as rules
 use Rattle.rules.specs.Calls.{types_verdict}

@@ -1,5 +1,5 @@
 -- `lent::largest_code` meets its contract. Assumes nothing.
-use Rattle.std.proofs.Common.{ℕ, ◌-◌, ◌<◌, ◌≤◌, length, get_or, arith, rules, below_more}
+use Rattle.std.proofs.Common.{arith, below_more}
 use Rattle.lent.proofs.largest_code.Goals as goal
 
 pub loop-cell-init : goal.loop-cell-init

@@ -1,4 +1,4 @@
-use Rattle.std.proofs.Common.{ℕ, ◌-◌, ◌<◌, ◌≤◌, length, get_or, arith, rules, below_more}
+use Rattle.std.proofs.Common.{ℕ, ◌-◌, ◌<◌, ◌≤◌, length, get_or}
 use Rattle.lent.proofs.largest_code.Given as goal
 
 abbrev pub invariant-loop-cell : goal.invariant-loop-cell

@@ -1,5 +1,5 @@
 -- `lent::lent_verdict` meets its contract: each return is what the tests before it leave. Assumes nothing.
-use Rattle.std.proofs.Common.{sym, ◌∙◌, rules}
+use Rattle.std.proofs.Common.{sym, ◌∙◌}
 use Rattle.answers.proofs.Chains.{stops, goes}
 use Rattle.lent.proofs.lent_verdict.Goals as goal
 

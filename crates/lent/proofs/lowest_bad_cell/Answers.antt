@@ -1,5 +1,5 @@
 -- `lent::lowest_bad_cell` meets its contract. Assumes nothing.
-use Rattle.std.proofs.Common.{ℕ, ◌<◌, length, get_or, sym, arith, rules}
+use Rattle.std.proofs.Common.{ℕ, ◌<◌, length, get_or, sym, arith}
 use borrow.Author.Tests.{lt-leb}
 use Rattle.rules.proofs.ListLaws.{lowest_none}
 use Rattle.lent.proofs.lowest_bad_cell.Goals as goal

@@ -1,6 +1,6 @@
 -- `lent::lowest_bad_outer` meets its contract. Assumes nothing.
-use Rattle.std.proofs.Common.{◌-◌, ltb, length, get_or, rules, le-ltb, lt-ltb}
-use Rattle.rules.proofs.Searches.{Searched, searched, found, passed, ended}
+use Rattle.std.proofs.Common.{le-ltb, lt-ltb}
+use Rattle.rules.proofs.Searches.{searched, found, passed, ended}
 use Rattle.lent.proofs.lowest_bad_outer.Goals as goal
 
 pub loop-i-init : goal.loop-i-init

@@ -1,5 +1,5 @@
-use Rattle.std.proofs.Common.{◌-◌, ltb, length, get_or, rules, le-ltb, lt-ltb}
-use Rattle.rules.proofs.Searches.{Searched, searched, found, passed, ended}
+use Rattle.std.proofs.Common.{◌-◌, ltb, length, get_or}
+use Rattle.rules.proofs.Searches.{Searched}
 use Rattle.lent.proofs.lowest_bad_outer.Given as goal
 
 abbrev pub invariant-loop-i : goal.invariant-loop-i

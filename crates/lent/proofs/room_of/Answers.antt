@@ -1,5 +1,5 @@
 -- `lent::room_of` meets its contract. Assumes nothing.
-use Rattle.std.proofs.Common.{◌∙◌, rules}
+use Rattle.std.proofs.Common.{◌∙◌}
 use Rattle.rules.specs.Answers.{room_of}
 use Rattle.lent.proofs.room_of.Goals as goal
 

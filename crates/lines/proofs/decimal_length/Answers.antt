@@ -1,9 +1,6 @@
 -- `lines::decimal_length` meets its contract. Assumes nothing.
-use mathlib.Core.Path.{◌≡◌, refl}
-use Prim.Native.Nat.{◌+◌, ◌≤◌}
+use mathlib.Core.Path.{refl}
 use native.Mathlib.Omega.{arith}
-use lib.ListN.{length}
-use Rattle.rules.specs.Program.{decimal}
 use Rattle.lines.proofs.Decimals.{length-decimal, length_more, length_last}
 use Rattle.lines.proofs.decimal_length.Goals as goal
 

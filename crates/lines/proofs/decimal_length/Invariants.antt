@@ -1,9 +1,7 @@
-use mathlib.Core.Path.{◌≡◌, refl}
+use mathlib.Core.Path.{◌≡◌}
 use Prim.Native.Nat.{◌+◌, ◌≤◌}
-use native.Mathlib.Omega.{arith}
 use lib.ListN.{length}
 use Rattle.rules.specs.Program.{decimal}
-use Rattle.lines.proofs.Decimals.{length-decimal, length_more, length_last}
 use Rattle.lines.proofs.decimal_length.Given as goal
 
 abbrev pub invariant-loop-left : goal.invariant-loop-left

@@ -1,11 +1,10 @@
 -- `lines::outer_of` meets its contract. Assumes nothing.
 use mathlib.Core.Path.{◌≡◌, sym}
 use mathlib.Core.List.{◌++◌}
-use Prim.Native.Nat.{◌-◌, ◌≤◌}
 use native.Mathlib.Omega.{arith}
 use Rattle.rules.specs.Lists.{only}
 use Rattle.rules.specs.Cells.{has}
-use Rattle.lines.specs.Written.{Wrote, Room}
+use Rattle.lines.specs.Written.{Room}
 use Rattle.lines.proofs.Writing.{room_next, wrote_as, wrote_then, wrote_length}
 use Rattle.lines.proofs.Lining.{faces_below, faces_none, faces_more, faces_room, faces_next}
 use Rattle.lines.proofs.outer_of.Goals as goal
@@ -32,11 +31,10 @@ pub loop-f-smaller : goal.loop-f-smaller
 loop-f-smaller c = omega arith
 
 pub loop-f-preserved : goal.loop-f-preserved
-loop-f-preserved c =
-    let l = c in (
-      omega arith,
-      wrote_as (sym (faces_more _ _)) (wrote_then _ _ (more l.before.before.before.before.before) l.loop-f.invariant.1 c.write_if-next.ensures),
-    )
+loop-f-preserved c = (
+  omega arith,
+  wrote_as (sym (faces_more _ _)) (wrote_then _ _ (more c.before.before.before.before.before) c.loop-f.invariant.1 c.write_if-next.ensures),
+)
 
 pub shape_of-out : goal.shape_of-out
 shape_of-out c = wrote_length c.loop-f.invariant.1 (faces_room _ _ _ c.loop-f.invariant.0 c.requires)

@@ -1,5 +1,4 @@
 -- `lines::write_byte` meets its contract. Assumes nothing.
-use borrow.Author.Rules.{rules}
 use native.Mathlib.Omega.{arith}
 use Rattle.lines.proofs.Writing.{wrote_one}
 use Rattle.lines.proofs.write_byte.Goals as goal

@@ -3,8 +3,7 @@ use mathlib.Core.Path.{ap}
 use Prim.Native.Nat.{ℕ, ◌+◌, ◌/◌, ◌<◌}
 use native.Mathlib.Omega.{arith}
 use lib.ListN.{length, length-set}
-use borrow.Author.Rules.{rules}
-use Rattle.lines.proofs.Decimals.{Shown, shown_start, shown_more, shown_all, last_inside, length_more, length_some}
+use Rattle.lines.proofs.Decimals.{shown_start, shown_more, shown_all, last_inside, length_more, length_some}
 use Rattle.lines.proofs.write_decimal.Goals as goal
 use Rattle.lines.proofs.write_decimal.Lts
 use Rattle.lines.proofs.write_decimal.Tie
@@ -47,9 +46,7 @@ shape_of-out c = simp length-set c.loop-left.invariant.kept
 
 pub returns : goal.returns
 returns c =
-    let l = c in
-    let start = l in
     record {
-      is = shown_all _ _ _ (omega arith) start.requires l.loop-left.invariant (omega arith) c.digit-2.ensures;
-      end = ap (λ (k : ℕ). start.args.at + k) l.decimal_length.ensures;
+      is = shown_all _ _ _ (omega arith) c.requires c.loop-left.invariant (omega arith) c.digit-2.ensures;
+      end = ap (λ (k : ℕ). c.args.at + k) c.decimal_length.ensures;
     }

@@ -1,9 +1,4 @@
-use mathlib.Core.Path.{ap}
-use Prim.Native.Nat.{ℕ, ◌+◌, ◌/◌, ◌<◌}
-use native.Mathlib.Omega.{arith}
-use lib.ListN.{length, length-set}
-use borrow.Author.Rules.{rules}
-use Rattle.lines.proofs.Decimals.{Shown, shown_start, shown_more, shown_all, last_inside, length_more, length_some}
+use Rattle.lines.proofs.Decimals.{Shown}
 use Rattle.lines.proofs.write_decimal.Given as goal
 
 abbrev pub invariant-loop-left : goal.invariant-loop-left

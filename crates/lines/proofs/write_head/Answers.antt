@@ -1,20 +1,18 @@
 -- `lines::write_head` meets its contract. Assumes nothing.
 use Rattle.lines.proofs.Writing.{room_one, room_two, room_three, wrote_three}
 use Rattle.lines.proofs.Lining.{head_pieces}
-use borrow.Author.Rules.{rules}
 use Rattle.lines.proofs.write_head.Goals as goal
 
 pub write_named-next-requires : goal.write_named-next-requires
-write_named-next-requires c = let s = c in room_one (head_pieces s.args.quads s.args.moved) s.requires
+write_named-next-requires c = room_one (head_pieces c.args.quads c.args.moved) c.requires
 
 pub write_named-last-requires : goal.write_named-last-requires
-write_named-last-requires c = let s = c in room_two (head_pieces s.args.quads s.args.moved) s.requires c.write_named-next.ensures
+write_named-last-requires c = room_two (head_pieces c.args.quads c.args.moved) c.requires c.write_named-next.ensures
 
 pub write_byte-requires : goal.write_byte-requires
-write_byte-requires c = let s = c in room_three (head_pieces s.args.quads s.args.moved) s.requires c.write_named-next.ensures c.write_named-last.ensures
+write_byte-requires c = room_three (head_pieces c.args.quads c.args.moved) c.requires c.write_named-next.ensures c.write_named-last.ensures
 
 pub returns : goal.returns
 returns c =
-    let s = c in
-    wrote_three (head_pieces s.args.quads s.args.moved) s.requires c.write_named-next.ensures c.write_named-last.ensures
+    wrote_three (head_pieces c.args.quads c.args.moved) c.requires c.write_named-next.ensures c.write_named-last.ensures
     c.write_byte.ensures

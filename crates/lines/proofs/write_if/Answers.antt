@@ -1,5 +1,4 @@
 -- `lines::write_if` meets its contract. Assumes nothing.
-use borrow.Author.Rules.{rules}
 use Rattle.lines.proofs.Writing.{wrote_none}
 use Rattle.lines.proofs.write_if.Goals as goal
 

@@ -1,5 +1,4 @@
 -- `lines::write_link` meets its contract. Assumes nothing.
-use borrow.Author.Rules.{rules}
 use Rattle.lines.proofs.write_link.Goals as goal
 
 pub write_quad-requires : goal.write_quad-requires

@@ -1,10 +1,7 @@
 -- `lines::write_quads` meets its contract. Assumes nothing.
-use Prim.Native.Nat.{◌-◌}
 use native.Mathlib.Omega.{arith}
-use lib.ListN.{length}
-use borrow.Author.Rules.{rules}
 use Rattle.lines.proofs.Writing.{wrote_length}
-use Rattle.lines.proofs.Lining.{Begun, begun_none, begun_room, begun_more, begun_all}
+use Rattle.lines.proofs.Lining.{begun_none, begun_room, begun_more, begun_all}
 use Rattle.lines.proofs.write_quads.Goals as goal
 
 pub loop-i-init : goal.loop-i-init
@@ -15,9 +12,8 @@ bounds-links-i c = omega arith
 
 pub write_link-next-requires : goal.write_link-next-requires
 write_link-next-requires c =
-    let l = c in
     let more = c.loop-i-test.true in
-    (l.requires.0 l.loop-i.i more, begun_room l.loop-i.invariant more)
+    (c.requires.0 c.loop-i.i more, begun_room c.loop-i.invariant more)
 
 pub overflow_add-i : goal.overflow_add-i
 overflow_add-i c = omega arith
@@ -27,8 +23,7 @@ loop-i-smaller c = omega arith
 
 pub loop-i-preserved : goal.loop-i-preserved
 loop-i-preserved c =
-    let t = c in
-    begun_more t.loop-i.invariant t.loop-i-test.true c.write_link-next.ensures
+    begun_more c.loop-i.invariant c.loop-i-test.true c.write_link-next.ensures
 
 pub shape_of-out : goal.shape_of-out
 shape_of-out c = wrote_length (begun_all c.loop-i.invariant (omega arith)) c.requires.1

@@ -1,9 +1,6 @@
 use Prim.Native.Nat.{◌-◌}
-use native.Mathlib.Omega.{arith}
 use lib.ListN.{length}
-use borrow.Author.Rules.{rules}
-use Rattle.lines.proofs.Writing.{wrote_length}
-use Rattle.lines.proofs.Lining.{Begun, begun_none, begun_room, begun_more, begun_all}
+use Rattle.lines.proofs.Lining.{Begun}
 use Rattle.lines.proofs.write_quads.Given as goal
 
 abbrev pub invariant-loop-i : goal.invariant-loop-i

@@ -1,7 +1,7 @@
 -- `lines::write_text` meets its contract. Assumes nothing.
 use mathlib.Core.Path.{◌≡◌, sym, ap, ◌∙◌}
 use mathlib.Core.List.{List}
-use Prim.Native.Nat.{ℕ, ◌+◌, ◌-◌, ◌≤◌}
+use Prim.Native.Nat.{ℕ, ◌+◌, ◌≤◌}
 use native.Mathlib.Numerals.{add-one}
 use native.Mathlib.Omega.{arith}
 use lib.ListN.{length, get_or, set}
@@ -40,12 +40,11 @@ loop-i-smaller c = omega arith
 
 pub loop-i-preserved : goal.loop-i-preserved
 loop-i-preserved c =
-    let l = c in
-    let a = l.args in
-    let i = l.loop-i.i in (
+    let a = c.args in
+    let i = c.loop-i.i in (
       omega arith,
-      ap (λ (o : List ℕ). set o (a.at + i) (get_or a.text.now i 0)) l.loop-i.invariant.1
-          ∙ paste-suc a.out.now a.at a.text.now i 0 (omega (arith, room l.before.before.before)) c.loop-i-test.true
+      ap (λ (o : List ℕ). set o (a.at + i) (get_or a.text.now i 0)) c.loop-i.invariant.1
+          ∙ paste-suc a.out.now a.at a.text.now i 0 (omega (arith, room c.before.before.before)) c.loop-i-test.true
           ∙ ap (paste a.out.now a.at a.text.now) (sym (add-one i)),
     )
 
@@ -57,7 +56,6 @@ shape_of-out c = kept c.before.before
 
 pub returns : goal.returns
 returns c =
-    let l = c in
-    let a = l.args in
-    let e : l.loop-i.i ≡ length a.text.now = omega arith in
-    record { is = (rw e at l.loop-i.invariant.1) ∙ put_pasted a.at a.text.now a.out.now; end = omega arith }
+    let a = c.args in
+    let e : c.loop-i.i ≡ length a.text.now = omega arith in
+    record { is = (rw e at c.loop-i.invariant.1) ∙ put_pasted a.at a.text.now a.out.now; end = omega arith }

@@ -1,12 +1,11 @@
 -- `listing::count_quads` meets its contract: before a row, the quads of the rows before it are counted. Assumes nothing.
 use mathlib.Core.Path.{◌≡◌, refl, sym, ap, ◌∙◌}
-use Prim.Native.Nat.{ℕ, ◌+◌, ◌-◌, ◌≤◌, ◌<◌}
-use borrow.Author.Rules.{rules}
+use Prim.Native.Nat.{ℕ, ◌+◌, ◌≤◌, ◌<◌}
 use native.Mathlib.Omega.{arith}
 use lib.ListN.{length}
 use lib.Seq.{get_or-take, length-take-le}
-use Rattle.rules.specs.Cells.{Size, cells, coordinates}
-use Rattle.util.specs.Grid.{Starts, size_of, cords_of}
+use Rattle.rules.specs.Cells.{Size, cells}
+use Rattle.util.specs.Grid.{Starts, size_of}
 use Rattle.culling.specs.Culling.{world_of}
 use Rattle.listing.specs.Fresh.{set_at, faces_of, asked}
 use Rattle.listing.proofs.Sets.{set_below}
@@ -57,9 +56,8 @@ row i = let l = i.loop-row in record { inside = omega (arith, l.invariant.0, i.l
 
 pub side_row-requires : goal.side_row-requires
 side_row-requires c =
-    let i = c in
-    let s = given i.before.before in
-    (s.requires.0, row i.before.before, omega (arith, i.loop-row.invariant.2, s.requires.1), s.requires.2)
+    let s = given c.before.before in
+    (s.requires.0, row c.before.before, omega (arith, c.loop-row.invariant.2, s.requires.1), s.requires.2)
 
 -- the list of sets has room for a row
 long-enough : (c : After-side_row) → (given c.before.before).args.dims.width ≤ length c.side_row.new.sets
@@ -76,15 +74,14 @@ slice_bounds-quads_in-end-in-loop-row c = sym (length-take-le _ c.side_row.new.s
 pub quads_in-requires : goal.quads_in-requires
 quads_in-requires c =
     let r = c.before.before.before in
-    let i = r in
-    let s = given i.before.before in
+    let s = given r.before.before in
     let w = s.args.dims.width in
     let list = r.side_row.new.sets in
     let l = length-take-le w list (long-enough r) in (
       omega (arith, s.requires.0.grid.within.sides.widest),
       λ x h. let k : x < w = omega arith in
           rw (get_or-take w list x 0 k, r.side_row.ensures x k)
-          (set_below s.args.culling (world_of (size s) s.args.kinds.now s.args.covers.now) (faces_of s.args.look.outer) s.args.grid.now (i.loop-row.row.first + x)),
+          (set_below s.args.culling (world_of (size s) s.args.kinds.now s.args.covers.now) (faces_of s.args.look.outer) s.args.grid.now (r.loop-row.row.first + x)),
     )
 
 -- as many as the row's cells ask for
@@ -92,15 +89,13 @@ counted : (c : After-quads_in) →
     let i = c.before.before.before.before.before in c.quads_in.result ≡ asked (sets (given i)) i.loop-row.row.first (given i).args.dims.width
 counted c =
     let r = c.before.before.before in
-    let i = r in
-    let s = given i.before.before in
-    c.quads_in.ensures ∙ asked_row (sets s) i.loop-row.row.first s.args.dims.width r.side_row.new.sets (long-enough r) r.side_row.ensures
+    let s = given r.before.before in
+    c.quads_in.ensures ∙ asked_row (sets s) r.loop-row.row.first s.args.dims.width r.side_row.new.sets (long-enough r) r.side_row.ensures
 
 pub overflow_add-n : goal.overflow_add-n
 overflow_add-n c =
-    let i = c in
-    let s = given i.before.before.before.before.before.before in
-    let l = i.loop-row in
+    let s = given c.before.before.before.before.before.before in
+    let l = c.loop-row in
     omega (arith, l.invariant.3, counted c.before, asked_few (sets s) l.row.first 0, asked_few (sets s) s.args.dims.width l.row.first, s.requires.0.grid.within.most, s.requires.0.grid.within.sides.widest, l.invariant.0, l.invariant.1)
 
 pub next-row-requires : goal.next-row-requires
@@ -113,12 +108,11 @@ pub loop-row-preserved : goal.loop-row-preserved
 loop-row-preserved c =
     let i = c.before.before.before.before.before.before.before in
     let s = given i in
-    let l = i.loop-row in
-    let q = c in (
+    let l = i.loop-row in (
       l.invariant.0,
       omega (arith, c.next-row.ensures.0, row_end (size s) s.requires.0.grid.within (row i), l.invariant.0),
-      q.side_row.auto.sets ∙ l.invariant.2,
-      rw c.next-row.ensures.0 (omega (arith, l.invariant.3, counted q.before.before, asked_on (sets s) l.row.first s.args.dims.width)),
+      c.side_row.auto.sets ∙ l.invariant.2,
+      rw c.next-row.ensures.0 (omega (arith, l.invariant.3, counted c.before.before, asked_on (sets s) l.row.first s.args.dims.width)),
       c.next-row.ensures.1,
     )
 

@@ -1,16 +1,10 @@
-use mathlib.Core.Path.{◌≡◌, refl, sym, ap, ◌∙◌}
-use Prim.Native.Nat.{ℕ, ◌+◌, ◌-◌, ◌≤◌, ◌<◌}
-use borrow.Author.Rules.{rules}
-use native.Mathlib.Omega.{arith}
+use mathlib.Core.Path.{◌≡◌}
+use Prim.Native.Nat.{◌-◌, ◌≤◌}
 use lib.ListN.{length}
-use lib.Seq.{get_or-take, length-take-le}
-use Rattle.rules.specs.Cells.{Size, cells, coordinates}
-use Rattle.util.specs.Grid.{Starts, size_of, cords_of}
+use Rattle.rules.specs.Cells.{cells, coordinates}
+use Rattle.util.specs.Grid.{size_of, cords_of}
 use Rattle.culling.specs.Culling.{world_of}
 use Rattle.listing.specs.Fresh.{set_at, faces_of, asked}
-use Rattle.listing.proofs.Sets.{set_below}
-use Rattle.util.proofs.Rows.{first, row_end}
-use Rattle.listing.proofs.Rows.{asked_few, asked_row, asked_on}
 use Rattle.listing.proofs.count_quads.Given as goal
 
 abbrev pub invariant-loop-row : goal.invariant-loop-row

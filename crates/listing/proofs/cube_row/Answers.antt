@@ -1,14 +1,12 @@
 -- `listing::cube_row` meets its contract: 63 for a NormalCube, 0 for the others. Assumes nothing.
 use mathlib.Core.Path.{refl, ap, ◌∙◌}
 use mathlib.Core.Bool.{cond}
-use mathlib.Core.List.{List}
-use Prim.Native.Nat.{ℕ, ◌+◌, ◌-◌, ◌≤◌, ◌<◌}
+use Prim.Native.Nat.{ℕ, ◌+◌, ◌<◌}
 use lib.Dec.{eqb}
 use lib.ListN.{length, get_or}
 use Rattle.rules.proofs.ListLaws.{within}
-use Rattle.culling.proofs.Passing.{Passed, passed, pass}
+use Rattle.culling.proofs.Passing.{passed, pass}
 use Rattle.listing.proofs.Sets.{naive_set}
-use borrow.Author.Rules.{rules}
 use native.Mathlib.Omega.{arith}
 use Rattle.listing.proofs.cube_row.Goals as goal
 use Rattle.listing.proofs.cube_row.Lts
@@ -52,9 +50,8 @@ shape_of-sets c = c.loop-x.invariant.1.long
 
 pub returns : goal.returns
 returns c =
-    λ covers outer x h. let s = c in
-    let g = s.args.grid.now in
-    let kinds = s.args.kinds.now in
-    let i : s.args.first + x < length g = omega (arith, s.requires.1, s.requires.0.whole) in
+    λ covers outer x h. let g = c.args.grid.now in
+    let kinds = c.args.kinds.now in
+    let i : c.args.first + x < length g = omega (arith, c.requires.1, c.requires.0.whole) in
     c.loop-x.invariant.1.right x (omega (arith, c.loop-x-test.false))
-    ∙ ap (λ (t : ℕ). cond (eqb (get_or kinds t 0) 1) 63 0) (within g (s.args.first + x) 0 255 i) ∙ naive_set _ outer g (s.args.first + x) _ refl
+    ∙ ap (λ (t : ℕ). cond (eqb (get_or kinds t 0) 1) 63 0) (within g (c.args.first + x) 0 255 i) ∙ naive_set _ outer g (c.args.first + x) _ refl

@@ -1,14 +1,9 @@
-use mathlib.Core.Path.{refl, ap, ◌∙◌}
 use mathlib.Core.Bool.{cond}
 use mathlib.Core.List.{List}
-use Prim.Native.Nat.{ℕ, ◌+◌, ◌-◌, ◌≤◌, ◌<◌}
+use Prim.Native.Nat.{ℕ, ◌+◌, ◌-◌, ◌≤◌}
 use lib.Dec.{eqb}
-use lib.ListN.{length, get_or}
-use Rattle.rules.proofs.ListLaws.{within}
-use Rattle.culling.proofs.Passing.{Passed, passed, pass}
-use Rattle.listing.proofs.Sets.{naive_set}
-use borrow.Author.Rules.{rules}
-use native.Mathlib.Omega.{arith}
+use lib.ListN.{get_or}
+use Rattle.culling.proofs.Passing.{Passed}
 use Rattle.listing.proofs.cube_row.Given as goal
 
 -- the set of cell c

@@ -5,10 +5,9 @@ use native.Mathlib.Omega.{arith}
 use lib.Bits.{and_le_r}
 use lib.Count.{count_trailing_zeros}
 use lib.ListN.{length, set}
-use borrow.Author.Rules.{rules}
 use Rattle.rules.specs.Cells.{key_of, link_word, first_vertex, rank}
 use Rattle.face.specs.Face.{number}
-use Rattle.listing.proofs.Listing.{Indexed, begin, index_kept, index_below, index_room, index_place, index_next, end}
+use Rattle.listing.proofs.Listing.{begin, index_kept, index_below, index_room, index_place, index_next, end}
 use Rattle.listing.proofs.index_cell.Goals as goal
 use Rattle.listing.proofs.index_cell.Lts
 use Rattle.listing.proofs.index_cell.Tie

@@ -1,13 +1,4 @@
-use mathlib.Core.Path.{◌≡◌, refl, ap, ◌∙◌}
-use Prim.Native.Nat.{ℕ, ◌+◌, ◌-◌, ◌*◌, ◌≤◌, ◌<◌}
-use native.Mathlib.Omega.{arith}
-use lib.Bits.{and_le_r}
-use lib.Count.{count_trailing_zeros}
-use lib.ListN.{length, set}
-use borrow.Author.Rules.{rules}
-use Rattle.rules.specs.Cells.{key_of, link_word, first_vertex, rank}
-use Rattle.face.specs.Face.{number}
-use Rattle.listing.proofs.Listing.{Indexed, begin, index_kept, index_below, index_room, index_place, index_next, end}
+use Rattle.listing.proofs.Listing.{Indexed}
 use Rattle.listing.proofs.index_cell.Given as goal
 
 abbrev pub invariant-loop-rest : goal.invariant-loop-rest

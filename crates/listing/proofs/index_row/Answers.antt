@@ -1,10 +1,8 @@
 -- `listing::index_row` meets its contract: before cell x, the faces of the cells before it are entered. Assumes nothing.
 use mathlib.Core.Path.{◌≡◌}
-use Prim.Native.Nat.{◌-◌, ◌≤◌}
 use native.Mathlib.Omega.{arith}
 use lib.ListN.{length}
-use borrow.Author.Rules.{rules}
-use Rattle.listing.proofs.Listing.{RowEntered, row_begin, row_kept, row_room, row_next, row_end}
+use Rattle.listing.proofs.Listing.{row_begin, row_kept, row_room, row_next, row_end}
 use Rattle.listing.proofs.index_row.Goals as goal
 use Rattle.listing.proofs.index_row.Lts
 use Rattle.listing.proofs.index_row.Tie
@@ -24,12 +22,10 @@ kept l = row_kept _ _ _ _ _ _ _ l.loop-x.invariant.1 l.loop-x.invariant.0 (start
 
 pub index_cell-n-requires : goal.index_cell-n-requires
 index_cell-n-requires c =
-    let w = c in
-    let i = w in
-    let l = i.before.before.before.before.before.before.before.before in
+    let l = c.before.before.before.before.before.before.before.before in
     let s = start l in
     let p = s.requires.0 in
-    let t = i.loop-x-test.true in
+    let t = c.loop-x-test.true in
     let r = row_room _ _ _ _ _ _ _ l.loop-x.invariant.1 t in (
       omega (arith, t, p.cells),
       omega (arith, t, p.slots, (kept l).1),
@@ -37,24 +33,21 @@ index_cell-n-requires c =
       omega (arith, r.0, p.few),
       omega (arith, r.1, p.sides, l.loop-x.invariant.1.are.kept),
       p.set _ t,
-      w.side_at-side.ensures.1,
+      c.side_at-side.ensures.1,
       s.requires.2,
     )
 
 pub loop-x-preserved : goal.loop-x-preserved
 loop-x-preserved c =
-    let w = c in
-    let a = w in
-    let i = a in
-    let l = i.before.before.before.before.before.before.before.before.before.before.before.before.before.before.before in
-    let e = w.index_cell-n.ensures in
-    (omega (arith, i.loop-x-test.true), row_next _ _ _ _ _ _ _ l.loop-x.invariant.1 (omega (arith, (start l).requires.0.links)) a.side_at-side.ensures.0 e.0 e.1)
+    let l = c.before.before.before.before.before.before.before.before.before.before.before.before.before.before.before in
+    let e = c.index_cell-n.ensures in
+    (omega (arith, c.loop-x-test.true), row_next _ _ _ _ _ _ _ l.loop-x.invariant.1 (omega (arith, (start l).requires.0.links)) c.side_at-side.ensures.0 e.0 e.1)
 
 pub loop-x-init : goal.loop-x-init
 loop-x-init c = (omega arith, row_begin _ _ _ _ _ _ _)
 
 pub side_at-side-requires : goal.side_at-side-requires
-side_at-side-requires c = let i = c in omega (arith, i.loop-x-test.true, (start i.before.before.before).requires.0.width)
+side_at-side-requires c = omega (arith, c.loop-x-test.true, (start c.before.before.before).requires.0.width)
 
 pub shape_of-links : goal.shape_of-links
 shape_of-links c = (kept c.before.before).0

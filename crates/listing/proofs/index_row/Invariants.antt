@@ -1,9 +1,6 @@
-use mathlib.Core.Path.{◌≡◌}
 use Prim.Native.Nat.{◌-◌, ◌≤◌}
-use native.Mathlib.Omega.{arith}
 use lib.ListN.{length}
-use borrow.Author.Rules.{rules}
-use Rattle.listing.proofs.Listing.{RowEntered, row_begin, row_kept, row_room, row_next, row_end}
+use Rattle.listing.proofs.Listing.{RowEntered}
 use Rattle.listing.proofs.index_row.Given as goal
 
 abbrev pub invariant-loop-x : goal.invariant-loop-x

@@ -2,7 +2,6 @@
 use mathlib.Core.Path.{◌≡◌, refl, ap, ◌∙◌}
 use mathlib.Core.List.{List}
 use Prim.Native.Nat.{ℕ, ◌+◌, ◌-◌, ◌≤◌, ◌<◌}
-use borrow.Author.Rules.{rules}
 use native.Mathlib.Omega.{arith}
 use lib.ListN.{length, get_or, drop, length-drop}
 use lib.Seq.{get_or-take, get_or-drop, length-take-le}
@@ -38,14 +37,13 @@ part-long list x to h = omega (arith, length-drop x list)
 
 pub quads_in_few-requires : goal.quads_in_few-requires
 quads_in_few-requires c =
-    let s = c in
-    let list = s.args.sets.now in
+    let list = c.args.sets.now in
     let x = c.loop-x.x in
     let t = c.few_to-to in
     let to = t.result in
     let l = length-take-le (to - x) (drop x list) (part-long list x to t.ensures.2) in (
       omega (arith, t.ensures.1, l),
-      λ k h. let i : k < to - x = omega arith in rw (get_or-take (to - x) (drop x list) k 0 i, get_or-drop x list k 0) (s.requires.1 (x + k) (omega (arith, t.ensures.2))),
+      λ k h. let i : k < to - x = omega arith in rw (get_or-take (to - x) (drop x list) k 0 i, get_or-drop x list k 0) (c.requires.1 (x + k) (omega (arith, t.ensures.2))),
     )
 
 -- as many as they ask for among the row's
@@ -62,11 +60,10 @@ counted c =
 
 pub overflow_add-n : goal.overflow_add-n
 overflow_add-n c =
-    let s = c in
-    let list = s.args.sets.now in
+    let list = c.args.sets.now in
     let l = c.loop-x in
     let t = c.few_to-to in
-    omega (arith, l.invariant.1, asked_few (sets_from 0 list) l.x 0, asked_few (sets_from 0 list) (t.result - l.x) l.x, counted c.before, t.ensures.2, t.ensures.0, s.requires.0)
+    omega (arith, l.invariant.1, asked_few (sets_from 0 list) l.x 0, asked_few (sets_from 0 list) (t.result - l.x) l.x, counted c.before, t.ensures.2, t.ensures.0, c.requires.0)
 
 pub loop-x-smaller : goal.loop-x-smaller
 loop-x-smaller c = let t = c.few_to-to in omega (arith, t.ensures.0, t.ensures.2)

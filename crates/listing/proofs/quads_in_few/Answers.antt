@@ -1,12 +1,11 @@
 -- `listing::quads_in_few` meets its contract: the sets before x are counted. Assumes nothing.
 use mathlib.Core.Path.{◌≡◌, refl, ap, ◌∙◌}
 use Prim.Native.Nat.{ℕ, ◌+◌, ◌-◌, ◌≤◌}
-use lib.ListN.{length, get_or}
+use lib.ListN.{get_or}
 use Rattle.rules.specs.Cells.{quads_of}
 use Rattle.listing.specs.Fresh.{sets_from, asked}
 use Rattle.listing.proofs.Sets.{quads_le}
 use Rattle.listing.proofs.Rows.{asked_few, asked_step}
-use borrow.Author.Rules.{rules}
 use native.Mathlib.Omega.{arith}
 use Rattle.listing.proofs.quads_in_few.Goals as goal
 use Rattle.listing.proofs.quads_in_few.Lts
@@ -32,9 +31,8 @@ overflow_cast-n c = omega (arith, few c.before)
 
 pub overflow_add-n : goal.overflow_add-n
 overflow_add-n c =
-    let s = c in
     let l = c.loop-x in
-    omega (arith, few c.before, l.invariant.1, asked_few (sets_from 0 s.args.sets.now) l.x 0, c.loop-x-test.true, s.requires.0)
+    omega (arith, few c.before, l.invariant.1, asked_few (sets_from 0 c.args.sets.now) l.x 0, c.loop-x-test.true, c.requires.0)
 
 pub overflow_add-x : goal.overflow_add-x
 overflow_add-x c = omega (arith, c.loop-x-test.true, c.requires.0)

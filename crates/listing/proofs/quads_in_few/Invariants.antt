@@ -1,12 +1,7 @@
-use mathlib.Core.Path.{◌≡◌, refl, ap, ◌∙◌}
-use Prim.Native.Nat.{ℕ, ◌+◌, ◌-◌, ◌≤◌}
-use lib.ListN.{length, get_or}
-use Rattle.rules.specs.Cells.{quads_of}
+use mathlib.Core.Path.{◌≡◌}
+use Prim.Native.Nat.{◌-◌, ◌≤◌}
+use lib.ListN.{length}
 use Rattle.listing.specs.Fresh.{sets_from, asked}
-use Rattle.listing.proofs.Sets.{quads_le}
-use Rattle.listing.proofs.Rows.{asked_few, asked_step}
-use borrow.Author.Rules.{rules}
-use native.Mathlib.Omega.{arith}
 use Rattle.listing.proofs.quads_in_few.Given as goal
 
 abbrev pub invariant-loop-x : goal.invariant-loop-x

@@ -1,5 +1,4 @@
 -- `listing::side_row` meets its contract: Culling asks for what `drawn_row` finds, Naive for all six of a NormalCube. Assumes nothing.
-use borrow.Author.Rules.{rules}
 use native.Mathlib.Omega.{arith}
 use Rattle.util.specs.Grid.{size_of}
 use Rattle.listing.specs.Fresh.{set_at, faces_of}
@@ -13,21 +12,17 @@ drawn_row-requires c = c.requires
 pub returns-then-culling : goal.returns-then-culling
 unfolding set_at
 returns-then-culling c x h =
-    let s = c in
-    let d = c in
-    let faces = faces_of s.args.look.outer in
-    rw c.if-culling.true (d.drawn_row.ensures faces (outer_faces s.args.look.outer s.requires.0.outer) x h)
+    let faces = faces_of c.args.look.outer in
+    rw c.if-culling.true (c.drawn_row.ensures faces (outer_faces c.args.look.outer c.requires.0.outer) x h)
 
 pub cube_row-requires : goal.cube_row-requires
 cube_row-requires c =
-    let s = c in
-    let r = s.requires.0 in (
+    let r = c.requires.0 in (
       record { within = r.grid.within; whole = r.grid.whole; typed = λ k l. omega (arith, r.grid.typed k l, r.both) },
-      row_end (size_of s.args.dims) r.grid.within s.requires.1,
-      s.requires.2,
+      row_end (size_of c.args.dims) r.grid.within c.requires.1,
+      c.requires.2,
     )
 
 pub returns : goal.returns
 returns c x h =
-    let s = c in
-    rw c.if-culling.false (c.cube_row.ensures s.args.covers.now (faces_of s.args.look.outer) x h)
+    rw c.if-culling.false (c.cube_row.ensures c.args.covers.now (faces_of c.args.look.outer) x h)

@@ -1,5 +1,4 @@
 use lib.ListN.{set}
-use borrow.Author.Rules.{rules}
 use Rattle.mesh_metadata.proofs.fill.Goals as goal
 
 pub returns : goal.returns

@@ -1,11 +1,10 @@
 use mathlib.Core.Path.{◌≡◌, refl, ap, ◌∙◌}
-use mathlib.Core.List.{List, ◌++◌, append-nil}
-use Prim.Native.Nat.{ℕ, ◌+◌, ◌-◌, ◌≤◌}
-use lib.ListN.{length, drop, set, replicate, length-set, drop_of_length-le}
+use mathlib.Core.List.{List, append-nil}
+use Prim.Native.Nat.{ℕ}
+use lib.ListN.{length, set, replicate, length-set, drop_of_length-le}
 use Rattle.rules.specs.Mesh.{NONE}
 use Rattle.mesh_metadata.proofs.Slots.{fill_more}
 use native.Mathlib.Omega.{arith}
-use borrow.Author.Rules.{rules}
 use Rattle.mesh_metadata.proofs.new.Goals as goal
 
 pub loop-i-init : goal.loop-i-init

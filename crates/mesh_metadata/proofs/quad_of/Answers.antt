@@ -4,11 +4,8 @@ use Prim.Native.Nat.{ℕ, ◌/◌}
 use lib.ListN.{get_or}
 use Rattle.rules.specs.Mesh.{NONE}
 use Rattle.rules.proofs.ListLaws.{within}
-use borrow.Author.Rules.{rules}
 use Rattle.mesh_metadata.proofs.quad_of.Goals as goal
 
 pub returns : goal.returns
 returns c =
-    let slot = c in
-    let t = slot in
-    c.quad.ensures ∙ ap (λ (w : ℕ). w / 4) (ap (λ (k : ℕ). get_or t.args.slots.now k 0) slot.wide-slot.ensures.0 ∙ sym (within t.args.slots.now t.args.key NONE 0 t.requires))
+    c.quad.ensures ∙ ap (λ (w : ℕ). w / 4) (ap (λ (k : ℕ). get_or c.args.slots.now k 0) c.wide-slot.ensures.0 ∙ sym (within c.args.slots.now c.args.key NONE 0 c.requires))

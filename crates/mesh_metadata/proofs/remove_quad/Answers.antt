@@ -1,7 +1,6 @@
 -- `mesh_metadata::remove_quad` meets its contract. Assumes nothing.
 use lib.ListN.{set}
 use Rattle.rules.specs.Mesh.{NONE}
-use borrow.Author.Rules.{rules}
 use Rattle.mesh_metadata.proofs.remove_quad.Goals as goal
 
 pub returns : goal.returns

@@ -1,13 +1,12 @@
 -- `mesh_metadata::rename` meets its contract: slot by slot. Assumes nothing.
 use mathlib.Core.Path.{◌≡◌, refl, ap, ◌∙◌}
 use mathlib.Core.List.{List, map}
-use Prim.Native.Nat.{ℕ, ◌-◌, ◌≤◌}
-use lib.ListN.{length, get_or, set}
+use Prim.Native.Nat.{ℕ, ◌-◌}
+use lib.ListN.{get_or, set}
 use Rattle.rules.specs.Cells.{key_in, first_vertex}
 use Rattle.mesh_metadata.specs.Index.{shifted}
 use Rattle.mesh_metadata.proofs.Slots.{none_shifted, step}
 use native.Mathlib.Omega.{arith}
-use borrow.Author.Rules.{rules}
 use Rattle.mesh_metadata.proofs.rename.Goals as goal
 
 pub loop-i-init : goal.loop-i-init
@@ -18,9 +17,8 @@ loop-i-init c =
 
 pub change_quad_index-requires : goal.change_quad_index-requires
 change_quad_index-requires c =
-    let t = c in
     let l = c.loop-i in
-    let k = t.requires.2 in
+    let k = c.requires.2 in
     let z = k.small in
     let r = k.room in
     let m = k.slot l.i (omega arith) in
@@ -28,15 +26,14 @@ change_quad_index-requires c =
 
 pub loop-i-preserved : goal.loop-i-preserved
 loop-i-preserved c =
-    let t = c in
-    let a = t.args in
+    let a = c.args in
     let l = c.loop-i in
     let h = c.change_quad_index in (
       omega arith,
       omega arith,
       h.ensures
           ∙ ap (λ (x : List ℕ). set x (key_in (get_or a.links.now l.i 0)) (first_vertex (l.i - (a.from - a.q)))) l.invariant.2
-          ∙ step a.count a.links.now a.slots.now t.requires.2 a.q a.from l.i t.requires.0 l.invariant.0 (omega arith),
+          ∙ step a.count a.links.now a.slots.now c.requires.2 a.q a.from l.i c.requires.0 l.invariant.0 (omega arith),
       h.auto.slots ∙ l.invariant.3,
     )
 

@@ -1,12 +1,8 @@
-use mathlib.Core.Path.{◌≡◌, refl, ap, ◌∙◌}
-use mathlib.Core.List.{List, map}
-use Prim.Native.Nat.{ℕ, ◌-◌, ◌≤◌}
-use lib.ListN.{length, get_or, set}
-use Rattle.rules.specs.Cells.{key_in, first_vertex}
+use mathlib.Core.Path.{◌≡◌}
+use mathlib.Core.List.{map}
+use Prim.Native.Nat.{◌-◌, ◌≤◌}
+use lib.ListN.{length}
 use Rattle.mesh_metadata.specs.Index.{shifted}
-use Rattle.mesh_metadata.proofs.Slots.{none_shifted, step}
-use native.Mathlib.Omega.{arith}
-use borrow.Author.Rules.{rules}
 use Rattle.mesh_metadata.proofs.rename.Given as goal
 
 abbrev pub invariant-loop-i : goal.invariant-loop-i

@@ -1,9 +1,8 @@
-use borrow.Author.Rules.{rules}
 use Rattle.mesh_metadata.proofs.slot_of.Goals as goal
 
 pub key_of-requires : goal.key_of-requires
 key_of-requires c =
-    let t = c in rw c.wide-at.ensures.0 t.requires.1
+    rw c.wide-at.ensures.0 c.requires.1
 
 pub returns : goal.returns
 returns c = cc

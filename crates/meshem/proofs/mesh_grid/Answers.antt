@@ -1,14 +1,13 @@
 -- `meshem::mesh_grid` meets its contract: the refusals in their order, then row after row in each list. Assumes nothing.
 use mathlib.Core.Path.{◌≡◌, refl, sym, ap, ◌∙◌, subst}
 use mathlib.Core.List.{List, [], ◌++◌}
-use Prim.Native.Nat.{ℕ, ◌+◌, ◌-◌, ◌*◌, ◌≤◌, ◌<◌}
-use borrow.Author.Rules.{rules}
+use Prim.Native.Nat.{ℕ, ◌+◌, ◌*◌, ◌≤◌, ◌<◌}
 use native.Mathlib.Decide.{dec_lt}
 use native.Mathlib.Omega.{arith}
 use lib.ListN.{length, take, drop, replicate, length-append, length-drop, length-replicate}
 use lib.Seq.{get_or-take, length-take-le}
 use Rattle.rules.specs.Lists.{member}
-use Rattle.rules.specs.Cells.{cells, coordinates}
+use Rattle.rules.specs.Cells.{cells}
 use Rattle.rules.specs.Mesh.{Quad, Vertices, vertices_of, Lists, NONE, lists_of}
 use Rattle.rules.specs.Answers.{fine}
 use Rattle.rules.specs.Calls.{Scene, answered, faces, room, fresh_mesh, input_verdict}
@@ -16,7 +15,7 @@ use Rattle.rules.proofs.ListLaws.{All, all_at}
 use Rattle.rules.proofs.Sets.{set_of_lt}
 use Rattle.rules.proofs.Demands.{room_for}
 use Rattle.answers.specs.Verdicts.{verdict_of}
-use Rattle.util.specs.Grid.{Starts, size_of, cords_of}
+use Rattle.util.specs.Grid.{Starts}
 use Rattle.util.proofs.Rows.{first, row_end}
 use Rattle.terms.specs.Scenes.{scene_of}
 use Rattle.terms.specs.Modes.{is_culling}
@@ -32,7 +31,7 @@ use Rattle.listing.proofs.Sets.{set_below}
 use Rattle.listing.proofs.Rows.{asked_le, asked_few, asked_on}
 use Rattle.listing.proofs.Keys.{row_keys, row_asked}
 use Rattle.meshem.proofs.Turns.{found_sides, all_in_row, all_sides}
-use Rattle.meshem.proofs.Drawn.{Drawn, begun, row_more, kept_vertices, kept_links, kept_slots, found_asked, drawn_all}
+use Rattle.meshem.proofs.Drawn.{begun, row_more, kept_vertices, kept_links, kept_slots, found_asked, drawn_all}
 use Rattle.meshem.proofs.Whole.{refusing, no_room, done}
 use Rattle.meshem.proofs.mesh_grid.Goals as goal
 use Rattle.meshem.proofs.mesh_grid.Lts
@@ -179,10 +178,9 @@ module _ (l : Else-room-quads) (c : ℕ) (h : c ≤ cells (scene (begin (counted
 
 pub returns-in-Refuse : goal.returns-in-Refuse
 returns-in-Refuse c =
-    let v = c in
-    let s = start v.before.before in
+    let s = start c.before.before in
     sym (refusing (scene s) s.args.outer.now s.args.grid.now (is_culling s.args.algorithm) (lists s)
-    (sym (v.input_verdict-told.ensures (lists s) refl) ∙ ap verdict_of c.in-Refuse.is))
+    (sym (c.input_verdict-told.ensures (lists s) refl) ∙ ap verdict_of c.in-Refuse.is))
 
 pub outer_set-requires : goal.outer_set-requires
 outer_set-requires c = (known c.before.before.before).face
@@ -201,11 +199,10 @@ count_quads-quads-requires c =
 
 pub returns-then-room-quads : goal.returns-then-room-quads
 returns-then-room-quads c =
-    let r = c in
-    let q = r.before.before.before.before in
+    let q = c.before.before.before.before in
     let s = begin q in
     sym (no_room (scene s) s.args.outer.now s.args.grid.now (is_culling s.args.algorithm) (lists s) (passed (typed (counting q)))
-    (omega (arith, c.if-room-quads.true, room-is r.before.before, quads_are q)))
+    (omega (arith, c.if-room-quads.true, room-is c.before.before, quads_are q)))
 
 pub cell_count-end-requires : goal.cell_count-end-requires
 cell_count-end-requires c = (known (typed (counting (counted c.before.before)))).within.sides
@@ -229,8 +226,7 @@ write_patterns-requires c =
 
 pub loop-base-init : goal.loop-base-init
 loop-base-init c =
-    let l = c in
-    let q = counted l.before.before.before.before.before.before.before.before.before.before.before.before in
+    let q = counted c.before.before.before.before.before.before.before.before.before.before.before.before in
     (omega arith, first (scene (begin q)).size, begun _ _ _ _ _ _, omega (arith, q.count_quads-quads.auto.sets), refl)
 
 -- ---- a row
@@ -261,10 +257,9 @@ slice_bounds-side_row-end c = sym c.loop-base.invariant.3
 
 pub side_row-requires : goal.side_row-requires
 side_row-requires c =
-    let i = c in
-    let q = done-with i.before.before.before in
+    let q = done-with c.before.before.before in
     let f = counting q in
-    (rows-known f, row i.before.before.before, omega (arith, i.loop-base.invariant.3, (known (typed f)).within.sides.widest), q.sides_along.ensures)
+    (rows-known f, row c.before.before.before, omega (arith, c.loop-base.invariant.3, (known (typed f)).within.sides.widest), q.sides_along.ensures)
 
 -- the list of sets has room for a row
 long-enough : (r : After-side_row) →

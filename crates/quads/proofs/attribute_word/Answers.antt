@@ -1,9 +1,8 @@
 -- `quads::attribute_word` meets its contract: word j is a float of a vertex. Assumes nothing.
 use mathlib.Core.Path.{sym, ap, ◌∙◌}
-use Prim.Native.Nat.{ℕ, ◌/◌, ◌%◌, ◌<◌}
+use Prim.Native.Nat.{ℕ, ◌/◌, ◌%◌}
 use native.Mathlib.Omega.{arith}
 use lib.ListN.{get_or}
-use borrow.Author.Rules.{rules}
 use Rattle.rules.specs.Types.{quad_words}
 use Rattle.rules.specs.Mesh.{attribute_in}
 use Rattle.util.specs.Grid as grid
@@ -29,19 +28,17 @@ nonzero_div-j c = omega (arith, c.width-width.ensures, (parted c.before.before.b
 
 pub quad_word-requires : goal.quad_word-requires
 quad_word-requires c =
-    let t = c in
-    let s = parted t.before.before.before in
-    rw c.width-width.ensures (t.requires.0, t.requires.1, s.vertex, s.float)
+    let s = parted c.before.before.before in
+    rw c.width-width.ensures (c.requires.0, c.requires.1, s.vertex, s.float)
 
 pub returns : goal.returns
 returns c =
-    let t = c in
-    let s = parted t.before.before.before.before in
-    let a = t.args in
+    let s = parted c.before.before.before.before in
+    let a = c.args in
     let b = attribute_of a.attribute in
     c.quad_word.ensures
     ∙ rw c.width-width.ensures
-    (sym (word_at a.corners.now a.floats (triple_of a.d) 0 (grid.triple_of a.at) b t.requires.1 (a.j / b.width) (a.j % b.width) s.vertex s.float)
+    (sym (word_at a.corners.now a.floats (triple_of a.d) 0 (grid.triple_of a.at) b c.requires.1 (a.j / b.width) (a.j % b.width) s.vertex s.float)
     ∙ ap (λ (j : ℕ). get_or (attribute_in a.floats b 4 (quad_words a.corners.now a.floats (triple_of a.d) 0 (grid.triple_of a.at))) j 0) s.whole)
 
 pub nonzero_rem-j : goal.nonzero_rem-j

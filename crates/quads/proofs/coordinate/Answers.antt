@@ -1,5 +1,4 @@
 -- `quads::coordinate` meets its contract. Assumes nothing.
-use borrow.Author.Rules.{rules}
 use Rattle.quads.proofs.coordinate.Goals as goal
 
 pub returns : goal.returns

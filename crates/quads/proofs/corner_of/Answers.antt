@@ -1,5 +1,4 @@
 -- `quads::corner_of` meets its contract: the table is the rule's order. Assumes nothing.
-use borrow.Author.Rules.{rules}
 use mathlib.Core.Path.{refl}
 use Rattle.rules.specs.Types.{order}
 use Rattle.quads.proofs.corner_of.Goals as goal

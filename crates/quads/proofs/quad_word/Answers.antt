@@ -3,7 +3,6 @@ use mathlib.Core.Path.{◌≡◌, sym, ap, ◌∙◌}
 use Prim.Native.Nat.{◌+◌, ◌*◌, ◌≤◌, ◌<◌}
 use native.Mathlib.Omega.{arith}
 use lib.ListN.{get_or}
-use borrow.Author.Rules.{rules}
 use borrow.Author.Tests.{lt-ltb, le-ltb}
 use Rattle.rules.specs.Types.{order, quad_word}
 use Rattle.rules.specs.Mesh as rules
@@ -26,8 +25,7 @@ Start = Lts.Start Tie.the-claims Reads.Pre Reads.Post
 
 within : (c : After-corner_of-corner) → c.corner_of-corner.result < 4
 within c =
-    let t = c in
-    rw c.corner_of-corner.ensures (order_below t.args.i t.requires.2)
+    rw c.corner_of-corner.ensures (order_below c.args.i c.requires.2)
 
 -- ---- a position
 module _ (c : Then-start-eq0) where
@@ -70,18 +68,16 @@ returns-then-start-eq0 c =
 pub returns : goal.returns
 unfolding quad_word
 returns c =
-    let arm = c in
-    let t = arm in
-    let past = is_past t.args.attribute (λ e. arm.if-start-eq0.false (arm.start.ensures ∙ e)) in
-    let far : 3 ≤ (attribute_of t.args.attribute).start + t.args.k = omega arith in
-    let z : 4 * 0 + get_or order t.args.i 0 ≡ get_or order t.args.i 0 = omega arith in
-    rw z (simp (c.word_of-2.ensures, c.start-2.ensures, arm.corner_of-corner.ensures, le-ltb _ _ far))
+    let past = is_past c.args.attribute (λ e. c.if-start-eq0.false (c.start.ensures ∙ e)) in
+    let far : 3 ≤ (attribute_of c.args.attribute).start + c.args.k = omega arith in
+    let z : 4 * 0 + get_or order c.args.i 0 ≡ get_or order c.args.i 0 = omega arith in
+    rw z (simp (c.word_of-2.ensures, c.start-2.ensures, c.corner_of-corner.ensures, le-ltb _ _ far))
 
 pub word_of-requires : goal.word_of-requires
 word_of-requires c = let t = placing c.before in (t.requires.0.words, within c.before.before.before, omega (arith, t.requires.1, t.requires.3))
 
 pub overflow_add-start : goal.overflow_add-start
-overflow_add-start c = let t = c in omega (arith, c.start-2.ensures, few_floats t.args.attribute, t.requires.3)
+overflow_add-start c = omega (arith, c.start-2.ensures, few_floats c.args.attribute, c.requires.3)
 
 pub word_of-requires-2 : goal.word_of-requires-2
-word_of-requires-2 c = let t = c in (t.requires.0.words, within c.before.before.before.before, omega (arith, c.start-2.ensures, t.requires.1, t.requires.3))
+word_of-requires-2 c = (c.requires.0.words, within c.before.before.before.before, omega (arith, c.start-2.ensures, c.requires.1, c.requires.3))

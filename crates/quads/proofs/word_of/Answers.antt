@@ -1,6 +1,5 @@
 -- `quads::word_of` meets its contract: the place is below four vertices' words. Assumes nothing.
 use native.Mathlib.Omega.{arith}
-use borrow.Author.Rules.{rules}
 use Rattle.quads.proofs.Writing.{corner_within}
 use Rattle.quads.proofs.word_of.Goals as goal
 
@@ -15,5 +14,4 @@ offset_bounds-corners-floats c = omega (arith, corner_within c.args.floats c.arg
 
 pub bounds-corners-floats : goal.bounds-corners-floats
 bounds-corners-floats c =
-    let t = c in
-    omega (arith, corner_within t.args.floats t.args.corner t.requires.1)
+    omega (arith, corner_within c.args.floats c.args.corner c.requires.1)

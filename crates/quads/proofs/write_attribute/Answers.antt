@@ -1,9 +1,8 @@
 -- `quads::write_attribute` meets its contract: normals by themselves, any other attribute four words at a time. Assumes nothing.
 use mathlib.Core.Path.{◌≡◌, sym, ap, subst, ◌∙◌}
-use Prim.Native.Nat.{ℕ, ◌+◌, ◌-◌, ◌*◌, ◌≤◌}
+use Prim.Native.Nat.{ℕ, ◌+◌, ◌*◌}
 use native.Mathlib.Omega.{arith}
 use lib.ListN.{length}
-use borrow.Author.Rules.{rules}
 use Rattle.rules.specs.Types.{quad_words}
 use Rattle.rules.specs.Mesh.{normal, attribute_in}
 use Rattle.rules.specs.Mesh as rules
@@ -31,15 +30,13 @@ is-it c = is_normal c.args.attribute (sym c.start.ensures ∙ c.if-start-eq3.tru
 
 pub write_normals-requires : goal.write_normals-requires
 write_normals-requires c =
-    let t = c in
-    (t.requires.0.words, t.requires.2 ∙ ap (λ (b : rules.Attribute). 4 * b.width) (is-it c.before.before))
+    (c.requires.0.words, c.requires.2 ∙ ap (λ (b : rules.Attribute). 4 * b.width) (is-it c.before.before))
 
 pub returns-then-start-eq3 : goal.returns-then-start-eq3
 returns-then-start-eq3 c =
-    let wrote = c in
-    let arm = wrote.before.before.before.before.before in
+    let arm = c.before.before.before.before.before in
     let a = arm.args in
-    wrote.write_normals.ensures (triple_of a.d) (grid.triple_of a.at)
+    c.write_normals.ensures (triple_of a.d) (grid.triple_of a.at)
     ∙ ap (λ (b : rules.Attribute). attribute_in a.floats b 4 (quad_words a.corners.now a.floats (triple_of a.d) 0 (grid.triple_of a.at))) (sym (is-it arm))
 
 -- ---- any other attribute
@@ -53,36 +50,30 @@ loop-g-init c = let t = c.before.before.before.before.before.before in (omega ar
 
 pub write_words-requires : goal.write_words-requires
 write_words-requires c =
-    let test = c in
-    let l = test.loop-g in
-    let t = test in
-    let below = test.loop-g-test.true in
-    (t.requires.0, t.requires.1, omega (arith, test.width-width.ensures), l.invariant.1.long ∙ long t.before.before.before.before.before.before.before.before.before)
+    let l = c.loop-g in
+    let below = c.loop-g-test.true in
+    (c.requires.0, c.requires.1, omega (arith, c.width-width.ensures), l.invariant.1.long ∙ long c.before.before.before.before.before.before.before.before.before)
 
 pub loop-g-preserved : goal.loop-g-preserved
 loop-g-preserved c =
-    let wrote = c in
-    let test = wrote in
-    let l = test.loop-g in
-    let t = test in
-    let below = test.loop-g-test.true in
-    let a = t.args in
+    let l = c.loop-g in
+    let below = c.loop-g-test.true in
+    let a = c.args in
     let whole = attribute_in a.floats (attribute_of a.attribute) 4 (quad_words a.corners.now a.floats (triple_of a.d) 0 (grid.triple_of a.at)) in
     let e : 4 * l.g + 4 ≡ 4 * (l.g + 1) = omega arith in (
       omega arith,
-      subst (λ (j : ℕ). Begun whole j wrote.write_words.new.out) e
-          (begun_more whole (four whole (4 * l.g)) l.invariant.1 (omega (arith, long t.before.before.before.before.before.before.before.before.before.before.before.before, test.width-width.ensures)) (omega arith) (four_at whole (4 * l.g)) wrote.write_words.ensures),
+      subst (λ (j : ℕ). Begun whole j c.write_words.new.out) e
+          (begun_more whole (four whole (4 * l.g)) l.invariant.1 (omega (arith, long c.before.before.before.before.before.before.before.before.before.before.before.before, c.width-width.ensures)) (omega arith) (four_at whole (4 * l.g)) c.write_words.ensures),
     )
 
 pub returns : goal.returns
 returns c =
     let l = c.loop-g in
-    let t = c in
     let past = c.loop-g-test.false in
-    begun_all _ (omega (arith, long t.before.before.before.before.before.before.before.before, c.width-width.ensures)) l.invariant.1
+    begun_all _ (omega (arith, long c.before.before.before.before.before.before.before.before, c.width-width.ensures)) l.invariant.1
 
 pub overflow_mul-g : goal.overflow_mul-g
-overflow_mul-g c = let t = c in let below = c.loop-g-test.true in omega (arith, c.width-width.ensures, few_floats t.args.attribute)
+overflow_mul-g c = let below = c.loop-g-test.true in omega (arith, c.width-width.ensures, few_floats c.args.attribute)
 
 pub shape_of-out : goal.shape_of-out
-shape_of-out c = let t = c in c.loop-g.invariant.1.long ∙ long t.before.before.before.before.before.before.before.before ∙ sym t.requires.2
+shape_of-out c = c.loop-g.invariant.1.long ∙ long c.before.before.before.before.before.before.before.before ∙ sym c.requires.2

@@ -1,18 +1,10 @@
-use mathlib.Core.Path.{◌≡◌, sym, ap, subst, ◌∙◌}
-use Prim.Native.Nat.{ℕ, ◌+◌, ◌-◌, ◌*◌, ◌≤◌}
-use native.Mathlib.Omega.{arith}
-use lib.ListN.{length}
-use borrow.Author.Rules.{rules}
+use Prim.Native.Nat.{◌-◌, ◌*◌, ◌≤◌}
 use Rattle.rules.specs.Types.{quad_words}
-use Rattle.rules.specs.Mesh.{normal, attribute_in}
-use Rattle.rules.specs.Mesh as rules
+use Rattle.rules.specs.Mesh.{attribute_in}
 use Rattle.util.specs.Grid as grid
 use Rattle.floats.specs.Triples.{triple_of}
 use Rattle.vav.specs.Attributes.{attribute_of}
-use Rattle.vav.specs.Rows.{four}
-use Rattle.vav.proofs.Attributes.{is_normal, few_floats}
-use Rattle.vav.proofs.Laws.{Begun, none_begun, begun_more, begun_all, four_at}
-use Rattle.quads.proofs.Writing.{length_row_of}
+use Rattle.vav.proofs.Laws.{Begun}
 use Rattle.quads.proofs.write_attribute.Given as goal
 
 abbrev pub invariant-loop-g : goal.invariant-loop-g

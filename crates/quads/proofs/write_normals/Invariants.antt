@@ -1,16 +1,11 @@
-use mathlib.Core.Path.{◌≡◌, sym, subst, ◌∙◌}
+use mathlib.Core.Path.{◌≡◌}
 use mathlib.Core.List.{List}
-use Prim.Native.Nat.{ℕ, ◌+◌, ◌-◌, ◌*◌, ◌≤◌, ◌<◌}
-use native.Mathlib.Omega.{arith}
+use Prim.Native.Nat.{ℕ, ◌-◌, ◌*◌, ◌≤◌}
 use lib.ListN.{length}
-use borrow.Author.Rules.{rules}
 use Rattle.rules.specs.Cells.{Triple}
 use Rattle.rules.specs.Types.{quad_words}
 use Rattle.rules.specs.Mesh.{normal, attribute_in}
-use Rattle.vav.specs.Rows.{four}
-use Rattle.vav.proofs.Laws.{Begun, none_begun, begun_more, begun_all, four_at, part_at, length_part}
-use Rattle.quads.specs.Quads.{FourVertices}
-use Rattle.quads.proofs.Writing.{order_below, corner_within, length_row_of, normal_word}
+use Rattle.vav.proofs.Laws.{Begun}
 use Rattle.quads.proofs.write_normals.Given as goal
 
 abbrev pub normals : List ℕ → ℕ → Triple → Triple → List ℕ

@@ -3,7 +3,6 @@ use Rattle.rules.specs.Mesh.{Lists, vertices_of, lists_of}
 use Rattle.rules.specs.Calls.{Scene}
 use Rattle.terms.specs.Scenes.{scene_of}
 use Rattle.release.proofs.Composed.{by_check, by_refusal}
-use borrow.Author.Rules.{rules}
 use Rattle.release.proofs.check_made.Goals as goal
 use Rattle.release.proofs.check_made.Lts
 use Rattle.release.proofs.check_made.Tie
@@ -26,9 +25,8 @@ start m = m.before.before.before.before.before.before.before.before.before.befor
 
 pub returns-in-Done : goal.returns-in-Done
 returns-in-Done c =
-    let made = c in
-    let t = start made.before.before in
-    by_check t.args.made made.in-Done.quads (scene t) t.args.outer.now t.args.grid.now (lists t) made.in-Done.is c.check_mesh.ensures
+    let t = start c.before.before in
+    by_check t.args.made c.in-Done.quads (scene t) t.args.outer.now t.args.grid.now (lists t) c.in-Done.is c.check_mesh.ensures
 
 pub returns-in-Refused : goal.returns-in-Refused
 returns-in-Refused c =

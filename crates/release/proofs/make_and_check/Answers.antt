@@ -3,7 +3,6 @@ use Rattle.rules.specs.Mesh.{Lists, vertices_of, lists_of}
 use Rattle.rules.specs.Calls.{Scene}
 use Rattle.terms.specs.Scenes.{scene_of}
 use Rattle.release.proofs.Composed.{made}
-use borrow.Author.Rules.{rules}
 use Rattle.release.proofs.make_and_check.Goals as goal
 use Rattle.release.proofs.make_and_check.Lts
 use Rattle.release.proofs.make_and_check.Tie
@@ -20,6 +19,5 @@ lists t = let a = t.args in lists_of (vertices_of a.positions.now a.normals.now 
 
 pub returns : goal.returns
 returns c =
-    let m = c in
-    let t = m.before.before.before.before.before.before.before.before.before.before.before.before.before.before.before.before.before.before.before.before.before.before.before.before.before.before.before.before.before.before.before.before.before.before.before.before in
-    made (scene t) t.args.outer.now t.args.grid.now (lists t) _ m.mesh_grid-made.result c.check_made.ensures m.mesh_grid-made.ensures
+    let t = c.before.before.before.before.before.before.before.before.before.before.before.before.before.before.before.before.before.before.before.before.before.before.before.before.before.before.before.before.before.before.before.before.before.before.before.before in
+    made (scene t) t.args.outer.now t.args.grid.now (lists t) _ c.mesh_grid-made.result c.check_made.ensures c.mesh_grid-made.ensures

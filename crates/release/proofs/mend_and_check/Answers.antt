@@ -11,7 +11,6 @@ use Rattle.terms.specs.Modes.{tested_by}
 use Rattle.answers.proofs.Chains.{passes}
 use Rattle.release.specs.Composed.{checked_after}
 use Rattle.release.proofs.Composed.{checked, left_by, stopped, mended, promised}
-use borrow.Author.Rules.{rules}
 use Rattle.release.proofs.mend_and_check.Goals as goal
 use Rattle.release.proofs.mend_and_check.Lts
 use Rattle.release.proofs.mend_and_check.Tie
@@ -46,22 +45,20 @@ exit u = let l = u.update_mesh.new in lists_of (vertices_of l.positions l.normal
 
 pub returns-then-is_refusal : goal.returns-then-is_refusal
 returns-then-is_refusal c =
-    let k = c in
-    let t = start k.before.before.before in
+    let t = start c.before.before.before in
     promised t.args.tested (scene t) t.args.grid.now t.args.log.now t.args.left.now (lists t) t.args.quads
     (stopped (tested_by t.args.tested) (scene t) t.args.grid.now t.args.log.now t.args.left.now (lists t) t.args.quads _
-    k.check_mesh-passed.ensures (sym c.is_refusal.ensures ∙ c.if-is_refusal.true))
+    c.check_mesh-passed.ensures (sym c.is_refusal.ensures ∙ c.if-is_refusal.true))
 
 pub returns : goal.returns
 returns c =
-    let l = c in
-    let u = l.before.before.before.before.before.before.before.before.before.before.before.before.before.before.before.before.before in
+    let u = c.before.before.before.before.before.before.before.before.before.before.before.before.before.before.before.before.before in
     let o = u.before.before.before.before.before.before.before.before in
     let t = start o.before.before in
     let a = t.args in
     promised a.tested (scene t) a.grid.now a.log.now a.left.now (lists t) a.quads
     (mended (tested_by a.tested) (scene t) a.grid.now a.log.now a.left.now (lists t) a.quads (first_fine o)
     (checked (scene t) [] a.left.now
-    (c.check_made.ensures ∙ ap (λ (m : Meshed). checked_after (answer_of m) (scene t) [] a.left.now (exit u)) l.mesh_left-mended.ensures
+    (c.check_made.ensures ∙ ap (λ (m : Meshed). checked_after (answer_of m) (scene t) [] a.left.now (exit u)) c.mesh_left-mended.ensures
     ∙ left_by u.update_mesh.result (scene t) [] a.left.now (exit u))
     u.update_mesh.ensures))

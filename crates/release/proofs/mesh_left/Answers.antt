@@ -1,5 +1,4 @@
 -- `release::mesh_left` meets its contract: arm by arm. Assumes nothing.
-use borrow.Author.Rules.{rules}
 use Rattle.release.proofs.mesh_left.Goals as goal
 
 pub returns-in-Done : goal.returns-in-Done

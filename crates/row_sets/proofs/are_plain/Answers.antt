@@ -1,12 +1,9 @@
 -- `row_sets::are_plain` meets its contract: the first i codes are plain, if any were tested plain. Assumes nothing.
-use mathlib.Core.Path.{◌≡◌}
-use mathlib.Core.Bool.{true}
-use Prim.Native.Nat.{ℕ, ◌+◌, ◌-◌, ◌≤◌, ◌<◌}
+use Prim.Native.Nat.{◌+◌}
 use lib.ListN.{get_or}
 use borrow.Author.Count.{below_more}
 use Rattle.row_sets.specs.Rows.{Plain}
 use Rattle.row_sets.proofs.Plain.{test_plain}
-use borrow.Author.Rules.{rules}
 use native.Mathlib.Omega.{arith}
 use Rattle.row_sets.proofs.are_plain.Goals as goal
 

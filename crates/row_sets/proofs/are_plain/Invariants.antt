@@ -2,11 +2,7 @@ use mathlib.Core.Path.{◌≡◌}
 use mathlib.Core.Bool.{true}
 use Prim.Native.Nat.{ℕ, ◌+◌, ◌-◌, ◌≤◌, ◌<◌}
 use lib.ListN.{get_or}
-use borrow.Author.Count.{below_more}
 use Rattle.row_sets.specs.Rows.{Plain}
-use Rattle.row_sets.proofs.Plain.{test_plain}
-use borrow.Author.Rules.{rules}
-use native.Mathlib.Omega.{arith}
 use Rattle.row_sets.proofs.are_plain.Given as goal
 
 abbrev pub invariant-loop-i : goal.invariant-loop-i

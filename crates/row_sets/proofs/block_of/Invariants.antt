@@ -1,9 +1,6 @@
 use Prim.Native.Nat.{◌+◌, ◌-◌, ◌≤◌}
-use Rattle.culling.proofs.Passing.{Passed, passed, pass}
+use Rattle.culling.proofs.Passing.{Passed}
 use Rattle.row_sets.specs.Rows.{plain_in}
-use Rattle.row_sets.proofs.Plain.{beside_in_grid}
-use borrow.Author.Rules.{rules}
-use native.Mathlib.Omega.{arith}
 use Rattle.row_sets.proofs.block_of.Given as goal
 
 abbrev pub invariant-loop-i : goal.invariant-loop-i

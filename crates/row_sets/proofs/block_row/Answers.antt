@@ -1,9 +1,6 @@
 -- `row_sets::block_row` meets its contract: the cells before x are done. Assumes nothing.
-use Prim.Native.Nat.{◌-◌, ◌≤◌}
-use Rattle.culling.proofs.Passing.{Passed, passed}
-use Rattle.row_sets.specs.Rows.{plain_in}
+use Rattle.culling.proofs.Passing.{passed}
 use Rattle.row_sets.proofs.Plain.{fill}
-use borrow.Author.Rules.{rules}
 use native.Mathlib.Omega.{arith}
 use Rattle.row_sets.proofs.block_row.Goals as goal
 
@@ -11,10 +8,10 @@ pub loop-x-init : goal.loop-x-init
 loop-x-init c = (omega arith, passed _ _)
 
 pub block_start-start-requires : goal.block_start-start-requires
-block_start-start-requires c = let s = c in (c.loop-x-test.true, s.requires.2, s.requires.0.rows_are.within.sides.widest)
+block_start-start-requires c = (c.loop-x-test.true, c.requires.2, c.requires.0.rows_are.within.sides.widest)
 
 pub block_of-block-requires : goal.block_of-block-requires
-block_of-block-requires c = let s = c in (s.requires.0, s.requires.3, c.block_start-start.ensures.2, s.requires.4)
+block_of-block-requires c = (c.requires.0, c.requires.3, c.block_start-start.ensures.2, c.requires.4)
 
 pub store_block-requires : goal.store_block-requires
 store_block-requires c = omega (arith, c.block_start-start.ensures.2, c.loop-x.invariant.1.long, c.requires.1)

@@ -1,9 +1,6 @@
 use Prim.Native.Nat.{◌-◌, ◌≤◌}
-use Rattle.culling.proofs.Passing.{Passed, passed}
+use Rattle.culling.proofs.Passing.{Passed}
 use Rattle.row_sets.specs.Rows.{plain_in}
-use Rattle.row_sets.proofs.Plain.{fill}
-use borrow.Author.Rules.{rules}
-use native.Mathlib.Omega.{arith}
 use Rattle.row_sets.proofs.block_row.Given as goal
 
 abbrev pub invariant-loop-x : goal.invariant-loop-x

@@ -23,46 +23,46 @@ few : (s : Start) → s.args.rows.sides + get_or s.args.along.now s.args.x 0 < 6
 few s = omega (arith, kept s, set_of_lt (is_there s.args.rows s.args.x))
 
 pub overflow_add-codes : goal.overflow_add-codes
-overflow_add-codes c = let s = c in omega (arith, s.requires.0.rows_are.up.fits, s.requires.0.rows_are.within.most, s.requires.0.whole, s.requires.1.wide)
+overflow_add-codes c = omega (arith, c.requires.0.rows_are.up.fits, c.requires.0.rows_are.within.most, c.requires.0.whole, c.requires.1.wide)
 
 pub bounds-grid-rows : goal.bounds-grid-rows
-bounds-grid-rows c = let s = c in omega (arith, s.requires.0.rows_are.up.fits, s.requires.0.rows_are.within.most, s.requires.0.whole, s.requires.1.wide)
+bounds-grid-rows c = omega (arith, c.requires.0.rows_are.up.fits, c.requires.0.rows_are.within.most, c.requires.0.whole, c.requires.1.wide)
 
 pub overflow_add-codes-2 : goal.overflow_add-codes-2
-overflow_add-codes-2 c = let s = c in omega (arith, s.requires.0.rows_are.down.fits, s.requires.0.rows_are.within.most, s.requires.0.whole, s.requires.1.wide)
+overflow_add-codes-2 c = omega (arith, c.requires.0.rows_are.down.fits, c.requires.0.rows_are.within.most, c.requires.0.whole, c.requires.1.wide)
 
 pub bounds-grid-rows-2 : goal.bounds-grid-rows-2
-bounds-grid-rows-2 c = let s = c in omega (arith, s.requires.0.rows_are.down.fits, s.requires.0.rows_are.within.most, s.requires.0.whole, s.requires.1.wide)
+bounds-grid-rows-2 c = omega (arith, c.requires.0.rows_are.down.fits, c.requires.0.rows_are.within.most, c.requires.0.whole, c.requires.1.wide)
 
 pub bounds-grid-right : goal.bounds-grid-right
-bounds-grid-right c = let s = c in omega (arith, s.requires.0.whole, s.requires.1.right_in)
+bounds-grid-right c = omega (arith, c.requires.0.whole, c.requires.1.right_in)
 
 pub bounds-grid-left : goal.bounds-grid-left
-bounds-grid-left c = let s = c in omega (arith, s.requires.0.whole, s.requires.1.left_in)
+bounds-grid-left c = omega (arith, c.requires.0.whole, c.requires.1.left_in)
 
 pub overflow_add-codes-3 : goal.overflow_add-codes-3
-overflow_add-codes-3 c = let s = c in omega (arith, s.requires.0.rows_are.back.fits, s.requires.0.rows_are.within.most, s.requires.0.whole, s.requires.1.wide)
+overflow_add-codes-3 c = omega (arith, c.requires.0.rows_are.back.fits, c.requires.0.rows_are.within.most, c.requires.0.whole, c.requires.1.wide)
 
 pub bounds-grid-rows-3 : goal.bounds-grid-rows-3
-bounds-grid-rows-3 c = let s = c in omega (arith, s.requires.0.rows_are.back.fits, s.requires.0.rows_are.within.most, s.requires.0.whole, s.requires.1.wide)
+bounds-grid-rows-3 c = omega (arith, c.requires.0.rows_are.back.fits, c.requires.0.rows_are.within.most, c.requires.0.whole, c.requires.1.wide)
 
 pub overflow_add-codes-4 : goal.overflow_add-codes-4
-overflow_add-codes-4 c = let s = c in omega (arith, s.requires.0.rows_are.forward.fits, s.requires.0.rows_are.within.most, s.requires.0.whole, s.requires.1.wide)
+overflow_add-codes-4 c = omega (arith, c.requires.0.rows_are.forward.fits, c.requires.0.rows_are.within.most, c.requires.0.whole, c.requires.1.wide)
 
 pub bounds-grid-rows-4 : goal.bounds-grid-rows-4
-bounds-grid-rows-4 c = let s = c in omega (arith, s.requires.0.rows_are.forward.fits, s.requires.0.rows_are.within.most, s.requires.0.whole, s.requires.1.wide)
+bounds-grid-rows-4 c = omega (arith, c.requires.0.rows_are.forward.fits, c.requires.0.rows_are.within.most, c.requires.0.whole, c.requires.1.wide)
 
 pub bounds-along-x : goal.bounds-along-x
-bounds-along-x c = let s = c in omega (arith, s.requires.0.along_is.long, s.requires.1.wide)
+bounds-along-x c = omega (arith, c.requires.0.along_is.long, c.requires.1.wide)
 
 pub overflow_add-keep : goal.overflow_add-keep
 overflow_add-keep c = omega (arith, few c.before.before.before.before.before.before.before.before.before.before.before.before.before.before.before)
 
 pub overflow_add-rows : goal.overflow_add-rows
-overflow_add-rows c = let s = c in omega (arith, s.requires.0.rows_are.fits, s.requires.0.rows_are.within.most, s.requires.0.whole, s.requires.1.wide)
+overflow_add-rows c = omega (arith, c.requires.0.rows_are.fits, c.requires.0.rows_are.within.most, c.requires.0.whole, c.requires.1.wide)
 
 pub bounds-grid-rows-5 : goal.bounds-grid-rows-5
-bounds-grid-rows-5 c = let s = c in omega (arith, s.requires.0.rows_are.fits, s.requires.0.rows_are.within.most, s.requires.0.whole, s.requires.1.wide)
+bounds-grid-rows-5 c = omega (arith, c.requires.0.rows_are.fits, c.requires.0.rows_are.within.most, c.requires.0.whole, c.requires.1.wide)
 
 pub plain_set-requires : goal.plain_set-requires
 plain_set-requires c = (few c.before.before.before.before.before.before.before.before.before.before.before.before.before.before.before.before.before, c.requires.0.outer)

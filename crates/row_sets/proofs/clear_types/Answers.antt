@@ -1,9 +1,5 @@
 -- `row_sets::clear_types` meets its contract: every type passed is clear. Assumes nothing.
-use Prim.Native.Nat.{◌-◌, ◌≤◌}
-use lib.ListN.{length}
-use Rattle.row_sets.specs.Rows.{ClearBelow}
 use Rattle.row_sets.proofs.Plain.{no_clear, one_clear}
-use borrow.Author.Rules.{rules}
 use native.Mathlib.Omega.{arith}
 use Rattle.row_sets.proofs.clear_types.Goals as goal
 

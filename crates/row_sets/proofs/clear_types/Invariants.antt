@@ -1,9 +1,6 @@
 use Prim.Native.Nat.{◌-◌, ◌≤◌}
 use lib.ListN.{length}
 use Rattle.row_sets.specs.Rows.{ClearBelow}
-use Rattle.row_sets.proofs.Plain.{no_clear, one_clear}
-use borrow.Author.Rules.{rules}
-use native.Mathlib.Omega.{arith}
 use Rattle.row_sets.proofs.clear_types.Given as goal
 
 abbrev pub invariant-loop-t : goal.invariant-loop-t

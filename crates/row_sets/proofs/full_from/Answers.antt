@@ -1,10 +1,8 @@
 -- `row_sets::full_from` meets its contract: every type passed is full. Assumes nothing.
 use mathlib.Core.Path.{◌≡◌, subst}
-use Prim.Native.Nat.{ℕ, ◌-◌, ◌≤◌}
-use lib.ListN.{length}
+use Prim.Native.Nat.{ℕ, ◌-◌}
 use Rattle.row_sets.specs.Rows.{FullFrom}
 use Rattle.row_sets.proofs.Plain.{no_full, one_full}
-use borrow.Author.Rules.{rules}
 use native.Mathlib.Omega.{arith}
 use Rattle.row_sets.proofs.full_from.Goals as goal
 

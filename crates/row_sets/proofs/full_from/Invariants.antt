@@ -1,10 +1,6 @@
-use mathlib.Core.Path.{◌≡◌, subst}
-use Prim.Native.Nat.{ℕ, ◌-◌, ◌≤◌}
+use Prim.Native.Nat.{◌≤◌}
 use lib.ListN.{length}
 use Rattle.row_sets.specs.Rows.{FullFrom}
-use Rattle.row_sets.proofs.Plain.{no_full, one_full}
-use borrow.Author.Rules.{rules}
-use native.Mathlib.Omega.{arith}
 use Rattle.row_sets.proofs.full_from.Given as goal
 
 abbrev pub invariant-loop-t : goal.invariant-loop-t

@@ -2,7 +2,6 @@
 use mathlib.Core.Bool.{◌&&◌}
 use Prim.Native.Nat.{◌+◌}
 use lib.Dec.{leb, ltb}
-use borrow.Author.Rules.{rules}
 use borrow.Author.Tests.{ltb-true, leb-true}
 use Rattle.rules.proofs.ListLaws.{and_true}
 use Rattle.row_sets.proofs.has_blocks.Goals as goal

@@ -1,9 +1,7 @@
 -- `row_sets::is_plain_row` meets its contract. Assumes nothing.
 use mathlib.Core.Bool.{false≢true}
-use borrow.Author.Tests.{not-false}
 use Rattle.rules.proofs.ListLaws.{and_true}
 use Rattle.row_sets.proofs.Plain.{all_plain, plain_around}
-use borrow.Author.Rules.{rules}
 use native.Mathlib.Omega.{arith}
 use Rattle.row_sets.proofs.is_plain_row.Goals as goal
 
@@ -30,10 +28,8 @@ are_plain-requires-5 c = omega arith
 
 pub returns : goal.returns
 returns c =
-    λ e. let own = c in
-    let s = own in
-    let three = and_true _ _ e in
+    λ e. let three = and_true _ _ e in
     let two = and_true _ _ three.0 in
     let one = and_true _ _ two.0 in
-    plain_around s.args.rows s.requires.0 s.args.look s.args.grid.now
-    (own.are_plain.ensures own.if-not-are_plain.false) (c.are_plain-2.ensures one.0) (c.are_plain-3.ensures one.1) (c.are_plain-4.ensures two.1) (c.are_plain-5.ensures three.1)
+    plain_around c.args.rows c.requires.0 c.args.look c.args.grid.now
+    (c.are_plain.ensures c.if-not-are_plain.false) (c.are_plain-2.ensures one.0) (c.are_plain-3.ensures one.1) (c.are_plain-4.ensures two.1) (c.are_plain-5.ensures three.1)

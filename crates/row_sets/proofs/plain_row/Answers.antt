@@ -1,8 +1,5 @@
 -- `row_sets::plain_row` meets its contract: where there are no blocks, the cells before x are done. Assumes nothing.
-use Prim.Native.Nat.{◌-◌, ◌≤◌}
-use Rattle.culling.proofs.Passing.{Passed, passed, pass}
-use Rattle.row_sets.specs.Rows.{plain_in}
-use borrow.Author.Rules.{rules}
+use Rattle.culling.proofs.Passing.{passed, pass}
 use native.Mathlib.Omega.{arith}
 use Rattle.row_sets.proofs.plain_row.Goals as goal
 
@@ -11,9 +8,8 @@ has_blocks-requires c = let r = c.requires.0.rows_are in (omega (arith, r.fits, 
 
 pub block_row-requires : goal.block_row-requires
 block_row-requires c =
-    let s = c in
     let b = c.has_blocks.ensures c.if-has_blocks.true in
-    (s.requires.0, s.requires.1, b.0, b.1, b.2)
+    (c.requires.0, c.requires.1, b.0, b.1, b.2)
 
 pub returns-then-has_blocks : goal.returns-then-has_blocks
 returns-then-has_blocks c = c.block_row.ensures

@@ -1,8 +1,5 @@
 -- `row_sets::sides_along` meets its contract. Assumes nothing.
-use Prim.Native.Nat.{◌-◌, ◌≤◌}
-use Rattle.row_sets.specs.Rows.{sides_at}
-use Rattle.culling.proofs.Passing.{Passed, passed, pass}
-use borrow.Author.Rules.{rules}
+use Rattle.culling.proofs.Passing.{passed, pass}
 use native.Mathlib.Omega.{arith}
 use Rattle.row_sets.proofs.sides_along.Goals as goal
 

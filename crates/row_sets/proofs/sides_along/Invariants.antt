@@ -1,8 +1,6 @@
 use Prim.Native.Nat.{◌-◌, ◌≤◌}
 use Rattle.row_sets.specs.Rows.{sides_at}
-use Rattle.culling.proofs.Passing.{Passed, passed, pass}
-use borrow.Author.Rules.{rules}
-use native.Mathlib.Omega.{arith}
+use Rattle.culling.proofs.Passing.{Passed}
 use Rattle.row_sets.proofs.sides_along.Given as goal
 
 abbrev pub invariant-loop-x : goal.invariant-loop-x

@@ -1,8 +1,6 @@
 -- `row_sets::store_block` meets its contract. Assumes nothing.
 use mathlib.Core.Path.{refl}
-use Prim.Native.Nat.{◌-◌, ◌≤◌}
-use Rattle.row_sets.proofs.Plain.{Stored, stored, store}
-use borrow.Author.Rules.{rules}
+use Rattle.row_sets.proofs.Plain.{stored, store}
 use native.Mathlib.Omega.{arith}
 use Rattle.row_sets.proofs.store_block.Goals as goal
 

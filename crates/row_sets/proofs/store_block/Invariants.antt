@@ -1,8 +1,5 @@
-use mathlib.Core.Path.{refl}
 use Prim.Native.Nat.{◌-◌, ◌≤◌}
-use Rattle.row_sets.proofs.Plain.{Stored, stored, store}
-use borrow.Author.Rules.{rules}
-use native.Mathlib.Omega.{arith}
+use Rattle.row_sets.proofs.Plain.{Stored}
 use Rattle.row_sets.proofs.store_block.Given as goal
 
 abbrev pub invariant-loop-i : goal.invariant-loop-i

@@ -2,7 +2,6 @@
 use mathlib.Core.List.{List}
 use Prim.Native.Nat.{ℕ, ◌*◌, ◌≤◌, ◌<◌}
 use lib.ListN.{length}
-use borrow.Author.Rules.{rules}
 use Rattle.rules.specs.Mesh.{Attribute, position, normal, uv, colour, Vertices, vertices_of, HasList, of_positions, of_normals, of_uvs, of_colours}
 use Rattle.rules.proofs.Attributes.{lists_are, with_colour, without_colour}
 use Rattle.vav.specs.Rows.{freed}

@@ -4,7 +4,6 @@ use mathlib.Core.List.{[], ◌∷◌}
 use Prim.Native.Nat.{ℕ, ◌+◌, ◌-◌, ◌*◌, ◌%◌, ◌≤◌, ◌<◌}
 use native.Mathlib.Omega.{arith}
 use lib.ListN.{length, get_or, take, drop}
-use borrow.Author.Rules.{rules}
 use borrow.Author.Tests.{lt-ltb, le-ltb}
 use Rattle.rules.specs.Cells.{Triple, cells, coordinates}
 use Rattle.rules.specs.Types.{floats, cube_of, quad_words}
@@ -92,10 +91,8 @@ free_places-requires c =
 
 pub returns-then-b-ge-CUT : goal.returns-then-b-ge-CUT
 returns-then-b-ge-CUT c =
-    let went = c in
-    let test = went in
-    let t = cutting test.before.before.before.before.before.before.before.before.before.before.before.before.before.before in
-    rw (le-ltb (b-of t) CUT test.if-b-ge-CUT.true) (ap (λ (vs : Vertices). shelves vs (t.args.count - 1)) went.free_places.ensures)
+    let t = cutting c.before.before.before.before.before.before.before.before.before.before.before.before.before.before in
+    rw (le-ltb (b-of t) CUT c.if-b-ge-CUT.true) (ap (λ (vs : Vertices). shelves vs (t.args.count - 1)) c.free_places.ensures)
 
 -- ---- a draw
 module _ (c : After-floats_of-words) where
@@ -124,21 +121,19 @@ write_places-requires c =
     (drawable p.can.1.1 (a-of (drawing test) % 6) (side test) test.floats_of-words.ensures p.within p.can.1.0 c.cords_of.ensures, room test)
 
 pub overflow_add-result : goal.overflow_add-result
-overflow_add-result c = let test = c in omega (arith, room test.before.before.before.before.before.before.before.before.before.before.before.before.before.before.before.before.before.before position _ of_positions)
+overflow_add-result c = omega (arith, room c.before.before.before.before.before.before.before.before.before.before.before.before.before.before.before.before.before.before position _ of_positions)
 
 pub returns : goal.returns
 returns c =
-    let wrote = c in
-    let placed = wrote in
-    let test = placed.before.before.before.before.before.before.before.before.before.before.before.before.before.before.before.before.before.before in
+    let test = c.before.before.before.before.before.before.before.before.before.before.before.before.before.before.before.before.before.before in
     let t = drawing test in
     let n = floats (scene t).types in
     let f = a-of t % 6 in
     let corners = lent (drawn test).can.1.1 f (side test) test.floats_of-words.ensures in
-    let at = placed.cords_of.ensures in
+    let at = c.cords_of.ensures in
     let words = (λ i. quad_words (corners i) n (scene t).d 0 (at i)) ∙ quad_of_corners (cube_of (scene t).types (b-of t)) n (scene t).d f _ in
     rw (lt-ltb (b-of t) CUT test.if-b-ge-CUT.false)
-    (ap (λ (vs : Vertices). shelves vs (t.args.count + 1)) (wrote.write_places.ensures ∙ (λ i. quad_written t.args.scene.coloured t.args.count (words i) (vertices t))))
+    (ap (λ (vs : Vertices). shelves vs (t.args.count + 1)) (c.write_places.ensures ∙ (λ i. quad_written t.args.scene.coloured t.args.count (words i) (vertices t))))
 
 pub overflow_cast-a : goal.overflow_cast-a
 overflow_cast-a c = let l = (cut c.before.before.before.before.before).can.0 in omega arith

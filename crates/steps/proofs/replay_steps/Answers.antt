@@ -4,7 +4,6 @@ use mathlib.Core.List.{List, [], ◌∷◌, ◌++◌}
 use Prim.Native.Nat.{ℕ, ◌+◌, ◌-◌, ◌*◌, ◌≤◌}
 use native.Mathlib.Omega.{arith}
 use lib.ListN.{get_or, take, drop}
-use borrow.Author.Rules.{rules}
 use Rattle.rules.specs.Lists.{part}
 use Rattle.rules.specs.Mesh.{Attribute, Vertices, vertices_of}
 use Rattle.rules.specs.Calls.{Scene}
@@ -12,10 +11,10 @@ use Rattle.rules.proofs.Rows.{length_lent}
 use Rattle.rules.proofs.Attributes.{each_list_lem, each_again, each_stays}
 use Rattle.vav.proofs.Laws.{part_at, part_lent}
 use Rattle.terms.specs.Scenes.{scene_of}
-use Rattle.drawing.proofs.Lengths.{Alike, alike_long}
+use Rattle.drawing.proofs.Lengths.{alike_long}
 use Rattle.steps.specs.Steps.{Step, gone, came, step_in, step_at, Shelf, shelf, left, Can}
 use Rattle.steps.specs.Rows.{run_of, Shelves, shelves, ran_all, Drawn, ReplayingAll}
-use Rattle.steps.proofs.Turning.{Turning, Piecewise, start, this, turn, done}
+use Rattle.steps.proofs.Turning.{Piecewise, start, this, turn, done}
 use Rattle.steps.proofs.replay_steps.Invariants.{Ready}
 use Rattle.steps.proofs.replay_steps.Goals as goal
 use Rattle.steps.proofs.replay_steps.Lts
@@ -100,18 +99,16 @@ replay_one-left-requires c =
 
 pub overflow_add-i : goal.overflow_add-i
 overflow_add-i c =
-    let begun = c in
     let i = c.loop-i-test.true in
     omega arith
 
 pub loop-i-preserved : goal.loop-i-preserved
 loop-i-preserved c =
-    let went = c in
     let l = c.loop-i in
     let t = c.before.before.before.before.before.before.before.before.before.before.before.before.before.before.before.before.before.before.before.before.before.before.before in
-    let k = went.replay_one-left.auto in
+    let k = c.replay_one-left.auto in
     let x = lent-step l.i t.args.steps.now in (
-      turn l.invariant.0 (piecewise (scene t) (vertices t)) c.loop-i-test.true (rw x at went.replay_one-left.ensures),
+      turn l.invariant.0 (piecewise (scene t) (vertices t)) c.loop-i-test.true (rw x at c.replay_one-left.ensures),
       record { positions = k.positions ∙ l.invariant.1.positions; normals = k.normals ∙ l.invariant.1.normals; uvs = k.uvs ∙ l.invariant.1.uvs; colours = k.colours ∙ l.invariant.1.colours },
     )
 

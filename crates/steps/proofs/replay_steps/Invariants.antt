@@ -1,20 +1,12 @@
-use mathlib.Core.Path.{◌≡◌, refl, sym, ap, ◌∙◌}
-use mathlib.Core.List.{List, [], ◌∷◌, ◌++◌}
-use Prim.Native.Nat.{ℕ, ◌+◌, ◌-◌, ◌*◌, ◌≤◌}
-use native.Mathlib.Omega.{arith}
-use lib.ListN.{get_or, take, drop}
-use borrow.Author.Rules.{rules}
-use Rattle.rules.specs.Lists.{part}
-use Rattle.rules.specs.Mesh.{Attribute, Vertices, vertices_of}
+use mathlib.Core.List.{List, [], ◌∷◌}
+use Prim.Native.Nat.{◌-◌}
+use Rattle.rules.specs.Mesh.{Vertices, vertices_of}
 use Rattle.rules.specs.Calls.{Scene}
-use Rattle.rules.proofs.Rows.{length_lent}
-use Rattle.rules.proofs.Attributes.{each_list_lem, each_again, each_stays}
-use Rattle.vav.proofs.Laws.{part_at, part_lent}
 use Rattle.terms.specs.Scenes.{scene_of}
-use Rattle.drawing.proofs.Lengths.{Alike, alike_long}
-use Rattle.steps.specs.Steps.{Step, gone, came, step_in, step_at, Shelf, shelf, left, Can}
-use Rattle.steps.specs.Rows.{run_of, Shelves, shelves, ran_all, Drawn, ReplayingAll}
-use Rattle.steps.proofs.Turning.{Turning, Piecewise, start, this, turn, done}
+use Rattle.drawing.proofs.Lengths.{Alike}
+use Rattle.steps.specs.Steps.{Step, step_at}
+use Rattle.steps.specs.Rows.{Shelves, shelves, ran_all, ReplayingAll}
+use Rattle.steps.proofs.Turning.{Turning}
 use Rattle.steps.proofs.replay_steps.Given as goal
 
 -- steps can be done on lists as long as vs

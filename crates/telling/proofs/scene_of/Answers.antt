@@ -1,5 +1,4 @@
 -- `telling::scene_of` meets its contract: field by field. Assumes nothing.
-use borrow.Author.Rules.{rules}
 use Rattle.telling.proofs.scene_of.Goals as goal
 
 pub returns : goal.returns

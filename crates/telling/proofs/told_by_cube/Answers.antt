@@ -1,5 +1,4 @@
 -- `telling::told_by_cube` meets its contract: in each arm its number and place. Assumes nothing.
-use borrow.Author.Rules.{rules}
 use Rattle.telling.proofs.told_by_cube.Goals as goal
 
 pub returns-in-Done : goal.returns-in-Done

@@ -1,5 +1,4 @@
 -- `telling::told_by_mesh` meets its contract: in each arm its number, place and count. Assumes nothing.
-use borrow.Author.Rules.{rules}
 use Rattle.telling.proofs.told_by_mesh.Goals as goal
 
 pub returns-in-Done : goal.returns-in-Done

@@ -1,5 +1,4 @@
 -- `telling::told_by_verdict` meets its contract: in each arm its number and place. Assumes nothing.
-use borrow.Author.Rules.{rules}
 use Rattle.telling.proofs.told_by_verdict.Goals as goal
 
 pub returns-in-Fine : goal.returns-in-Fine

@@ -1,17 +1,15 @@
 -- `types::class_at` meets its contract. Assumes nothing.
 use Rattle.rules.specs.Types.{class_at}
 use Rattle.voxel_mesh.proofs.Shapes.{finite_along}
-use borrow.Author.Rules.{rules}
 use Rattle.types.proofs.class_at.Goals as goal
 
 pub class_on-requires : goal.class_on-requires
 class_on-requires c =
-    let start = c in
-    let placed = start.requires.words.1 in (
-      rw c.along.ensures (finite_along _ start.requires.words.2 start.args.axis),
-      rw c.position_of.ensures (placed _ _ start.requires.axis_bound.1 start.requires.axis_bound.0),
-      rw c.position_of-2.ensures (placed _ _ start.requires.axis_bound.2 start.requires.axis_bound.0),
-      rw c.position_of-3.ensures (placed _ _ start.requires.axis_bound.3 start.requires.axis_bound.0),
+    let placed = c.requires.words.1 in (
+      rw c.along.ensures (finite_along _ c.requires.words.2 c.args.axis),
+      rw c.position_of.ensures (placed _ _ c.requires.axis_bound.1 c.requires.axis_bound.0),
+      rw c.position_of-2.ensures (placed _ _ c.requires.axis_bound.2 c.requires.axis_bound.0),
+      rw c.position_of-3.ensures (placed _ _ c.requires.axis_bound.3 c.requires.axis_bound.0),
     )
 
 pub returns : goal.returns

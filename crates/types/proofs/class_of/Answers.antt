@@ -6,7 +6,6 @@ use Prim.Native.Nat.{ℕ}
 use Rattle.rules.specs.Types.{or_else, class_at, class_of}
 use Rattle.floats.specs.Triples.{triple_of}
 use Rattle.types.specs.Tests.{class_in, is_some}
-use borrow.Author.Rules.{rules}
 use Rattle.types.proofs.class_of.Goals as goal
 use Rattle.types.proofs.class_of.Lts
 use Rattle.types.proofs.class_of.Tie
@@ -34,30 +33,22 @@ at s axis low high = let a = s.args in class_at a.cube.now a.floats (triple_of a
 pub returns-then-is_class : goal.returns-then-is_class
 unfolding class_of
 returns-then-is_class c =
-    let t = c in
-    let s = t in
-    let rest = or_else (at s.before.before.before.before.before 1 1 0) (at s.before.before.before.before.before 2 5 4) in
-    first (class_in t.class_at-by_x.result) rest (sym c.is_class.ensures ∙ c.if-is_class.true) ∙ ap (λ (o : Option ℕ). or_else o rest) t.class_at-by_x.ensures
+    let rest = or_else (at c.before.before.before.before.before 1 1 0) (at c.before.before.before.before.before 2 5 4) in
+    first (class_in c.class_at-by_x.result) rest (sym c.is_class.ensures ∙ c.if-is_class.true) ∙ ap (λ (o : Option ℕ). or_else o rest) c.class_at-by_x.ensures
 
 -- none on x
 past-x : (c : Else-is_class) (o : Option ℕ) → o ≡ or_else (at c.before.before.before.before 0 3 2) o
 past-x c o =
-    let t = c in
-    second (class_in t.class_at-by_x.result) o (sym c.is_class.ensures ∙ c.if-is_class.false) ∙ ap (λ (x : Option ℕ). or_else x o) t.class_at-by_x.ensures
+    second (class_in c.class_at-by_x.result) o (sym c.is_class.ensures ∙ c.if-is_class.false) ∙ ap (λ (x : Option ℕ). or_else x o) c.class_at-by_x.ensures
 
 pub returns-then-is_class-2 : goal.returns-then-is_class-2
 unfolding class_of
 returns-then-is_class-2 c =
-    let t = c in
-    let s = t in
-    first (class_in t.class_at-by_y.result) (at s.before.before.before.before.before.before.before.before 2 5 4) (sym c.is_class-2.ensures ∙ c.if-is_class-2.true) ∙ ap (λ (x : Option ℕ). or_else x (at s.before.before.before.before.before.before.before.before 2 5 4)) t.class_at-by_y.ensures
-    ∙ past-x t.before.before.before.before (or_else (at s.before.before.before.before.before.before.before.before 1 1 0) (at s.before.before.before.before.before.before.before.before 2 5 4))
+    first (class_in c.class_at-by_y.result) (at c.before.before.before.before.before.before.before.before 2 5 4) (sym c.is_class-2.ensures ∙ c.if-is_class-2.true) ∙ ap (λ (x : Option ℕ). or_else x (at c.before.before.before.before.before.before.before.before 2 5 4)) c.class_at-by_y.ensures
+    ∙ past-x c.before.before.before.before (or_else (at c.before.before.before.before.before.before.before.before 1 1 0) (at c.before.before.before.before.before.before.before.before 2 5 4))
 
 pub returns : goal.returns
 unfolding class_of
 returns c =
-    let e = c in
-    let t = e in
-    let s = t in
-    c.class_at.ensures ∙ second (class_in t.class_at-by_y.result) (at s.before.before.before.before.before.before.before.before.before 2 5 4) (sym e.is_class-2.ensures ∙ e.if-is_class-2.false)
-    ∙ ap (λ (x : Option ℕ). or_else x (at s.before.before.before.before.before.before.before.before.before 2 5 4)) t.class_at-by_y.ensures ∙ past-x t.before.before.before.before.before (or_else (at s.before.before.before.before.before.before.before.before.before 1 1 0) (at s.before.before.before.before.before.before.before.before.before 2 5 4))
+    c.class_at.ensures ∙ second (class_in c.class_at-by_y.result) (at c.before.before.before.before.before.before.before.before.before 2 5 4) (sym c.is_class-2.ensures ∙ c.if-is_class-2.false)
+    ∙ ap (λ (x : Option ℕ). or_else x (at c.before.before.before.before.before.before.before.before.before 2 5 4)) c.class_at-by_y.ensures ∙ past-x c.before.before.before.before.before (or_else (at c.before.before.before.before.before.before.before.before.before 1 1 0) (at c.before.before.before.before.before.before.before.before.before 2 5 4))

@@ -7,7 +7,6 @@ use lib.ListN.{length}
 use Rattle.rules.specs.Answers.{bad_counts}
 use Rattle.rules.proofs.ListLaws.{or_false}
 use Rattle.voxel_mesh.proofs.Shapes.{few}
-use borrow.Author.Rules.{rules}
 use native.Mathlib.Omega.{arith}
 use Rattle.types.proofs.has_bad_counts.Goals as goal
 

@@ -7,28 +7,24 @@ use lib.Dec.{lit<}
 use Rattle.rules.specs.Types.{class_of, is_of, classed}
 use Rattle.floats.specs.Triples.{triple_of}
 use Rattle.voxel_mesh.proofs.Triangles.{word_of_face}
-use borrow.Author.Rules.{rules}
 use Rattle.types.proofs.is_classed.Goals as goal
 
 pub returns : goal.returns
 unfolding classed
 returns c =
-    let second = c in
-    let first = second in
-    let start = first in
-    let f = start.args.face in
-    let a : first.corner_of.result ≡ 4 * f =
-    first.corner_of.ensures.0 ∙ word_of_face f 0 start.requires.face_bound.0 (lit< tt) in
-    let b : first.corner_of-2.result ≡ 4 * f + 1 =
-    first.corner_of-2.ensures.0 ∙ word_of_face f 1 start.requires.face_bound.0 (lit< tt) in
-    let d : first.corner_of-3.result ≡ 4 * f + 3 = first.corner_of-3.ensures.0 ∙ word_of_face f 2 start.requires.face_bound.0 (lit< tt) in
-    let e : second.corner_of-4.result ≡ 4 * f + 2 =
-    second.corner_of-4.ensures.0 ∙ word_of_face f 3 start.requires.face_bound.0 (lit< tt) in
-    let g : second.corner_of-5.result ≡ 4 * f + 3 =
-    second.corner_of-5.ensures.0 ∙ word_of_face f 4 start.requires.face_bound.0 (lit< tt) in
-    let h : second.corner_of-6.result ≡ 4 * f + 1 = second.corner_of-6.ensures.0 ∙ word_of_face f 5 start.requires.face_bound.0 (lit< tt) in
-    let v = start.args in
+    let f = c.args.face in
+    let a : c.corner_of.result ≡ 4 * f =
+    c.corner_of.ensures.0 ∙ word_of_face f 0 c.requires.face_bound.0 (lit< tt) in
+    let b : c.corner_of-2.result ≡ 4 * f + 1 =
+    c.corner_of-2.ensures.0 ∙ word_of_face f 1 c.requires.face_bound.0 (lit< tt) in
+    let d : c.corner_of-3.result ≡ 4 * f + 3 = c.corner_of-3.ensures.0 ∙ word_of_face f 2 c.requires.face_bound.0 (lit< tt) in
+    let e : c.corner_of-4.result ≡ 4 * f + 2 =
+    c.corner_of-4.ensures.0 ∙ word_of_face f 3 c.requires.face_bound.0 (lit< tt) in
+    let g : c.corner_of-5.result ≡ 4 * f + 3 =
+    c.corner_of-5.ensures.0 ∙ word_of_face f 4 c.requires.face_bound.0 (lit< tt) in
+    let h : c.corner_of-6.result ≡ 4 * f + 1 = c.corner_of-6.ensures.0 ∙ word_of_face f 5 c.requires.face_bound.0 (lit< tt) in
+    let v = c.args in
     let class = class_of v.cube.now v.floats (triple_of v.centre) in
-    let x = c.is_of.ensures ∙ ap (λ (o : Option ℕ). is_of o f) (first.class_of-first.ensures ∙ (λ i. class (a i) (b i) (d i))) in
-    let y = c.is_of-2.ensures ∙ ap (λ (o : Option ℕ). is_of o f) (second.class_of-second.ensures ∙ (λ i. class (e i) (g i) (h i))) in
+    let x = c.is_of.ensures ∙ ap (λ (o : Option ℕ). is_of o f) (c.class_of-first.ensures ∙ (λ i. class (a i) (b i) (d i))) in
+    let y = c.is_of-2.ensures ∙ ap (λ (o : Option ℕ). is_of o f) (c.class_of-second.ensures ∙ (λ i. class (e i) (g i) (h i))) in
     λ i. x i && y i

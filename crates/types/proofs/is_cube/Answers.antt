@@ -2,16 +2,13 @@
 -- nothing.
 use mathlib.Core.Path.{◌≡◌, refl, sym, ◌∙◌, subst}
 use mathlib.Core.Bool.{true}
-use Prim.Native.Nat.{◌≤◌, ◌-◌, ◌/◌, ◌%◌}
+use Prim.Native.Nat.{◌/◌, ◌%◌}
 use native.Mathlib.Numerals.{add-one}
-use borrow.Author.Tests.{not-true, not-false}
 use lib.Dec.{T}
 use Rattle.rules.specs.Lists.{every}
 use Rattle.rules.specs.Floats.{finite}
-use Rattle.rules.specs.Types.{position_of, classed, is_cube}
-use Rattle.floats.specs.Triples.{triple_of}
+use Rattle.rules.specs.Types.{position_of, is_cube}
 use Rattle.types.proofs.Known.{placed}
-use borrow.Author.Rules.{rules}
 use native.Mathlib.Omega.{arith}
 use Rattle.types.proofs.is_cube.Goals as goal
 use Rattle.types.proofs.is_cube.Lts
@@ -23,7 +20,7 @@ Else-not-is_placed = Lts.Else1 Tie.the-claims Reads.Pre Reads.Post goal.the-inva
 
 -- the first test was passed
 all_placed : (c : Else-not-is_placed) →
-    let start = c in every 72 (λ k. finite (position_of start.args.cube.now start.args.floats
+    every 72 (λ k. finite (position_of c.args.cube.now c.args.floats
     (k / 3) (k % 3))) ≡ true
 all_placed c = sym c.is_placed.ensures ∙ c.if-not-is_placed.false
 
@@ -37,10 +34,8 @@ loop-face-init c = (omega arith, refl)
 
 pub is_classed-ok-requires : goal.is_classed-ok-requires
 is_classed-ok-requires c =
-    let made = c in
-    let start = made in
-    let all = placed start.args.cube.now start.args.floats (subst T (sym (all_placed made.before.before.before.before.before)) tt) in
-    record { words = (start.requires.0, all, start.requires.1); face_bound = (omega arith, made.triangle_words-triangles.ensures) }
+    let all = placed c.args.cube.now c.args.floats (subst T (sym (all_placed c.before.before.before.before.before)) tt) in
+    record { words = (c.requires.0, all, c.requires.1); face_bound = (omega arith, c.triangle_words-triangles.ensures) }
 
 pub overflow_add-face : goal.overflow_add-face
 overflow_add-face c = omega arith

@@ -1,16 +1,8 @@
-use mathlib.Core.Path.{◌≡◌, refl, sym, ◌∙◌, subst}
-use mathlib.Core.Bool.{true}
-use Prim.Native.Nat.{◌≤◌, ◌-◌, ◌/◌, ◌%◌}
-use native.Mathlib.Numerals.{add-one}
-use borrow.Author.Tests.{not-true, not-false}
-use lib.Dec.{T}
+use mathlib.Core.Path.{◌≡◌}
+use Prim.Native.Nat.{◌≤◌, ◌-◌}
 use Rattle.rules.specs.Lists.{every}
-use Rattle.rules.specs.Floats.{finite}
-use Rattle.rules.specs.Types.{position_of, classed, is_cube}
+use Rattle.rules.specs.Types.{classed}
 use Rattle.floats.specs.Triples.{triple_of}
-use Rattle.types.proofs.Known.{placed}
-use borrow.Author.Rules.{rules}
-use native.Mathlib.Omega.{arith}
 use Rattle.types.proofs.is_cube.Given as goal
 
 abbrev pub invariant-loop-face : goal.invariant-loop-face

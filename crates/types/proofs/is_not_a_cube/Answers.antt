@@ -9,7 +9,6 @@ use Rattle.rules.specs.Answers.{not_a_cube}
 use Rattle.floats.specs.Triples.{triple_of}
 use Rattle.rules.proofs.Rows.{length_lent}
 use Rattle.voxel_mesh.proofs.Shapes.{few, row_within}
-use borrow.Author.Rules.{rules}
 use native.Mathlib.Omega.{arith}
 use Rattle.types.proofs.is_not_a_cube.Goals as goal
 use Rattle.types.proofs.is_not_a_cube.Lts
@@ -27,8 +26,7 @@ within : (c : After-floats_of-floats) →
     let args = c.args in
     24 * c.floats_of-floats.result * args.t + 24 * c.floats_of-floats.result ≤ length args.cubes.now
 within c =
-    let start = c in
-    rw (c.floats_of-floats.ensures, start.requires.0.whole) (row_within _ _ _ start.requires.2)
+    rw (c.floats_of-floats.ensures, c.requires.0.whole) (row_within _ _ _ c.requires.2)
 
 pub returns-then-kinds-t-ne1 : goal.returns-then-kinds-t-ne1
 unfolding not_a_cube
@@ -51,10 +49,9 @@ slice_bounds-is_cube-end c = omega (arith, within c.before)
 
 pub is_cube-requires : goal.is_cube-requires
 is_cube-requires c =
-    let start = c in
     let span = 24 * c.floats_of-floats.result in
-    let all = length_lent (span * start.args.t) span start.args.cubes.now (within c.before.before) in
-    (record { least = (words c.before.before).0; most = (words c.before.before).1; whole = omega arith }, start.requires.1)
+    let all = length_lent (span * c.args.t) span c.args.cubes.now (within c.before.before) in
+    (record { least = (words c.before.before).0; most = (words c.before.before).1; whole = omega arith }, c.requires.1)
 
 pub returns : goal.returns
 unfolding not_a_cube

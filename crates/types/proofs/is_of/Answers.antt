@@ -4,7 +4,6 @@ use mathlib.Core.Option.{Option}
 use Prim.Native.Nat.{ℕ}
 use Rattle.rules.specs.Types.{is_of}
 use Rattle.types.specs.Tests.{class_in}
-use borrow.Author.Rules.{rules}
 use Rattle.types.proofs.is_of.Goals as goal
 
 pub returns-in-Of : goal.returns-in-Of

@@ -1,11 +1,7 @@
 -- `types::is_placed` meets its contract: after k turns, `ok` says whether the first k words are finite. Assumes nothing.
 use mathlib.Core.Path.{◌≡◌, refl}
-use Prim.Native.Nat.{◌≤◌, ◌-◌, ◌/◌, ◌%◌}
 use native.Mathlib.Numerals.{add-one}
 use Rattle.rules.specs.Lists.{every}
-use Rattle.rules.specs.Floats.{finite}
-use Rattle.rules.specs.Types.{position_of}
-use borrow.Author.Rules.{rules}
 use native.Mathlib.Omega.{arith}
 use Rattle.types.proofs.is_placed.Goals as goal
 

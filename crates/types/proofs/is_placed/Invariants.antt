@@ -1,11 +1,8 @@
-use mathlib.Core.Path.{◌≡◌, refl}
+use mathlib.Core.Path.{◌≡◌}
 use Prim.Native.Nat.{◌≤◌, ◌-◌, ◌/◌, ◌%◌}
-use native.Mathlib.Numerals.{add-one}
 use Rattle.rules.specs.Lists.{every}
 use Rattle.rules.specs.Floats.{finite}
 use Rattle.rules.specs.Types.{position_of}
-use borrow.Author.Rules.{rules}
-use native.Mathlib.Omega.{arith}
 use Rattle.types.proofs.is_placed.Given as goal
 
 abbrev pub invariant-loop-k : goal.invariant-loop-k

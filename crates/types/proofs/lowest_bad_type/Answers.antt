@@ -1,11 +1,6 @@
 -- `types::lowest_bad_type` meets its contract. Assumes nothing.
-use mathlib.Core.Bool.{Bool}
-use mathlib.Core.List.{List}
-use Prim.Native.Nat.{ℕ, ◌≤◌, ◌-◌}
-use lib.ListN.{length}
 use Rattle.rules.specs.Answers.{bad_type}
-use Rattle.types.specs.Tests.{types_of}
-use Rattle.rules.proofs.Searches.{Searched, searched, found, passed, ended}
+use Rattle.rules.proofs.Searches.{searched, found, passed, ended}
 use native.Mathlib.Omega.{arith}
 use Rattle.types.proofs.lowest_bad_type.Goals as goal
 

@@ -4,8 +4,7 @@ use Prim.Native.Nat.{ℕ, ◌≤◌, ◌-◌}
 use lib.ListN.{length}
 use Rattle.rules.specs.Answers.{bad_type}
 use Rattle.types.specs.Tests.{types_of}
-use Rattle.rules.proofs.Searches.{Searched, searched, found, passed, ended}
-use native.Mathlib.Omega.{arith}
+use Rattle.rules.proofs.Searches.{Searched}
 use Rattle.types.proofs.lowest_bad_type.Given as goal
 
 abbrev pub invariant-loop-t : goal.invariant-loop-t

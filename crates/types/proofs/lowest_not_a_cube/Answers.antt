@@ -1,13 +1,6 @@
 -- `types::lowest_not_a_cube` meets its contract. Assumes nothing.
 use mathlib.Core.Path.{sym, ◌∙◌}
-use mathlib.Core.List.{List}
-use Prim.Native.Nat.{ℕ, ◌≤◌, ◌-◌}
-use lib.ListN.{length}
-use Rattle.rules.specs.Answers.{not_a_cube}
-use Rattle.floats.specs.Triples.{triple_of}
-use Rattle.types.specs.Tests.{types_of}
-use Rattle.rules.proofs.Searches.{Searched, searched, found, passed, ended}
-use borrow.Author.Rules.{rules}
+use Rattle.rules.proofs.Searches.{searched, found, passed, ended}
 use native.Mathlib.Omega.{arith}
 use Rattle.types.proofs.lowest_not_a_cube.Goals as goal
 

@@ -1,13 +1,10 @@
-use mathlib.Core.Path.{sym, ◌∙◌}
 use mathlib.Core.List.{List}
 use Prim.Native.Nat.{ℕ, ◌≤◌, ◌-◌}
 use lib.ListN.{length}
 use Rattle.rules.specs.Answers.{not_a_cube}
 use Rattle.floats.specs.Triples.{triple_of}
 use Rattle.types.specs.Tests.{types_of}
-use Rattle.rules.proofs.Searches.{Searched, searched, found, passed, ended}
-use borrow.Author.Rules.{rules}
-use native.Mathlib.Omega.{arith}
+use Rattle.rules.proofs.Searches.{Searched}
 use Rattle.types.proofs.lowest_not_a_cube.Given as goal
 
 abbrev pub invariant-loop-t : goal.invariant-loop-t

@@ -1,7 +1,6 @@
 -- `types::position_of` meets its contract: the place is below 24 vertices' words. Assumes nothing.
 use Prim.Native.Nat.{◌+◌, ◌*◌, ◌<◌}
 use native.Mathlib.Nat.{mul-le-mul_left, mul-suc}
-use borrow.Author.Rules.{rules}
 use native.Mathlib.Omega.{arith}
 use Rattle.types.proofs.position_of.Goals as goal
 use Rattle.types.proofs.position_of.Lts

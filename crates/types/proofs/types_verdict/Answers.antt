@@ -1,7 +1,7 @@
 -- `types::types_verdict` meets its contract: each return is the case that the tests before it pick. Assumes nothing.
 use mathlib.Core.Path.{◌≡◌, sym, ◌∙◌, subst}
 use mathlib.Core.Bool.{true, false, ◌&&◌}
-use borrow.Author.Tests.{not-true, not-false, lt-ltb, le-ltb}
+use borrow.Author.Tests.{lt-ltb, le-ltb}
 use lib.Dec.{T, ltb}
 use lib.ListN.{length}
 use lib.Ieee.Fits.{and_r}
@@ -12,7 +12,6 @@ use Rattle.rules.specs.Answers.{◌then◌, refuse_if, bad_counts, bad_type, BAD
 use Rattle.floats.specs.Triples.{triple_of}
 use Rattle.types.specs.Tests.{types_of}
 use Rattle.types.proofs.Known.{counted}
-use borrow.Author.Rules.{rules}
 use Rattle.types.proofs.types_verdict.Goals as goal
 use Rattle.types.proofs.types_verdict.Lts
 use Rattle.types.proofs.types_verdict.Tie

@@ -7,7 +7,6 @@ use Rattle.rules.specs.Update.{ENTRY_BYTES}
 use Rattle.rules.specs.Answers.{refuse_if, refuse_lowest, bad_entry, BAD_ENTRY}
 use Rattle.answers.specs.Verdicts.{verdict_of}
 use Rattle.answers.proofs.Chains.{stops, goes}
-use borrow.Author.Rules.{rules}
 use Rattle.update.proofs.entry_verdict.Goals as goal
 use Rattle.update.proofs.entry_verdict.Lts
 use Rattle.update.proofs.entry_verdict.Tie

@@ -1,16 +1,16 @@
 -- `update::run_log` meets its contract: entry by entry, the lists are the layout of the rule's mesh. Assumes nothing.
 use mathlib.Core.Path.{◌≡◌, refl, sym, ap, ◌∙◌, subst}
 use mathlib.Core.List.{List, [], ◌∷◌}
-use Prim.Native.Nat.{ℕ, ◌+◌, ◌-◌, ◌*◌, ◌/◌, ◌≤◌, ◌<◌}
+use Prim.Native.Nat.{ℕ, ◌+◌, ◌*◌, ◌/◌, ◌≤◌, ◌<◌}
 use native.Mathlib.Omega.{arith}
 use lib.Dec.{leb}
 use lib.ListN.{length, take}
 use lib.Seq.{get_or-take, length-take-le}
 use borrow.Author.Tests.{leb-true, leb-false}
 use Rattle.rules.specs.Mesh.{vertices_of}
-use Rattle.rules.specs.Update.{ENTRY_BYTES, Tested, Work, entry_at, work, needed}
+use Rattle.rules.specs.Update.{Tested, Work, entry_at, work, needed}
 use Rattle.rules.specs.Calls.{Scene, world}
-use Rattle.rules.proofs.ListLaws.{length-table, each_same, not_true, not_false}
+use Rattle.rules.proofs.ListLaws.{length-table, each_same}
 use Rattle.terms.specs.Modes.{tested_by}
 use Rattle.terms.specs.Scenes.{scene_of}
 use Rattle.steps.specs.Steps.{Step, Deed, step_in, step_at, steps_in}
@@ -20,8 +20,7 @@ use Rattle.entries.specs.Log.{entry_in}
 use Rattle.works.specs.Sets.{set_in, packed, deeds}
 use Rattle.indexing.specs.Index.{Index, index_of, index_run, Ready}
 use Rattle.update.proofs.Drawing.{bare}
-use Rattle.update.proofs.Running.{index_at, Running, Found, run_start, run_lengths, run_inside, run_gridded, run_dues, run_small, run_room, run_ready, run_few, run_replaying, run_on, run_full, run_through, run_ended}
-use borrow.Author.Rules.{rules}
+use Rattle.update.proofs.Running.{index_at, Found, run_start, run_lengths, run_inside, run_gridded, run_dues, run_small, run_room, run_ready, run_few, run_replaying, run_on, run_full, run_through, run_ended}
 use Rattle.update.proofs.run_log.Goals as goal
 use Rattle.update.proofs.run_log.Lts
 use Rattle.update.proofs.run_log.Tie
@@ -113,16 +112,14 @@ read_entry-entry-requires c = let h = c.loop-k-test.true in omega arith
 
 pub keys_around-keys-requires : goal.keys_around-keys-requires
 keys_around-keys-requires c =
-    let i = c in
-    let t = begun i.before.before.before.before.before in
-    (t.requires.within, run_inside (side t) t.requires i.loop-k.invariant.0 i.loop-k-test.true c.read_entry-entry.ensures, i.inverted-inverse.ensures)
+    let t = begun c.before.before.before.before.before in
+    (t.requires.within, run_inside (side t) t.requires c.loop-k.invariant.0 c.loop-k-test.true c.read_entry-entry.ensures, c.inverted-inverse.ensures)
 
 pub due_work-due-requires : goal.due_work-due-requires
 due_work-due-requires c =
-    let b = c in
-    let i = looped b.before.before.before in
+    let i = looped c.before.before.before in
     let t = begun i in
-    run_gridded (side t) t.requires i.loop-k.invariant.0 i.loop-k-test.true b.read_entry-entry.ensures b.keys_around-keys.ensures
+    run_gridded (side t) t.requires i.loop-k.invariant.0 i.loop-k-test.true c.read_entry-entry.ensures c.keys_around-keys.ensures
 
 dues : (c : After-due_work-due) (j : ℕ) → set_in c.due_work-due.result j < 64
 dues c = let i = looped (keyed c) in let t = begun i in run_dues (side t) t.requires i.loop-k.invariant.0 (found c)

@@ -6,7 +6,6 @@ use Rattle.answers.specs.Verdicts.{verdict_of, refuses}
 use Rattle.terms.specs.Scenes.{scene_of}
 use Rattle.answers.proofs.Chains.{stops, passes, goes}
 use Rattle.lent.proofs.Admitted.{sized}
-use borrow.Author.Rules.{rules}
 use Rattle.update.proofs.told_verdict.Goals as goal
 use Rattle.update.proofs.told_verdict.Lts
 use Rattle.update.proofs.told_verdict.Tie

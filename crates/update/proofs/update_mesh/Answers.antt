@@ -21,7 +21,6 @@ use Rattle.lent.proofs.Linked.{few_linked}
 use Rattle.update.specs.Runs.{full_at}
 use Rattle.update.specs.Outcome.{told_verdict}
 use Rattle.update.proofs.Whole.{Begun, lent_ends, logging, mend_ready, ended_so}
-use borrow.Author.Rules.{rules}
 use Rattle.update.proofs.update_mesh.Goals as goal
 use Rattle.update.proofs.update_mesh.Lts
 use Rattle.update.proofs.update_mesh.Tie
@@ -163,21 +162,16 @@ overflow_cast-kinds c =
 
 pub mend_patterns-requires : goal.mend_patterns-requires
 mend_patterns-requires c =
-    let went = c in
-    mend_ready (begun went.before.before.before.before.before.before.before.before.before.before.before.before.before.before.before.before.before.before.before.before.before.before) went.run_log-ran.ensures
+    mend_ready (begun c.before.before.before.before.before.before.before.before.before.before.before.before.before.before.before.before.before.before.before.before.before.before) c.run_log-ran.ensures
 
 pub returns-in-Through : goal.returns-in-Through
 returns-in-Through c =
-    let mended = c in
-    let went = mended in
-    ended_so (begun went.before.before.before.before.before.before.before.before.before.before.before.before.before.before.before.before.before.before.before.before.before.before.before.before.before.before) went.run_log-ran.ensures answered refl (ap full_at c.in-Through.is) mended.mend_patterns.ensures
+    ended_so (begun c.before.before.before.before.before.before.before.before.before.before.before.before.before.before.before.before.before.before.before.before.before.before.before.before.before.before) c.run_log-ran.ensures answered refl (ap full_at c.in-Through.is) c.mend_patterns.ensures
 
 pub returns-in-Full : goal.returns-in-Full
 returns-in-Full c =
-    let mended = c in
-    let went = mended in
-    ended_so (begun went.before.before.before.before.before.before.before.before.before.before.before.before.before.before.before.before.before.before.before.before.before.before.before.before.before.before) went.run_log-ran.ensures (λ q v. record { number = 14; place = c.in-Full.entry; quads = q; moved = v }) refl
-    (ap full_at c.in-Full.is) mended.mend_patterns.ensures
+    ended_so (begun c.before.before.before.before.before.before.before.before.before.before.before.before.before.before.before.before.before.before.before.before.before.before.before.before.before.before) c.run_log-ran.ensures (λ q v. record { number = 14; place = c.in-Full.entry; quads = q; moved = v }) refl
+    (ap full_at c.in-Full.is) c.mend_patterns.ensures
 
 pub returns-in-Refuse : goal.returns-in-Refuse
 returns-in-Refuse c = rw (halt _ (from_told c.before.before) (ap verdict_of c.in-Refuse.is))

@@ -1,6 +1,5 @@
 -- `util::inverse_of` meets its contract. Assumes nothing.
 use mathlib.Core.Path.{refl}
-use borrow.Author.Rules.{rules}
 use Rattle.util.specs.Grid.{inverse_of}
 use Rattle.util.proofs.inverse_of.Goals as goal
 

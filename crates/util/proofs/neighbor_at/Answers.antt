@@ -1,7 +1,6 @@
 -- `util::neighbor_at` meets its contract. Assumes nothing.
 use mathlib.Core.Path.{ap, ◌∙◌}
 use native.Mathlib.Omega.{arith}
-use borrow.Author.Rules.{rules}
 use Rattle.rules.specs.Cells.{Triple, neighbour}
 use Rattle.util.specs.Grid.{size_of}
 use Rattle.util.proofs.Cells.{layer_fits}

@@ -1,6 +1,5 @@
 use native.Mathlib.Nat.{le_of_lt}
 use native.Mathlib.Omega.{arith}
-use borrow.Author.Rules.{rules}
 use Rattle.util.specs.Grid.{size_of}
 use Rattle.rules.proofs.Neighbours.{cell_at_in}
 use Rattle.util.proofs.Cells.{plane_fits}

@@ -1,10 +1,9 @@
 use mathlib.Core.Path.{◌≡◌, refl, sym, ap, ◌∙◌}
-use Prim.Native.Nat.{ℕ, ◌+◌, ◌-◌, ◌*◌, ◌≤◌}
+use Prim.Native.Nat.{ℕ, ◌+◌, ◌*◌}
 use mathlib.Core.List.{List}
-use lib.ListN.{length, set, length-set, length-replicate}
+use lib.ListN.{set, length-set, length-replicate}
 use Rattle.vav.specs.Rows.{put, zeros}
 use Rattle.vav.proofs.Laws.{put_none, write_more, replicate_more}
-use borrow.Author.Rules.{rules}
 use native.Mathlib.Omega.{arith}
 use Rattle.vav.proofs.clear.Goals as goal
 

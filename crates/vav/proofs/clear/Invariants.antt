@@ -1,11 +1,7 @@
-use mathlib.Core.Path.{◌≡◌, refl, sym, ap, ◌∙◌}
-use Prim.Native.Nat.{ℕ, ◌+◌, ◌-◌, ◌*◌, ◌≤◌}
-use mathlib.Core.List.{List}
-use lib.ListN.{length, set, length-set, length-replicate}
+use mathlib.Core.Path.{◌≡◌}
+use Prim.Native.Nat.{◌-◌, ◌≤◌}
+use lib.ListN.{length}
 use Rattle.vav.specs.Rows.{put, zeros}
-use Rattle.vav.proofs.Laws.{put_none, write_more, replicate_more}
-use borrow.Author.Rules.{rules}
-use native.Mathlib.Omega.{arith}
 use Rattle.vav.proofs.clear.Given as goal
 
 abbrev pub invariant-loop-i : goal.invariant-loop-i

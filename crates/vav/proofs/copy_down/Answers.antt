@@ -1,12 +1,9 @@
 use mathlib.Core.Path.{◌≡◌, refl, ap, ◌∙◌}
 use mathlib.Core.List.{List}
-use Prim.Native.Nat.{ℕ, ◌+◌, ◌-◌, ◌*◌, ◌≤◌}
-use lib.ListN.{length, get_or, set, length-set}
-use Rattle.rules.specs.Lists.{part}
-use Rattle.vav.specs.Rows.{put}
+use Prim.Native.Nat.{ℕ, ◌+◌, ◌*◌}
+use lib.ListN.{get_or, set, length-set}
 use Rattle.vav.proofs.Laws.{put_none, copy_more}
 use native.Mathlib.Omega.{arith}
-use borrow.Author.Rules.{rules}
 use Rattle.vav.proofs.copy_down.Goals as goal
 
 pub loop-i-init : goal.loop-i-init

@@ -4,7 +4,6 @@ use Prim.Native.Nat.{ℕ, ◌+◌, ◌*◌, ◌≤◌}
 use lib.ListN.{length}
 use Rattle.rules.specs.Lists.{part}
 use Rattle.vav.specs.Rows.{put}
-use borrow.Author.Rules.{rules}
 use Rattle.vav.proofs.copy_rows.Goals as goal
 
 pub copy_down-requires : goal.copy_down-requires

@@ -1,11 +1,10 @@
 use mathlib.Core.Path.{◌≡◌, refl, sym, ap, ◌∙◌}
-use Prim.Native.Nat.{ℕ, ◌+◌, ◌-◌, ◌*◌, ◌≤◌}
+use Prim.Native.Nat.{ℕ, ◌+◌, ◌*◌}
 use mathlib.Core.List.{List}
 use lib.ListN.{length, take, get_or, set, length-set}
 use lib.Seq.{take-length, length-take-le}
 use Rattle.vav.specs.Rows.{put}
 use Rattle.vav.proofs.Laws.{put_none, take_more, write_more}
-use borrow.Author.Rules.{rules}
 use native.Mathlib.Omega.{arith}
 use Rattle.vav.proofs.extend.Goals as goal
 

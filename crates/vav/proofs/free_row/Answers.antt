@@ -4,7 +4,6 @@ use Rattle.rules.specs.Lists.{part}
 use Rattle.vav.specs.Rows.{put, zeros, source_of, freed}
 use Rattle.vav.proofs.Laws.{source_bounds, spans}
 use native.Mathlib.Omega.{arith}
-use borrow.Author.Rules.{rules}
 use Rattle.vav.proofs.free_row.Goals as goal
 
 pub overflow_sub-count : goal.overflow_sub-count

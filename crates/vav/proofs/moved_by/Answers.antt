@@ -2,7 +2,6 @@ use native.Mathlib.Omega.{arith}
 use mathlib.Core.Path.{ap, ◌∙◌}
 use Prim.Native.Nat.{ℕ, ◌-◌}
 use Rattle.vav.proofs.Laws.{source_bounds, moved_is}
-use borrow.Author.Rules.{rules}
 use Rattle.vav.proofs.moved_by.Goals as goal
 
 pub overflow_sub-result : goal.overflow_sub-result

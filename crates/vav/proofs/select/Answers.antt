@@ -7,7 +7,6 @@ use Rattle.rules.specs.Lists.{part}
 use Rattle.vav.specs.Attributes.{attribute_of}
 use Rattle.vav.specs.Rows.{put}
 use Rattle.vav.proofs.Laws.{length_part, part_lent}
-use borrow.Author.Rules.{rules}
 use Rattle.vav.proofs.select.Goals as goal
 use Rattle.vav.proofs.select.Goals.{Start}
 

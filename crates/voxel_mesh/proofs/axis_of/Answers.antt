@@ -19,7 +19,7 @@ pub returns-then-face-lt2 : goal.returns-then-face-lt2
 returns-then-face-lt2 c = rw (lt-ltb _ _ c.if-face-lt2.true) at (axis-is c.args.face c.requires)
 
 pub returns-then-face-lt4 : goal.returns-then-face-lt4
-returns-then-face-lt4 c = let t = c in rw (le-ltb _ _ c.if-face-lt2.false, lt-ltb _ _ c.if-face-lt4.true) at (axis-is t.args.face t.requires)
+returns-then-face-lt4 c = rw (le-ltb _ _ c.if-face-lt2.false, lt-ltb _ _ c.if-face-lt4.true) at (axis-is c.args.face c.requires)
 
 pub returns-else-face-lt4 : goal.returns-else-face-lt4
-returns-else-face-lt4 c = let t = c in rw (le-ltb _ _ c.if-face-lt2.false, le-ltb _ _ c.if-face-lt4.false) at (axis-is t.args.face t.requires)
+returns-else-face-lt4 c = rw (le-ltb _ _ c.if-face-lt2.false, le-ltb _ _ c.if-face-lt4.false) at (axis-is c.args.face c.requires)

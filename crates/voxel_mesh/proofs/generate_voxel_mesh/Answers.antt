@@ -14,7 +14,6 @@ use Rattle.voxel_mesh.specs.declared.Cubed.TheVariants.{Done, BadNumber, BadAtla
 use Rattle.voxel_mesh.specs.Outcome.{shape_of, verdict_of, outcome}
 use Rattle.voxel_mesh.proofs.Shapes.{accepted}
 use Rattle.voxel_mesh.specs.contracts.Cubed.{the_type}
-use borrow.Author.Rules.{rules}
 use Rattle.voxel_mesh.proofs.generate_voxel_mesh.Goals as goal
 
 -- a refusal leaves the room as it was

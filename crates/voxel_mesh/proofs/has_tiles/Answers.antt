@@ -1,11 +1,9 @@
 -- `voxel_mesh::has_tiles` meets its contract: after i turns, `ok` says it of the first i entries. Assumes nothing.
 use mathlib.Core.Path.{◌≡◌, refl}
-use mathlib.Core.Bool.{not}
-use Prim.Native.Nat.{◌≤◌, ◌-◌, ◌/◌}
+use Prim.Native.Nat.{◌/◌}
 use native.Mathlib.Numerals.{add-one}
 use lib.ListN.{length}
 use Rattle.rules.specs.Lists.{every}
-use Rattle.rules.specs.Answers.{bad_tile}
 use native.Mathlib.Omega.{arith}
 use Rattle.voxel_mesh.proofs.has_tiles.Goals as goal
 

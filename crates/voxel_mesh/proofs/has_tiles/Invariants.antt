@@ -1,11 +1,8 @@
-use mathlib.Core.Path.{◌≡◌, refl}
+use mathlib.Core.Path.{◌≡◌}
 use mathlib.Core.Bool.{not}
-use Prim.Native.Nat.{◌≤◌, ◌-◌, ◌/◌}
-use native.Mathlib.Numerals.{add-one}
-use lib.ListN.{length}
+use Prim.Native.Nat.{◌≤◌, ◌-◌}
 use Rattle.rules.specs.Lists.{every}
 use Rattle.rules.specs.Answers.{bad_tile}
-use native.Mathlib.Omega.{arith}
 use Rattle.voxel_mesh.proofs.has_tiles.Given as goal
 
 abbrev pub invariant-loop-i : goal.invariant-loop-i

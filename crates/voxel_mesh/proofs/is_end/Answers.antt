@@ -6,7 +6,6 @@ use lib.ListN.{get_or}
 use Rattle.rules.specs.Lists.{every}
 use Rattle.rules.specs.Cube.{uv_ends, is_end}
 use Rattle.rules.proofs.Searches.{agree}
-use borrow.Author.Rules.{rules}
 use Rattle.voxel_mesh.proofs.is_end.Goals as goal
 
 abbrev masks : List ℕ

@@ -1,6 +1,6 @@
 -- `voxel_mesh::last_naming` meets its contract: none of the last i entries names the face. Assumes nothing.
 use mathlib.Core.Path.{◌≡◌, refl, sym, ◌∙◌}
-use Prim.Native.Nat.{suc, ◌+◌, ◌≤◌, ◌-◌}
+use Prim.Native.Nat.{suc, ◌+◌, ◌-◌}
 use borrow.Author.Tests.{eq-eqb, ne_eqb}
 use Rattle.rules.specs.Cube.{last_naming}
 use native.Mathlib.Omega.{arith}

@@ -1,8 +1,6 @@
-use mathlib.Core.Path.{◌≡◌, refl, sym, ◌∙◌}
-use Prim.Native.Nat.{suc, ◌+◌, ◌≤◌, ◌-◌}
-use borrow.Author.Tests.{eq-eqb, ne_eqb}
+use mathlib.Core.Path.{◌≡◌}
+use Prim.Native.Nat.{◌≤◌, ◌-◌}
 use Rattle.rules.specs.Cube.{last_naming}
-use native.Mathlib.Omega.{arith}
 use Rattle.voxel_mesh.proofs.last_naming.Given as goal
 
 abbrev pub invariant-loop-i : goal.invariant-loop-i

@@ -1,9 +1,6 @@
 -- `voxel_mesh::lowest_bad_face` meets its contract. Assumes nothing.
-use Prim.Native.Nat.{◌-◌, ◌*◌}
-use lib.Dec.{ltb}
-use lib.ListN.{get_or}
 use borrow.Author.Tests.{lt-ltb, le-ltb}
-use Rattle.rules.proofs.Searches.{Searched, searched, found, passed, ended}
+use Rattle.rules.proofs.Searches.{searched, found, passed, ended}
 use native.Mathlib.Omega.{arith}
 use Rattle.voxel_mesh.proofs.lowest_bad_face.Goals as goal
 

@@ -1,9 +1,7 @@
 use Prim.Native.Nat.{◌-◌, ◌*◌}
 use lib.Dec.{ltb}
 use lib.ListN.{get_or}
-use borrow.Author.Tests.{lt-ltb, le-ltb}
-use Rattle.rules.proofs.Searches.{Searched, searched, found, passed, ended}
-use native.Mathlib.Omega.{arith}
+use Rattle.rules.proofs.Searches.{Searched}
 use Rattle.voxel_mesh.proofs.lowest_bad_face.Given as goal
 
 abbrev pub invariant-loop-i : goal.invariant-loop-i

@@ -1,6 +1,5 @@
 -- `voxel_mesh::normal_word` meets its contract. Assumes nothing.
 use borrow.Author.Tests.{eq-eqb, ne_eqb}
-use borrow.Author.Rules.{rules}
 use Rattle.voxel_mesh.proofs.normal_word.Goals as goal
 
 pub returns-then-axis_of-axis : goal.returns-then-axis_of-axis

@@ -22,17 +22,13 @@ below c n e = let a = c.args in named_below a.texture.now a.face 6 n (sym c.last
 
 pub returns : goal.returns
 returns c =
-    let third = c in
-    let second = third in
-    let first = second in
-    let named = first in
-    let a = named.args in
+    let a = c.args in
     let q = shape_of a.shape a.texture.now in
-    let n = named.last_naming-naming.ensures in
+    let n = c.last_naming-naming.ensures in
     record {
-      left_is = first.uv_at.ensures ∙ ap (λ (k : Option ℕ). uv_in q k false 0) n;
-      right_is = second.uv_at-2.ensures ∙ ap (λ (k : Option ℕ). uv_in q k true 0) n;
-      top_is = third.uv_at-3.ensures ∙ ap (λ (k : Option ℕ). uv_in q k false 1) n;
+      left_is = c.uv_at.ensures ∙ ap (λ (k : Option ℕ). uv_in q k false 0) n;
+      right_is = c.uv_at-2.ensures ∙ ap (λ (k : Option ℕ). uv_in q k true 0) n;
+      top_is = c.uv_at-3.ensures ∙ ap (λ (k : Option ℕ). uv_in q k false 1) n;
       bottom_is = c.uv_at-4.ensures ∙ ap (λ (k : Option ℕ). uv_in q k true 1) n;
     }
 

@@ -8,7 +8,6 @@ use Rattle.rules.specs.Cube.{uv_in}
 use Rattle.voxel_mesh.specs.Outcome.{shape_of}
 use Rattle.voxel_mesh.specs.Parts.{naming_in}
 use Rattle.voxel_mesh.proofs.Shapes.{atlas_in, tile_in}
-use borrow.Author.Rules.{rules}
 use Rattle.voxel_mesh.proofs.uv_at.Goals as goal
 use Rattle.voxel_mesh.proofs.uv_at.Lts
 use Rattle.voxel_mesh.proofs.uv_at.Tie
@@ -26,19 +25,17 @@ below c = c.requires.2 _ (ap naming_in c.in-Entry.is)
 
 pub uv_word-requires : goal.uv_word-requires
 uv_word-requires c =
-    let start = c in
-    let q = shape_of start.args.shape start.args.texture.now in
-    let ok = start.requires.0 in
-    let n = atlas_in q ok.atlas start.args.axis in
+    let q = shape_of c.args.shape c.args.texture.now in
+    let ok = c.requires.0 in
+    let n = atlas_in q ok.atlas c.args.axis in
     let along = c.atlas_along-atlas.ensures in
-    (tile_in q ok.atlas _ start.args.axis (omega (arith, below c.before.before, ok.six)) start.requires.1, rw along n.0, rw along n.1, ok.padding)
+    (tile_in q ok.atlas _ c.args.axis (omega (arith, below c.before.before, ok.six)) c.requires.1, rw along n.0, rw along n.1, ok.padding)
 
 pub uv_word-requires-in-Nothing : goal.uv_word-requires-in-Nothing
 uv_word-requires-in-Nothing c =
-    let start = c in
-    let q = shape_of start.args.shape start.args.texture.now in
-    let ok = start.requires.0 in
-    let n = atlas_in q ok.atlas start.args.axis in
+    let q = shape_of c.args.shape c.args.texture.now in
+    let ok = c.requires.0 in
+    let n = atlas_in q ok.atlas c.args.axis in
     let along = c.atlas_along-atlas.ensures in
     (lit< tt, rw along n.0, rw along n.1, ok.padding)
 

@@ -2,7 +2,7 @@
 use mathlib.Core.Path.{◌≡◌, sym, ◌∙◌}
 use mathlib.Core.Bool.{true, false, ◌&&◌}
 use Prim.Native.Nat.{◌/◌, ◌*◌}
-use borrow.Author.Tests.{not-true, not-false, lt-ltb, le-ltb, eq-eqb, ne_eqb}
+use borrow.Author.Tests.{lt-ltb, le-ltb, eq-eqb, ne_eqb}
 use lib.Dec.{ltb}
 use lib.ListN.{length, get_or}
 use Rattle.rules.specs.Lists.{lowest}
@@ -11,7 +11,6 @@ use Rattle.rules.specs.Answers.{◌then◌, refuse_if, bad_atlas, BAD_NUMBER, BA
 use Rattle.floats.specs.Triples.{triple_of}
 use Rattle.voxel_mesh.specs.Outcome.{shape_of}
 use Rattle.voxel_mesh.proofs.Shapes.{few}
-use borrow.Author.Rules.{rules}
 use native.Mathlib.Omega.{arith}
 use Rattle.voxel_mesh.proofs.verdict.Goals as goal
 use Rattle.voxel_mesh.proofs.verdict.Lts

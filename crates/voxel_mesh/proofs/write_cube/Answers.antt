@@ -1,11 +1,10 @@
 -- `voxel_mesh::write_cube` meets its contract: after n turns the first n faces are written. Assumes nothing.
 use mathlib.Core.Path.{◌≡◌, sym, ap, ◌∙◌}
 use mathlib.Core.List.{List, ◌++◌}
-use Prim.Native.Nat.{ℕ, ◌≤◌, ◌+◌, ◌-◌, ◌*◌}
+use Prim.Native.Nat.{ℕ, ◌≤◌, ◌+◌, ◌*◌}
 use native.Mathlib.Nat.{mul-le-mul_right, suc-mul}
 use native.Mathlib.Omega.{arith}
 use lib.ListN.{length, drop}
-use borrow.Author.Rules.{rules}
 use Rattle.rules.specs.Lists.{each, table}
 use Rattle.rules.specs.Cube.{floats_of, cube_word, cube_words}
 use Rattle.rules.proofs.Rows.{written, written_none, written_more, length_written, length_lent}
@@ -52,10 +51,9 @@ row : (c : In-loop-face) →
     let end = c.loop-face.face * words c.before + words c.before in
     (end ≤ length c.loop-face.out) × (end ≤ 288)
 row c =
-    let at = c in
-    let most = (few (begun at.before).args.shape.coloured).1 in
-    let end = mul-le-mul_right (words at.before) c.loop-face-test.true in
-    (omega (arith, words_are at.before, (begun at.before).requires.1, kept at.before, suc-mul at.loop-face.face (words at.before)), omega (arith, words_are at.before, most, suc-mul at.loop-face.face (words at.before)))
+    let most = (few (begun c.before).args.shape.coloured).1 in
+    let end = mul-le-mul_right (words c.before) c.loop-face-test.true in
+    (omega (arith, words_are c.before, (begun c.before).requires.1, kept c.before, suc-mul c.loop-face.face (words c.before)), omega (arith, words_are c.before, most, suc-mul c.loop-face.face (words c.before)))
 
 pub overflow_mul-words : goal.overflow_mul-words
 overflow_mul-words c = omega (arith, c.floats_of-words.ensures, (few c.args.shape.coloured).1)
@@ -88,14 +86,12 @@ pub slice_bounds-write_face-end : goal.slice_bounds-write_face-end
 slice_bounds-write_face-end c = omega (arith, row c.before)
 
 pub write_face-requires : goal.write_face-requires
-write_face-requires c =
-    let here = c in
-    let at = here in (
-      (begun at.before.before.before).requires.0,
-      here.loop-face-test.true,
-      length_lent (at.loop-face.face * words at.before.before.before) (words at.before.before.before) at.loop-face.out (row here.before.before).0 ∙ words_are at.before.before.before,
-      record { low_is = at.corner_at-low.ensures; high_is = at.corner_at-high.ensures },
-    )
+write_face-requires c = (
+  (begun c.before.before.before).requires.0,
+  c.loop-face-test.true,
+  length_lent (c.loop-face.face * words c.before.before.before) (words c.before.before.before) c.loop-face.out (row c.before.before).0 ∙ words_are c.before.before.before,
+  record { low_is = c.corner_at-low.ensures; high_is = c.corner_at-high.ensures },
+)
 
 pub overflow_add-face : goal.overflow_add-face
 overflow_add-face c = omega arith
@@ -105,13 +101,11 @@ loop-face-smaller c = omega arith
 
 pub loop-face-preserved : goal.loop-face-preserved
 loop-face-preserved c =
-    let wrote = c in
-    let at = wrote in
-    let l = at.loop-face in
-    let a = (begun at.before.before.before.before.before.before).args in
+    let l = c.loop-face in
+    let a = (begun c.before.before.before.before.before.before).args in
     let rows = rows_of (floats_of a.shape.coloured) (cube_word (shape_of a.shape a.texture.now)) in (
       omega arith,
-      written_more (words at.before.before.before.before.before.before) rows (λ f. wide _ _ f ∙ sym (words_are at.before.before.before.before.before.before)) l.face a.out.now l.out _ l.invariant.1 wrote.write_face.ensures,
+      written_more (words c.before.before.before.before.before.before) rows (λ f. wide _ _ f ∙ sym (words_are c.before.before.before.before.before.before)) l.face a.out.now l.out _ l.invariant.1 c.write_face.ensures,
     )
 
 pub shape_of-out : goal.shape_of-out
@@ -120,13 +114,12 @@ shape_of-out c = kept c.before.before
 pub returns : goal.returns
 unfolding cube_words
 returns c =
-    let at = c in
-    let a = (begun at.before.before).args in
+    let a = (begun c.before.before).args in
     let floats = floats_of a.shape.coloured in
     let p : ℕ → List ℕ = λ v. table floats (cube_word (shape_of a.shape a.texture.now) v) in
-    let e : at.loop-face.face ≡ 6 = omega arith in
-    let n : 6 * words at.before.before ≡ 24 * floats = omega (arith, words_are at.before.before) in
-    at.loop-face.invariant.1
-    ∙ ap (λ (k : ℕ). written (words at.before.before) (λ f. each 4 (4 * f) p) k a.out.now) e
+    let e : c.loop-face.face ≡ 6 = omega arith in
+    let n : 6 * words c.before.before ≡ 24 * floats = omega (arith, words_are c.before.before) in
+    c.loop-face.invariant.1
+    ∙ ap (λ (k : ℕ). written (words c.before.before) (λ f. each 4 (4 * f) p) k a.out.now) e
     ∙ ap (λ (k : ℕ). each 6 0 (λ f. each 4 (4 * f) p) ++ drop k a.out.now) n
     ∙ ap (λ (r : List ℕ). r ++ drop (24 * floats) a.out.now) (grouped 4 6 0 p)

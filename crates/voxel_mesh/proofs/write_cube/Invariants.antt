@@ -1,17 +1,10 @@
-use mathlib.Core.Path.{◌≡◌, sym, ap, ◌∙◌}
-use mathlib.Core.List.{List, ◌++◌}
-use Prim.Native.Nat.{ℕ, ◌≤◌, ◌+◌, ◌-◌, ◌*◌}
-use native.Mathlib.Nat.{mul-le-mul_right, suc-mul}
-use native.Mathlib.Omega.{arith}
-use lib.ListN.{length, drop}
-use borrow.Author.Rules.{rules}
+use mathlib.Core.Path.{◌≡◌}
+use mathlib.Core.List.{List}
+use Prim.Native.Nat.{ℕ, ◌≤◌, ◌-◌, ◌*◌}
 use Rattle.rules.specs.Lists.{each, table}
-use Rattle.rules.specs.Cube.{floats_of, cube_word, cube_words}
-use Rattle.rules.proofs.Rows.{written, written_none, written_more, length_written, length_lent}
-use Rattle.rules.proofs.ListLaws.{length-each, length-table}
+use Rattle.rules.specs.Cube.{floats_of, cube_word}
+use Rattle.rules.proofs.Rows.{written}
 use Rattle.voxel_mesh.specs.Outcome.{shape_of}
-use Rattle.voxel_mesh.proofs.Shapes.{few}
-use Rattle.voxel_mesh.proofs.Making.{grouped}
 use Rattle.voxel_mesh.proofs.write_cube.Given as goal
 
 -- the vertices of a face

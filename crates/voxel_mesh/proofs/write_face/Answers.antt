@@ -1,11 +1,10 @@
 -- `voxel_mesh::write_face` meets its contract: after n turns its first n vertices are written. Assumes nothing.
 use mathlib.Core.Path.{◌≡◌, ap, ◌∙◌}
 use mathlib.Core.List.{List, [], ◌∷◌, ◌++◌, append-nil}
-use Prim.Native.Nat.{ℕ, ◌≤◌, ◌+◌, ◌-◌, ◌*◌, ◌/◌}
+use Prim.Native.Nat.{ℕ, ◌≤◌, ◌+◌, ◌*◌, ◌/◌}
 use native.Mathlib.Nat.{mul-le-mul_right, suc-mul}
 use native.Mathlib.Omega.{arith}
 use lib.ListN.{length, drop_of_length-le}
-use borrow.Author.Rules.{rules}
 use Rattle.rules.specs.Lists.{each, table}
 use Rattle.rules.specs.Cube.{cube_word}
 use Rattle.rules.proofs.Rows.{written, written_none, written_more, length_written, length_lent}
@@ -47,15 +46,14 @@ row : (c : In-loop-i) →
     let end = c.loop-i.i * floats + floats in
     (end ≤ length c.loop-i.out) × (end ≤ 48)
 row c =
-    let at = c in
-    let floats = at.floats_of-floats.result in
-    let i = at.loop-i.i in
-    let words : floats ≤ 12 = rw at.floats_of-floats.ensures (few (begun at.before).args.shape.coloured).1 in
+    let floats = c.floats_of-floats.result in
+    let i = c.loop-i.i in
+    let words : floats ≤ 12 = rw c.floats_of-floats.ensures (few (begun c.before).args.shape.coloured).1 in
     let end = mul-le-mul_right floats c.loop-i-test.true in
-    (omega (arith, room at.before, kept at.before, suc-mul i floats), omega (arith, suc-mul i floats))
+    (omega (arith, room c.before, kept c.before, suc-mul i floats), omega (arith, suc-mul i floats))
 
 pub tile_of-tile-requires : goal.tile_of-tile-requires
-tile_of-tile-requires c = let t = c in (t.requires.0, t.requires.1)
+tile_of-tile-requires c = (c.requires.0, c.requires.1)
 
 pub loop-i-init : goal.loop-i-init
 loop-i-init c = (omega arith, written_none _ _ (λ v. length-table _ _) _)
@@ -86,11 +84,9 @@ overflow_add-face c = omega (arith, (begun c.before.before.before).requires.1, c
 
 pub write_vertex-requires : goal.write_vertex-requires
 write_vertex-requires c =
-    let here = c in
-    let at = here in
-    let floats = at.floats_of-floats.result in (
-      omega (arith, (begun at.before.before.before).requires.1, here.loop-i-test.true),
-      length_lent (at.loop-i.i * floats) floats at.loop-i.out (row here.before.before).0 ∙ at.floats_of-floats.ensures,
+    let floats = c.floats_of-floats.result in (
+      omega (arith, (begun c.before.before.before).requires.1, c.loop-i-test.true),
+      length_lent (c.loop-i.i * floats) floats c.loop-i.out (row c.before.before).0 ∙ c.floats_of-floats.ensures,
     )
 
 pub overflow_add-i : goal.overflow_add-i
@@ -101,24 +97,21 @@ loop-i-smaller c = omega arith
 
 pub loop-i-preserved : goal.loop-i-preserved
 loop-i-preserved c =
-    let wrote = c in
-    let here = wrote in
-    let at = here in
-    let l = at.loop-i in
-    let t = begun at.before.before.before.before.before.before in
+    let l = c.loop-i in
+    let t = begun c.before.before.before.before.before.before in
     let a = t.args in
-    let floats = at.floats_of-floats.result in
+    let floats = c.floats_of-floats.result in
     let q = shape_of a.shape a.texture.now in
     let v = 4 * a.face + l.i in
-    let tile = at.tile_of-tile.result in
-    let face : v / 4 ≡ a.face = omega (arith, here.loop-i-test.true) in
-    let tiled : Tiled q (v / 4) tile = rw face at.tile_of-tile.ensures in
-    let lent = length_lent (l.i * floats) floats l.out (row here.before.before.before.before.before).0 in
+    let tile = c.tile_of-tile.result in
+    let face : v / 4 ≡ a.face = omega (arith, c.loop-i-test.true) in
+    let tiled : Tiled q (v / 4) tile = rw face c.tile_of-tile.ensures in
+    let lent = length_lent (l.i * floats) floats l.out (row c.before.before.before.before.before).0 in
     let word : (k : ℕ) → part_word a.shape a.low a.high tile v k ≡ cube_word q v k = part_is a.shape a.texture.now a.low a.high tile v t.requires.3 tiled in (
       omega arith,
       written_more floats (λ k. table floats (cube_word q (4 * a.face + k))) (λ k. length-table (cube_word q (4 * a.face + k)) floats) l.i a.out.now
           l.out _ l.invariant.1
-          (wrote.write_vertex.ensures ∙ ap (λ (n : ℕ). table n (part_word a.shape a.low a.high tile v)) lent
+          (c.write_vertex.ensures ∙ ap (λ (n : ℕ). table n (part_word a.shape a.low a.high tile v)) lent
           ∙ each_same floats 0 (λ k. part_word a.shape a.low a.high tile v k ∷ []) (λ k. cube_word q v k ∷ []) (λ k _ _. ap (λ (x : ℕ). x ∷ []) (word k))),
     )
 
@@ -127,16 +120,15 @@ shape_of-out c = kept c.before.before
 
 pub returns : goal.returns
 returns c =
-    let at = c in
-    let a = (begun at.before.before).args in
-    let floats = at.floats_of-floats.result in
+    let a = (begun c.before.before).args in
+    let floats = c.floats_of-floats.result in
     let q = shape_of a.shape a.texture.now in
-    let e : at.loop-i.i ≡ 4 = omega arith in
+    let e : c.loop-i.i ≡ 4 = omega arith in
     let z : 4 * a.face + 0 ≡ 4 * a.face = omega arith in
     let p : ℕ → List ℕ = λ v. table floats (cube_word q v) in
-    at.loop-i.invariant.1
+    c.loop-i.invariant.1
     ∙ ap (λ (n : ℕ). written floats (λ k. p (4 * a.face + k)) n a.out.now) e
-    ∙ ap (λ (r : List ℕ). each 4 0 (λ k. p (4 * a.face + k)) ++ r) (drop_of_length-le a.out.now {i = 4 * floats} (omega (arith, room at.before.before)))
+    ∙ ap (λ (r : List ℕ). each 4 0 (λ k. p (4 * a.face + k)) ++ r) (drop_of_length-le a.out.now {i = 4 * floats} (omega (arith, room c.before.before)))
     ∙ append-nil (each 4 0 (λ k. p (4 * a.face + k)))
     ∙ each_from 4 0 (4 * a.face) p ∙ ap (λ (n : ℕ). each 4 n p) z
-    ∙ ap (λ (n : ℕ). each 4 (4 * a.face) (λ v. table n (cube_word q v))) at.floats_of-floats.ensures
+    ∙ ap (λ (n : ℕ). each 4 (4 * a.face) (λ v. table n (cube_word q v))) c.floats_of-floats.ensures

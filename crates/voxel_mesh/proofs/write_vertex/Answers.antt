@@ -10,7 +10,6 @@ use Rattle.vav.specs.Rows.{put}
 use Rattle.voxel_mesh.specs.Parts.{part_word}
 use Rattle.voxel_mesh.proofs.Shapes.{few}
 use Rattle.voxel_mesh.proofs.Making.{eight, eight_is, twelve_is}
-use borrow.Author.Rules.{rules}
 use Rattle.voxel_mesh.proofs.write_vertex.Goals as goal
 use Rattle.voxel_mesh.proofs.write_vertex.Lts
 use Rattle.voxel_mesh.proofs.write_vertex.Tie
@@ -37,8 +36,7 @@ write_four-requires c = omega (arith, at_least (begun c.before.before))
 
 pub write_four-requires-2 : goal.write_four-requires-2
 write_four-requires-2 c =
-    let first = c in
-    omega (arith, at_least (begun first.before.before.before.before.before.before.before.before), first.write_four.auto.list)
+    omega (arith, at_least (begun c.before.before.before.before.before.before.before.before), c.write_four.auto.list)
 
 -- the first eight words are there
 eight-written : (c : After-write_four-2) →
@@ -46,31 +44,22 @@ eight-written : (c : After-write_four-2) →
     c.write_four-2.new.list ≡ eight (part_word a.shape a.low a.high a.tile a.vertex) a.out.now
 unfolding part_word
 eight-written c =
-    let third = c in
-    let second = third in
-    let first = second in
-    let normal = first in
-    let v = normal in
-    let u = v in
-    let z = u in
-    let y = z in
-    let x = y in
     simp (
       c.write_four-2.ensures,
-      third.normal_word-3.ensures,
-      second.normal_word-2.ensures,
-      first.write_four.ensures,
-      normal.normal_word.ensures,
-      v.pick-v.ensures,
-      v.is_end-2.ensures,
-      u.pick-u.ensures,
-      u.is_end.ensures,
-      z.pick-z.ensures,
-      z.is_high-3.ensures,
-      y.pick-y.ensures,
-      y.is_high-2.ensures,
-      x.pick-x.ensures,
-      x.is_high.ensures,
+      c.normal_word-3.ensures,
+      c.normal_word-2.ensures,
+      c.write_four.ensures,
+      c.normal_word.ensures,
+      c.pick-v.ensures,
+      c.is_end-2.ensures,
+      c.pick-u.ensures,
+      c.is_end.ensures,
+      c.pick-z.ensures,
+      c.is_high-3.ensures,
+      c.pick-y.ensures,
+      c.is_high-2.ensures,
+      c.pick-x.ensures,
+      c.is_high.ensures,
     )
 
 coloured-words : (b : Bool) → b ≡ true → floats_of b ≡ 12
@@ -81,26 +70,19 @@ plain-words b e = ap floats_of e
 
 pub write_four-requires-then-shape : goal.write_four-requires-then-shape
 write_four-requires-then-shape c =
-    let then = c in
-    let second = then in
-    let first = second in
-    let t = begun first.before.before.before.before.before.before.before.before.before.before.before.before.before in
-    omega (arith, t.requires.1, coloured-words _ then.if-shape.true, first.write_four.auto.list, second.write_four-2.auto.list)
+    let t = begun c.before.before.before.before.before.before.before.before.before.before.before.before.before in
+    omega (arith, t.requires.1, coloured-words _ c.if-shape.true, c.write_four.auto.list, c.write_four-2.auto.list)
 
 pub returns-then-shape : goal.returns-then-shape
 unfolding part_word
 returns-then-shape c =
-    let last = c in
-    let then = last in
-    let second = then in
-    let a = begun second.before.before.before.before.before.before.before.before.before.before.before.before.before.before.before.before.before in
+    let a = begun c.before.before.before.before.before.before.before.before.before.before.before.before.before.before.before.before.before in
     let f = part_word a.args.shape a.args.low a.args.high a.args.tile a.args.vertex in
-    last.write_four-then-shape.ensures ∙ ap (put 8 (f 8 ∷ f 9 ∷ f 10 ∷ f 11 ∷ [])) (eight-written second.before.before.before.before.before.before.before.before)
-    ∙ twelve_is f a.args.out.now (a.requires.1 ∙ coloured-words _ then.if-shape.true)
+    c.write_four-then-shape.ensures ∙ ap (put 8 (f 8 ∷ f 9 ∷ f 10 ∷ f 11 ∷ [])) (eight-written c.before.before.before.before.before.before.before.before)
+    ∙ twelve_is f a.args.out.now (a.requires.1 ∙ coloured-words _ c.if-shape.true)
 
 pub returns-else-shape : goal.returns-else-shape
 returns-else-shape c =
-    let second = c in
-    let a = begun second.before.before.before.before.before.before.before.before.before.before.before.before.before in
+    let a = begun c.before.before.before.before.before.before.before.before.before.before.before.before.before in
     let f = part_word a.args.shape a.args.low a.args.high a.args.tile a.args.vertex in
-    eight-written second.before.before.before.before ∙ eight_is f a.args.out.now (a.requires.1 ∙ plain-words _ c.if-shape.false)
+    eight-written c.before.before.before.before ∙ eight_is f a.args.out.now (a.requires.1 ∙ plain-words _ c.if-shape.false)

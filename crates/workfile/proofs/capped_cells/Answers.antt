@@ -2,7 +2,6 @@
 use mathlib.Core.Path.{sym}
 use Prim.Native.Nat.{◌*◌}
 use native.Mathlib.Omega.{arith}
-use borrow.Author.Rules.{rules}
 use Rattle.workfile.proofs.Files.{product_fits, capped_under, capped_over, capped_product, capped_empty}
 use Rattle.workfile.proofs.capped_cells.Goals as goal
 

@@ -4,7 +4,6 @@ use Rattle.rules.specs.Cells.{cells}
 use Rattle.util.specs.declared.Dimensions.{Dimensions}
 use Rattle.util.specs.Grid.{size_of}
 use Rattle.workfile.specs.Work.{capped}
-use borrow.Author.Rules.{rules}
 use Rattle.workfile.proofs.cell_count.Goals as goal
 
 pub returns : goal.returns

@@ -1,6 +1,5 @@
 -- `workfile::is_bad_file` meets its contract. Assumes nothing.
 use mathlib.Core.Path.{sym}
-use borrow.Author.Rules.{rules}
 use Rattle.workfile.proofs.Files.{too_short, too_long}
 use Rattle.workfile.proofs.is_bad_file.Goals as goal
 

@@ -1,5 +1,4 @@
 -- `workfile::log_of` meets its contract. Assumes nothing.
-use borrow.Author.Rules.{rules}
 use Rattle.workfile.proofs.Files.{log_ends, log_part}
 use Rattle.workfile.proofs.log_of.Goals as goal
 

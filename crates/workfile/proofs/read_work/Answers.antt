@@ -2,7 +2,6 @@
 use native.Mathlib.Omega.{arith}
 use lib.Dec.{lit<}
 use Rattle.workfile.proofs.Files.{work_read}
-use borrow.Author.Rules.{rules}
 use Rattle.workfile.proofs.read_work.Goals as goal
 
 pub word-types-requires : goal.word-types-requires
@@ -52,12 +51,9 @@ overflow_add-result c = omega (arith, c.cell_count-cells.ensures.1)
 
 pub returns : goal.returns
 returns c =
-    let start = c in
-    let early = c in
-    let texts = c in
-    work_read start.args.file.now start.requires
-    early.word-types.ensures early.cell_count-cells.ensures.0
-    texts.dims_of-dims.ensures texts.triple_at-d.ensures texts.triple_at-centre.ensures texts.word.ensures
+    work_read c.args.file.now c.requires
+    c.word-types.ensures c.cell_count-cells.ensures.0
+    c.dims_of-dims.ensures c.triple_at-d.ensures c.triple_at-centre.ensures c.word.ensures
     c.word-2.ensures c.word-3.ensures
     c.word-4.ensures c.word-5.ensures
     c.word-6.ensures c.word-7.ensures c.word-8.ensures c.word-9.ensures

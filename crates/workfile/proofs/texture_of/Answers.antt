@@ -1,10 +1,8 @@
 -- `workfile::texture_of` meets its contract. Assumes nothing.
 use mathlib.Core.Path.{◌≡◌, ap, ◌∙◌}
-use Prim.Native.Nat.{◌+◌, ◌*◌, ◌-◌, ◌≤◌}
+use Prim.Native.Nat.{◌+◌, ◌*◌, ◌≤◌}
 use native.Mathlib.Omega.{arith}
 use lib.ListN.{length, set}
-use Rattle.rules.specs.Update.{u32_at}
-use Rattle.rules.specs.Lists.{filled}
 use Rattle.workfile.proofs.Files.{type_inside}
 use Rattle.rules.proofs.Rows.{filled_none, filled_more, length-filled, filled_whole}
 use Rattle.workfile.proofs.texture_of.Goals as goal
@@ -66,6 +64,5 @@ shape_of-out c = kept c.before.before
 
 pub returns : goal.returns
 returns c =
-    let l = c in
-    let e : l.loop-i.i ≡ 18 = omega arith in
-    (rw e at l.loop-i.invariant.1) ∙ filled_whole _ 18 l.args.out.now (room l.before.before)
+    let e : c.loop-i.i ≡ 18 = omega arith in
+    (rw e at c.loop-i.invariant.1) ∙ filled_whole _ 18 c.args.out.now (room c.before.before)

@@ -1,11 +1,7 @@
-use mathlib.Core.Path.{◌≡◌, ap, ◌∙◌}
+use mathlib.Core.Path.{◌≡◌}
 use Prim.Native.Nat.{◌+◌, ◌*◌, ◌-◌, ◌≤◌}
-use native.Mathlib.Omega.{arith}
-use lib.ListN.{length, set}
 use Rattle.rules.specs.Update.{u32_at}
 use Rattle.rules.specs.Lists.{filled}
-use Rattle.workfile.proofs.Files.{type_inside}
-use Rattle.rules.proofs.Rows.{filled_none, filled_more, length-filled, filled_whole}
 use Rattle.workfile.proofs.texture_of.Given as goal
 
 abbrev pub invariant-loop-i : goal.invariant-loop-i

@@ -1,5 +1,4 @@
 -- `workfile::triple_at` meets its contract. Assumes nothing.
-use borrow.Author.Rules.{rules}
 use Rattle.workfile.proofs.triple_at.Goals as goal
 
 pub returns : goal.returns

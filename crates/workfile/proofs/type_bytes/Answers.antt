@@ -1,11 +1,10 @@
 -- `workfile::type_bytes` meets its contract. Assumes nothing.
 use mathlib.Core.Path.{◌≡◌}
-use Prim.Native.Nat.{◌+◌, ◌*◌, ◌-◌, ◌≤◌, ◌<◌}
+use Prim.Native.Nat.{◌+◌, ◌*◌, ◌≤◌, ◌<◌}
 use native.Mathlib.Omega.{arith}
 use lib.ListN.{length}
 use native.Mathlib.Nat.{le_trans, lt_of_lt_of_le}
-use Rattle.rules.specs.Program.{type_count, type_byte}
-use Rattle.rules.specs.Lists.{filled}
+use Rattle.rules.specs.Program.{type_count}
 use Rattle.workfile.proofs.Files.{types_are, type_inside}
 use Rattle.rules.proofs.Rows.{filled_none, filled_more, length-filled}
 use Rattle.workfile.proofs.type_bytes.Goals as goal
@@ -63,6 +62,5 @@ shape_of-out c = kept c.before.before
 
 pub returns : goal.returns
 returns c =
-    let l = c in
-    let e : l.loop-t.t ≡ type_count l.args.file.now = omega (arith, types-in l.before.before) in
-    rw e at l.loop-t.invariant.1
+    let e : c.loop-t.t ≡ type_count c.args.file.now = omega (arith, types-in c.before.before) in
+    rw e at c.loop-t.invariant.1

@@ -1,12 +1,7 @@
 use mathlib.Core.Path.{◌≡◌}
-use Prim.Native.Nat.{◌+◌, ◌*◌, ◌-◌, ◌≤◌, ◌<◌}
-use native.Mathlib.Omega.{arith}
-use lib.ListN.{length}
-use native.Mathlib.Nat.{le_trans, lt_of_lt_of_le}
-use Rattle.rules.specs.Program.{type_count, type_byte}
+use Prim.Native.Nat.{◌-◌, ◌≤◌}
+use Rattle.rules.specs.Program.{type_byte}
 use Rattle.rules.specs.Lists.{filled}
-use Rattle.workfile.proofs.Files.{types_are, type_inside}
-use Rattle.rules.proofs.Rows.{filled_none, filled_more, length-filled}
 use Rattle.workfile.proofs.type_bytes.Given as goal
 
 abbrev pub invariant-loop-t : goal.invariant-loop-t

@@ -8,14 +8,11 @@ use borrow.Author.Rules.{rules}
 use Rattle.working.proofs.build_cube.Goals as goal
 
 pub texture_of-requires : goal.texture_of-requires
-texture_of-requires c = let s = c in (s.requires.0, omega (arith, s.requires.1), search rules)
+texture_of-requires c = (c.requires.0, omega (arith, c.requires.1), search rules)
 
 pub returns : goal.returns
 returns c =
-    let called = c in
-    let shape = called in
-    let textured = shape in
-    let a = textured.args in
+    let a = c.args in
     cube_told c.told_by_cube.ensures
-    (called.generate_voxel_mesh.ensures
-    ∙ (λ i. generate_voxel_mesh (shape_of (shape.shape_in.ensures i) (textured.texture_of.ensures i)) a.out.now))
+    (c.generate_voxel_mesh.ensures
+    ∙ (λ i. generate_voxel_mesh (shape_of (c.shape_in.ensures i) (c.texture_of.ensures i)) a.out.now))

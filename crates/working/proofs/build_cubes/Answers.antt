@@ -8,7 +8,7 @@ use Rattle.rules.specs.Program.{type_count}
 use Rattle.workfile.proofs.Files.{types_are}
 use Rattle.telling.specs.Numbers.{told_of}
 use Rattle.working.proofs.Words.{registry_few}
-use Rattle.working.proofs.Cubing.{Building, building_none, building_all, stretch_inside, turn_stop, turn_more}
+use Rattle.working.proofs.Cubing.{building_none, building_all, stretch_inside, turn_stop, turn_more}
 use Rattle.working.proofs.build_cubes.Goals as goal
 use Rattle.working.proofs.build_cubes.Lts
 use Rattle.working.proofs.build_cubes.Tie
@@ -21,7 +21,7 @@ abbrev In-loop-t : Type 0
 In-loop-t = Lts.In-loop Tie.the-claims Reads.Pre Reads.Post goal.the-invariant-loop-t goal.the-decreases-loop-t
 
 types-in : (c : At-loop-t)
-    → let read = c in read.read_work-types.result.types ≡ type_count read.args.file.now
+    → c.read_work-types.result.types ≡ type_count c.args.file.now
 types-in c = types_are _ c.requires.0 c.read_work-types.ensures
 
 more : (c : In-loop-t) → c.loop-t.t < type_count c.args.file.now
@@ -66,37 +66,31 @@ build_cube-told-requires c = (c.requires.0, more c.before.before)
 
 pub shape_of-registry-then-told-ne0 : goal.shape_of-registry-then-told-ne0
 shape_of-registry-then-told-ne0 c =
-    let told = c in
-    let loop = told in
-    let words = loop.cube_words-words.result in
-    let start = words * loop.loop-t.t in
-    same_len_mid start (start + words - start) loop.loop-t.registry told.build_cube-told.new.out told.build_cube-told.auto.out
-    ∙ loop.loop-t.invariant.long ∙ sym loop.requires.1
+    let words = c.cube_words-words.result in
+    let start = words * c.loop-t.t in
+    same_len_mid start (start + words - start) c.loop-t.registry c.build_cube-told.new.out c.build_cube-told.auto.out
+    ∙ c.loop-t.invariant.long ∙ sym c.requires.1
 
 pub returns-then-told-ne0 : goal.returns-then-told-ne0
 returns-then-told-ne0 c =
-    let told = c in
-    let turn = told.before.before.before.before.before.before.before in
-    let loop = turn in
-    let words = loop.cube_words-words in
-    turn_stop _ _ _ loop.loop-t.invariant (more turn) (told_of told.build_cube-told.result) _
-    words.result words.ensures (told.build_cube-told.ensures, told.build_cube-told.auto.out) _ c.if-told-ne0.true
+    let turn = c.before.before.before.before.before.before.before in
+    let words = turn.cube_words-words in
+    turn_stop _ _ _ turn.loop-t.invariant (more turn) (told_of c.build_cube-told.result) _
+    words.result words.ensures (c.build_cube-told.ensures, c.build_cube-told.auto.out) _ c.if-told-ne0.true
 
 pub overflow_add-t : goal.overflow_add-t
 overflow_add-t c =
-    let turn = c in omega (arith, more turn.before.before.before.before.before.before.before, turn.requires.0.types)
+    omega (arith, more c.before.before.before.before.before.before.before, c.requires.0.types)
 
 pub loop-t-smaller : goal.loop-t-smaller
 loop-t-smaller c = omega (arith, c.loop-t-test.true)
 
 pub loop-t-preserved : goal.loop-t-preserved
 loop-t-preserved c =
-    let told = c in
-    let turn = told.before.before.before.before.before.before.before in
-    let loop = turn in
-    let words = loop.cube_words-words in
-    turn_more _ _ _ loop.loop-t.invariant (more turn) (told_of told.build_cube-told.result) _
-    words.result words.ensures (told.build_cube-told.ensures, told.build_cube-told.auto.out) c.if-told-ne0.false
+    let turn = c.before.before.before.before.before.before.before in
+    let words = turn.cube_words-words in
+    turn_more _ _ _ turn.loop-t.invariant (more turn) (told_of c.build_cube-told.result) _
+    words.result words.ensures (c.build_cube-told.ensures, c.build_cube-told.auto.out) c.if-told-ne0.false
 
 pub shape_of-registry : goal.shape_of-registry
 shape_of-registry c = c.loop-t.invariant.long ∙ sym c.requires.1

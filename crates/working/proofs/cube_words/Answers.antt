@@ -5,7 +5,6 @@ use native.Mathlib.Omega.{arith}
 use Rattle.rules.specs.Cube.{floats_of}
 use Rattle.workfile.specs.declared.Work.{Work}
 use Rattle.working.proofs.Words.{few_floats}
-use borrow.Author.Rules.{rules}
 use Rattle.working.proofs.cube_words.Goals as goal
 
 pub read_work-requires : goal.read_work-requires

@@ -12,10 +12,8 @@ read_work-requires c = c.requires
 
 pub overflow_mul-result : goal.overflow_mul-result
 overflow_mul-result c =
-    let s = c in
-    omega (arith, (registry_is _ s.requires c.cube_words.ensures (types_are _ s.requires c.read_work.ensures)).1)
+    omega (arith, (registry_is _ c.requires c.cube_words.ensures (types_are _ c.requires c.read_work.ensures)).1)
 
 pub returns : goal.returns
 returns c =
-    let s = c in
-    registry_is _ s.requires c.cube_words.ensures (types_are _ s.requires c.read_work.ensures)
+    registry_is _ c.requires c.cube_words.ensures (types_are _ c.requires c.read_work.ensures)

@@ -11,7 +11,6 @@ use Rattle.telling.specs.Numbers.{told_of, outcome}
 use Rattle.telling.proofs.Telling.{mesh_told}
 use Rattle.working.specs.Steps.{scene_with}
 use Rattle.working.proofs.Following.{mesh_stops, update_follows}
-use borrow.Author.Rules.{rules}
 use Rattle.working.proofs.work_lists.Goals as goal
 use Rattle.working.proofs.work_lists.Lts
 use Rattle.working.proofs.work_lists.Tie
@@ -59,14 +58,12 @@ meshed-so : (c : After-told_by_mesh-meshed) → let t = start (meshed c) in
     ≡ mesh_grid (scene t) t.args.outer.now (grid_in t.args.file.now) (eqb (word t.args.file.now 9) 1) (lists t)
 meshed-so c =
     let m = meshed c in
-    let grid = m in
-    let by = grid in
     let t = start m in
     let a = t.args in
-    let culling = by.algorithm_of-algorithm.ensures ∙ ap (λ (w : Work). w.culling) by.read_work.ensures in
+    let culling = m.algorithm_of-algorithm.ensures ∙ ap (λ (w : Work). w.culling) m.read_work.ensures in
     mesh_told c.told_by_mesh-meshed.ensures
     (m.mesh_grid.ensures
-    ∙ (λ i. mesh_grid (scene_of ((scened m).scene_in-scene.ensures i) a.kinds.now a.covers.now a.cubes.now) a.outer.now (grid.grid_of.ensures i) (culling i) (lists t)))
+    ∙ (λ i. mesh_grid (scene_of ((scened m).scene_in-scene.ensures i) a.kinds.now a.covers.now a.cubes.now) a.outer.now (m.grid_of.ensures i) (culling i) (lists t)))
 
 pub scene_in-scene-requires : goal.scene_in-scene-requires
 scene_in-scene-requires c = c.requires
@@ -96,15 +93,13 @@ told_at c = c.before.before.before.before.before.before.before.before.before.bef
 pub returns : goal.returns
 returns c =
     let updated = updated c.before in
-    let log = updated in
-    let unless = log in
-    let told = unless.before.before.before.before.before.before.before.before.before.before.before in
+    let told = updated.before.before.before.before.before.before.before.before.before.before.before in
     let t = start (meshed told) in
     let a = t.args in
-    update_follows (scene t) (log_in a.file.now) (meshed-so told) unless.if-meshed-ne0.false
+    update_follows (scene t) (log_in a.file.now) (meshed-so told) updated.if-meshed-ne0.false
     (mesh_told c.told_by_update.ensures
     (updated.update_mesh.ensures
-    ∙ (λ i. update_mesh source (scene_of ((scened (meshed told)).scene_in-scene.ensures i) a.kinds.now a.covers.now a.cubes.now) (log.log_of.ensures i) (exit (meshed told)) told.told_by_mesh-meshed.result.quads)))
+    ∙ (λ i. update_mesh source (scene_of ((scened (meshed told)).scene_in-scene.ensures i) a.kinds.now a.covers.now a.cubes.now) (updated.log_of.ensures i) (exit (meshed told)) told.told_by_mesh-meshed.result.quads)))
 
 pub shape_of-positions : goal.shape_of-positions
 shape_of-positions c = (updated c.before).update_mesh.auto.positions ∙ (meshed (told_at (updated c.before))).mesh_grid.auto.positions

@@ -3,7 +3,6 @@ use mathlib.Core.Path.{sym, ap}
 use Rattle.entries.specs.declared.VoxelChange.{VoxelChange}
 use Rattle.entries.specs.Log.{change_in}
 use Rattle.works.specs.Sets.{is_breaking}
-use borrow.Author.Rules.{rules}
 use Rattle.works.proofs.breaks.Goals as goal
 
 pub returns-in-Broken : goal.returns-in-Broken

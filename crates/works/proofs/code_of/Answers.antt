@@ -1,7 +1,6 @@
 -- `works::code_of` meets its contract. Assumes nothing.
 use mathlib.Core.Path.{sym}
 use lib.ListN.{get_or-eq_default}
-use borrow.Author.Rules.{rules}
 use Rattle.works.proofs.code_of.Goals as goal
 
 pub returns-then-table-t : goal.returns-then-table-t

@@ -7,27 +7,24 @@ use Rattle.rules.proofs.Neighbours.{beside}
 use Rattle.face.specs.Face.{number}
 use Rattle.util.specs.Grid.{size_of, cell_in}
 use Rattle.works.specs.Sets.{key_or}
-use borrow.Author.Rules.{rules}
 use Rattle.works.proofs.facing_key.Goals as goal
 use Rattle.works.proofs.facing_key.Goals.{In-At}
 
 -- the grid has the neighbour
-found : (c : In-At) → let t = c in neighbour (size_of t.args.dims) t.args.cell.0 (number t.args.face) ≡ some c.in-At.next.0
+found : (c : In-At) → neighbour (size_of c.args.dims) c.args.cell.0 (number c.args.face) ≡ some c.in-At.next.0
 found c = sym c.neighbor_at.ensures ∙ ap cell_in c.in-At.is
 
 pub key-requires : goal.key-requires
 key-requires c =
     let n = c.before in
-    let t = n in
-    let w = t.requires.0 in
-    let i = (beside (size_of t.args.dims) w.sides.wide w.sides.long t.args.cell.0 t.requires.1 (number t.args.face) _ (found n)).inside in
+    let w = n.requires.0 in
+    let i = (beside (size_of n.args.dims) w.sides.wide w.sides.long n.args.cell.0 n.requires.1 (number n.args.face) _ (found n)).inside in
     omega (arith, w.most)
 
 pub returns-in-At : goal.returns-in-At
 returns-in-At c =
     let n = c.before.before in
-    let t = n in
-    c.key.ensures ∙ ap (key_of n.in-At.next.0) c.opposite.ensures ∙ sym (ap (key_or (number t.args.face)) (found n))
+    c.key.ensures ∙ ap (key_of n.in-At.next.0) c.opposite.ensures ∙ sym (ap (key_or (number n.args.face)) (found n))
 
 pub returns-in-Nothing : goal.returns-in-Nothing
 returns-in-Nothing c = ap (key_or _) (sym (ap cell_in c.in-Nothing.is) ∙ c.neighbor_at.ensures)

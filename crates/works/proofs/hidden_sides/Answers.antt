@@ -1,5 +1,4 @@
 -- `works::hidden_sides` meets its contract: side by side. Assumes nothing.
-use borrow.Author.Rules.{rules}
 use Rattle.works.proofs.hidden_sides.Goals as goal
 
 pub returns : goal.returns

@@ -1,7 +1,6 @@
 -- `works::is_hidden` meets its contract. Assumes nothing.
 use mathlib.Core.Path.{ap, ◌∙◌}
 use Rattle.rules.specs.Cells.{has}
-use borrow.Author.Rules.{rules}
 use Rattle.works.proofs.is_hidden.Goals as goal
 
 pub returns : goal.returns

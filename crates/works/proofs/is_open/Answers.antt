@@ -5,7 +5,6 @@ use Rattle.works.specs.Sets.{types_by}
 use Rattle.face.specs.Face.{number}
 use Rattle.entries.specs.Log.{entry_in}
 use Rattle.works.proofs.Works.{open_outside, open_voxel}
-use borrow.Author.Rules.{rules}
 use Rattle.works.proofs.is_open.Goals as goal
 
 pub returns-in-Outside : goal.returns-in-Outside
@@ -15,8 +14,6 @@ returns-in-Outside c =
 
 pub returns-in-Voxel : goal.returns-in-Voxel
 returns-in-Voxel c =
-    let told = c in
-    let found = told in
-    let a = found.args in
-    open_voxel (entry_in a.entry) (number a.face) (types_by [] a.covers.now) (sym found.neighbour.ensures ∙ found.in-Voxel.is)
-    c.has.ensures told.code_of.ensures c.opposite.ensures
+    let a = c.args in
+    open_voxel (entry_in a.entry) (number a.face) (types_by [] a.covers.now) (sym c.neighbour.ensures ∙ c.in-Voxel.is)
+    c.has.ensures c.code_of.ensures c.opposite.ensures

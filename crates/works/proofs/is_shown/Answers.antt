@@ -1,7 +1,6 @@
 -- `works::is_shown` meets its contract. Assumes nothing.
 use native.Mathlib.Omega.{arith}
 use Rattle.face.proofs.Laws.{number_below}
-use borrow.Author.Rules.{rules}
 use Rattle.works.proofs.is_shown.Goals as goal
 
 pub given-requires : goal.given-requires

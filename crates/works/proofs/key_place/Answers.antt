@@ -1,6 +1,5 @@
 -- `works::key_place` meets its contract. Assumes nothing.
 use native.Mathlib.Omega.{arith}
-use borrow.Author.Rules.{rules}
 use Rattle.works.proofs.key_place.Goals as goal
 
 pub returns-then-i-lt12 : goal.returns-then-i-lt12

@@ -5,21 +5,15 @@ use Prim.Native.Nat.{◌+◌, ◌*◌, ◌^◌, ◌<◌}
 use native.Mathlib.Omega.{arith}
 use Rattle.rules.specs.Lists.{each}
 use Rattle.rules.specs.Cells.{key_of}
-use borrow.Author.Rules.{rules}
 use Rattle.works.proofs.keys_around.Goals as goal
 use Rattle.works.proofs.keys_around.Goals.{Start}
 
 pub returns : goal.returns
 unfolding each
 returns c =
-    let e = c in
-    let d = e in
-    let b = d in
-    let a = b in
-    let z = a in
-    let own = z.args.cell.0 in
+    let own = c.args.cell.0 in
     let first : 6 * own ≡ key_of own 0 = omega arith in
-    λ i. first i ∷ key_of own 1 ∷ key_of own 2 ∷ key_of own 3 ∷ key_of own 4 ∷ key_of own 5 ∷ z.facing_key.ensures i ∷ a.facing_key-2.ensures i ∷ b.facing_key-3.ensures i ∷ d.facing_key-4.ensures i ∷ e.facing_key-5.ensures i ∷ c.facing_key-6.ensures i ∷ []
+    λ i. first i ∷ key_of own 1 ∷ key_of own 2 ∷ key_of own 3 ∷ key_of own 4 ∷ key_of own 5 ∷ c.facing_key.ensures i ∷ c.facing_key-2.ensures i ∷ c.facing_key-3.ensures i ∷ c.facing_key-4.ensures i ∷ c.facing_key-5.ensures i ∷ c.facing_key-6.ensures i ∷ []
 
 -- six keys a cell
 small : (t : Start) → 6 * t.args.cell.0 + 5 < 2 ^ 32

@@ -1,6 +1,5 @@
 -- `works::open_if` meets its contract. Assumes nothing.
 use Rattle.works.proofs.Works.{if_on, if_off}
-use borrow.Author.Rules.{rules}
 use Rattle.works.proofs.open_if.Goals as goal
 
 pub returns-then-comes : goal.returns-then-comes

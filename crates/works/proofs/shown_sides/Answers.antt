@@ -2,16 +2,9 @@
 use mathlib.Core.Path.{◌∙◌}
 use mathlib.Core.Bool.{cond}
 use Prim.Native.Nat.{◌+◌}
-use borrow.Author.Rules.{rules}
 use Rattle.works.proofs.shown_sides.Goals as goal
 
 pub returns : goal.returns
 returns c =
-    let f = c in
-    let e = f in
-    let d = e in
-    let r = d in
-    let b = r in
-    let a = b in
     c.side_set.ensures
-    ∙ (λ i. cond (a.is_shown.ensures i) 1 0 + cond (b.is_shown-2.ensures i) 2 0 + cond (r.is_shown-3.ensures i) 4 0 + cond (d.is_shown-4.ensures i) 8 0 + cond (e.is_shown-5.ensures i) 16 0 + cond (f.is_shown-6.ensures i) 32 0)
+    ∙ (λ i. cond (c.is_shown.ensures i) 1 0 + cond (c.is_shown-2.ensures i) 2 0 + cond (c.is_shown-3.ensures i) 4 0 + cond (c.is_shown-4.ensures i) 8 0 + cond (c.is_shown-5.ensures i) 16 0 + cond (c.is_shown-6.ensures i) 32 0)

@@ -5,7 +5,6 @@ use Rattle.rules.specs.Update.{given_at, to_draw}
 use Rattle.face.specs.Face.{number}
 use Rattle.entries.specs.Log.{entry_in}
 use Rattle.works.proofs.Works.{wants, wants_is}
-use borrow.Author.Rules.{rules}
 use Rattle.works.proofs.to_draw.Goals as goal
 use Rattle.works.proofs.to_draw.Goals.{After-side}
 

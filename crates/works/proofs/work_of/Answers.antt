@@ -1,18 +1,16 @@
 -- `works::work_of` meets its contract: by whether something goes, and whether something is put. Assumes nothing.
 use mathlib.Core.Path.{◌≡◌, refl, sym, ap, ◌∙◌}
-use mathlib.Core.Bool.{Bool, true, cond, ◌&&◌, ◌||◌}
+use mathlib.Core.Bool.{Bool, cond, ◌&&◌, ◌||◌}
 use Prim.Native.Nat.{ℕ}
 use lib.ListN.{get_or}
 use lib.Dec.{eqb}
 use Rattle.rules.specs.Cells.{set_of, has}
 use Rattle.rules.specs.Mesh.{World, is_normal_cube}
 use Rattle.rules.specs.Update.{Change, Broken, Added, Sides, Replaced, Entry, Tested, to_hide, to_draw, draws}
-use Rattle.rules.proofs.ListLaws.{not_true, not_false}
 use Rattle.entries.specs.Log.{change_in, entry_in}
 use Rattle.terms.specs.Modes.{tested_by}
 use Rattle.works.specs.declared.Work.{Work}
 use Rattle.works.specs.Sets.{types_by, sets, is_shown, shown_for, open_for, hidden_for, is_breaking, is_adding, meant_by, meant}
-use borrow.Author.Rules.{rules}
 use Rattle.works.proofs.work_of.Goals as goal
 use Rattle.works.proofs.work_of.Lts
 use Rattle.works.proofs.work_of.Tie
@@ -57,35 +55,21 @@ module _ (t : Start) {goes put : Bool} (g : goes ≡ is_breaking (change_in t.ar
 
 pub returns-then-not-goes-put : goal.returns-then-not-goes-put
 returns-then-not-goes-put c =
-    let hide = c in
-    let put = hide in
-    let goes = put in
-    let cube = goes in
-    let t = cube in
-    let on = ap (λ (n : ℕ). eqb n 1) cube.code_of-cube.ensures in
-    let new = c.sides_to_draw-drawn.ensures ∙ (λ i. set_of (λ f. on i && to_draw (entry_in t.args.entry) f)) in
-    (λ i. sets (hide.sides_to_hide-own.ensures i) 0 (new i) 0)
-    ∙ told t.before.before.before.before.before.before.before.before.before goes.breaks-goes.ensures put.adds-put.ensures hide.if-not-goes-put.true
+    let on = ap (λ (n : ℕ). eqb n 1) c.code_of-cube.ensures in
+    let new = c.sides_to_draw-drawn.ensures ∙ (λ i. set_of (λ f. on i && to_draw (entry_in c.args.entry) f)) in
+    (λ i. sets (c.sides_to_hide-own.ensures i) 0 (new i) 0)
+    ∙ told c.before.before.before.before.before.before.before.before.before c.breaks-goes.ensures c.adds-put.ensures c.if-not-goes-put.true
 
 pub returns : goal.returns
 returns c =
-    let cover = c in
-    let opened = cover in
-    let shown = opened in
-    let covered = shown in
-    let old = covered in
-    let all = old in
-    let put = all in
-    let goes = put in
-    let cube = goes in
-    let t = cube.before.before.before.before.before.before.before.before.before.before.before.before.before.before in
+    let t = c.before.before.before.before.before.before.before.before.before.before.before.before.before.before in
     let e = entry_in t.args.entry in
-    let a = goes.breaks-goes.result in
-    let b = put.adds-put.result in
-    let on = ap (λ (n : ℕ). eqb n 1) cube.code_of-cube.ensures in
-    let own = all.all_if-own.ensures ∙ (λ i. cond (a || (b && on i)) 63 0) in
-    let was = covered.code_of.ensures ∙ ap (λ (v : ℕ). get_or t.args.covers.now v 0) old.gone.ensures in
-    let come = shown.shown_if-shown.ensures ∙ (λ i. cond a (set_of (is_shown t.args.kinds.now (was i) e)) 0) in
-    let drawn = opened.open_if-drawn.ensures ∙ (λ i. open_for (b && on i) (types t) e) in
-    let hidden = c.hidden_if-hidden.ensures ∙ (λ i. cond (b && on i) (set_of (λ f. has (cover.code_of-2.ensures i) (tested_by t.args.tested f))) 0) in
-    (λ i. sets (own i) (come i) (drawn i) (hidden i)) ∙ told t goes.breaks-goes.ensures put.adds-put.ensures all.if-not-goes-put.false
+    let a = c.breaks-goes.result in
+    let b = c.adds-put.result in
+    let on = ap (λ (n : ℕ). eqb n 1) c.code_of-cube.ensures in
+    let own = c.all_if-own.ensures ∙ (λ i. cond (a || (b && on i)) 63 0) in
+    let was = c.code_of.ensures ∙ ap (λ (v : ℕ). get_or t.args.covers.now v 0) c.gone.ensures in
+    let come = c.shown_if-shown.ensures ∙ (λ i. cond a (set_of (is_shown t.args.kinds.now (was i) e)) 0) in
+    let drawn = c.open_if-drawn.ensures ∙ (λ i. open_for (b && on i) (types t) e) in
+    let hidden = c.hidden_if-hidden.ensures ∙ (λ i. cond (b && on i) (set_of (λ f. has (c.code_of-2.ensures i) (tested_by t.args.tested f))) 0) in
+    (λ i. sets (own i) (come i) (drawn i) (hidden i)) ∙ told t c.breaks-goes.ensures c.adds-put.ensures c.if-not-goes-put.false

@@ -1,4 +1,4 @@
-use Rattle.std.proofs.Common.{◌≡◌, ◌≢◌, get_or, sym, ap, ◌∙◌, arith, rules, eq-eqb, ne_eqb}
+use Rattle.std.proofs.Common.{◌≡◌, ◌≢◌, get_or, sym, ap, ◌∙◌, arith, eq-eqb, ne_eqb}
 use Rattle.entries.specs.declared.Neighbour.TheVariants.{Voxel}
 use Rattle.rules.specs.Update.{given_at}
 use Rattle.face.specs.Face.{number}
@@ -15,11 +15,10 @@ is-given : (c : goal.After-number-side) → let a = c.args in given_at (entry_in
 is-given c = let a = c.args in read_is a.self c.number-side.ensures (number_below a.face)
 
 pub returns-then-given : goal.returns-then-given
-returns-then-given c = let r = c in rw (eq-eqb _ 255 (is-given r.before.before ∙ c.if-given.true))
+returns-then-given c = rw (eq-eqb _ 255 (is-given c.before.before ∙ c.if-given.true))
 
 pub returns-else-given : goal.returns-else-given
 returns-else-given c =
-    let r = c in
-    let a = r.args in
-    let d : given_at (entry_in a.self) (number a.face) ≢ 255 = λ z. c.if-given.false (sym (is-given r.before.before) ∙ z) in
-    rw (ne_eqb (given_at (entry_in a.self) (number a.face)) 255 d) (ap Voxel (sym (is-given r.before.before)))
+    let a = c.args in
+    let d : given_at (entry_in a.self) (number a.face) ≢ 255 = λ z. c.if-given.false (sym (is-given c.before.before) ∙ z) in
+    rw (ne_eqb (given_at (entry_in a.self) (number a.face)) 255 d) (ap Voxel (sym (is-given c.before.before)))

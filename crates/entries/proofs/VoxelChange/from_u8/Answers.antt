@@ -1,5 +1,4 @@
 use Rattle.entries.proofs.Entries.{change_last}
-use Rattle.std.proofs.Common.{rules}
 use Rattle.entries.proofs.VoxelChange.from_u8.Goals as goal
 
 pub returns-in_default : goal.returns-in_default

@@ -1,4 +1,3 @@
-use borrow.Author.Rules.{rules}
 use Rattle.face.proofs.Face.opposite.Goals as goal
 
 pub returns-in-Top : goal.returns-in-Top

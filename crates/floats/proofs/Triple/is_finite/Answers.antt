@@ -1,6 +1,5 @@
 -- `floats::Triple::is_finite` meets its contract. Assumes nothing.
 use mathlib.Core.Bool.{◌&&◌}
-use borrow.Author.Rules.{rules}
 use Rattle.floats.proofs.Triple.is_finite.Goals as goal
 
 pub returns : goal.returns

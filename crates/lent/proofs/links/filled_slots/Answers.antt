@@ -1,5 +1,5 @@
 -- `lent::links::filled_slots` meets its contract. Assumes nothing.
-use Rattle.std.proofs.Common.{◌≡◌, ℕ, ◌+◌, ◌-◌, ◌≤◌, Bool, eqb, [], get_or, ap, arith, rules}
+use Rattle.std.proofs.Common.{◌≡◌, ℕ, Bool, eqb, [], get_or, ap, arith}
 use Rattle.rules.specs.Mesh.{NONE, book_of}
 use Rattle.rules.specs.Answers.{slots_filled}
 use Rattle.lent.proofs.Linked.{byte_le, filled_none, filled_more}

@@ -1,7 +1,6 @@
-use Rattle.std.proofs.Common.{◌≡◌, ℕ, ◌+◌, ◌-◌, ◌≤◌, Bool, eqb, [], get_or, ap, arith, rules}
-use Rattle.rules.specs.Mesh.{NONE, book_of}
+use Rattle.std.proofs.Common.{◌≡◌, ◌+◌, ◌-◌, ◌≤◌, []}
+use Rattle.rules.specs.Mesh.{book_of}
 use Rattle.rules.specs.Answers.{slots_filled}
-use Rattle.lent.proofs.Linked.{byte_le, filled_none, filled_more}
 use Rattle.lent.proofs.links.filled_slots.Given as goal
 
 abbrev pub invariant-loop-k : goal.invariant-loop-k

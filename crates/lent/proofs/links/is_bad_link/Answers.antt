@@ -1,5 +1,5 @@
 -- `lent::links::is_bad_link` meets its contract. Assumes nothing.
-use Rattle.std.proofs.Common.{◌≡◌, ℕ, ◌*◌, ◌<◌, true, false, not, ◌||◌, eqb, ltb, leb, length, get_or, ap, ◌∙◌, arith, rules, ltb-false, leb-false}
+use Rattle.std.proofs.Common.{◌≡◌, ℕ, ◌*◌, ◌<◌, true, false, not, ◌||◌, eqb, ltb, leb, length, get_or, ap, ◌∙◌, arith, ltb-false, leb-false}
 use Rattle.rules.specs.Cells.{code_in, cell_in}
 use Rattle.rules.specs.Mesh.{NONE}
 use Rattle.rules.specs.Answers.{bad_link}

@@ -1,5 +1,5 @@
 -- `lent::links::links_verdict` meets its contract. Assumes nothing.
-use Rattle.std.proofs.Common.{◌∙◌, rules}
+use Rattle.std.proofs.Common.{◌∙◌}
 use Rattle.rules.specs.Answers.{bad_link}
 use Rattle.rules.specs.Mesh.{lists_of}
 use Rattle.lent.proofs.Linked.{links_refused, links_counted}

@@ -1,8 +1,6 @@
 -- `lent::links::lowest_bad_link` meets its contract. Assumes nothing.
-use Rattle.std.proofs.Common.{◌-◌, sym, ◌∙◌, rules}
-use Rattle.rules.specs.Answers.{bad_link}
-use Rattle.rules.specs.Mesh.{book_of}
-use Rattle.rules.proofs.Searches.{Searched, searched, found, passed, ended}
+use Rattle.std.proofs.Common.{sym, ◌∙◌}
+use Rattle.rules.proofs.Searches.{searched, found, passed, ended}
 use Rattle.lent.proofs.links.lowest_bad_link.Goals as goal
 
 pub loop-q-init : goal.loop-q-init

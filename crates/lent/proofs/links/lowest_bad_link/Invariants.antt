@@ -1,7 +1,7 @@
-use Rattle.std.proofs.Common.{◌-◌, sym, ◌∙◌, rules}
+use Rattle.std.proofs.Common.{◌-◌}
 use Rattle.rules.specs.Answers.{bad_link}
 use Rattle.rules.specs.Mesh.{book_of}
-use Rattle.rules.proofs.Searches.{Searched, searched, found, passed, ended}
+use Rattle.rules.proofs.Searches.{Searched}
 use Rattle.lent.proofs.links.lowest_bad_link.Given as goal
 
 abbrev pub invariant-loop-q : goal.invariant-loop-q

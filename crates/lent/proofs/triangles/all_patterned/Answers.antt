@@ -1,5 +1,5 @@
 -- `lent::triangles::all_patterned` meets its contract. Assumes nothing.
-use Rattle.std.proofs.Common.{◌≡◌, length, take, sym, ◌∙◌, arith, length-take, rules}
+use Rattle.std.proofs.Common.{◌≡◌, length, take, sym, ◌∙◌, arith, length-take}
 use Rattle.rules.proofs.ListLaws.{and_true, lowest_none}
 use Rattle.lent.proofs.Patterns.{none_bad}
 use Rattle.lent.proofs.triangles.all_patterned.Goals as goal
@@ -25,6 +25,5 @@ is_pattern-requires c = (first-row c.before, omega arith)
 
 pub returns : goal.returns
 returns c = λ e.
-    let start = c in
     let both = and_true _ _ e in
-    none_bad _ _ start.requires.0 start.requires.1 (sym c.is_pattern.ensures ∙ both.0) (sym c.rows_go_on.ensures ∙ both.1)
+    none_bad _ _ c.requires.0 c.requires.1 (sym c.is_pattern.ensures ∙ both.0) (sym c.rows_go_on.ensures ∙ both.1)

@@ -1,9 +1,9 @@
 -- `lent::triangles::find_bad_triangles` meets its contract. Assumes nothing.
-use Rattle.std.proofs.Common.{◌≡◌, ◌+◌, ◌-◌, ◌*◌, not, sym, ap, ◌∙◌, arith, rules}
+use Rattle.std.proofs.Common.{◌≡◌, ◌+◌, ◌-◌, ◌*◌, not, sym, ap, ◌∙◌, arith}
 use Rattle.rules.specs.Lists.{row, same}
 use Rattle.rules.specs.Mesh.{pattern}
 use Rattle.rules.proofs.Rows.{length_lent}
-use Rattle.rules.proofs.Searches.{Searched, searched, found, passed, ended}
+use Rattle.rules.proofs.Searches.{searched, found, passed, ended}
 use Rattle.lent.proofs.triangles.find_bad_triangles.Goals as goal
 use Rattle.lent.proofs.triangles.find_bad_triangles.Lts
 use Rattle.lent.proofs.triangles.find_bad_triangles.Tie

@@ -1,8 +1,7 @@
-use Rattle.std.proofs.Common.{◌≡◌, ◌+◌, ◌-◌, ◌*◌, not, sym, ap, ◌∙◌, arith, rules}
+use Rattle.std.proofs.Common.{◌-◌, not}
 use Rattle.rules.specs.Lists.{row, same}
 use Rattle.rules.specs.Mesh.{pattern}
-use Rattle.rules.proofs.Rows.{length_lent}
-use Rattle.rules.proofs.Searches.{Searched, searched, found, passed, ended}
+use Rattle.rules.proofs.Searches.{Searched}
 use Rattle.lent.proofs.triangles.find_bad_triangles.Given as goal
 
 abbrev pub invariant-loop-q : goal.invariant-loop-q

@@ -1,6 +1,5 @@
 -- `lent::triangles::is_pattern` meets its contract. Assumes nothing.
 use Rattle.lent.proofs.Patterns.{same_pattern}
-use Rattle.std.proofs.Common.{rules}
 use Rattle.lent.proofs.triangles.is_pattern.Goals as goal
 
 pub returns : goal.returns

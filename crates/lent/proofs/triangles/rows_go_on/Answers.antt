@@ -1,7 +1,6 @@
 -- `lent::triangles::rows_go_on` meets its contract. Assumes nothing.
-use Rattle.std.proofs.Common.{◌≡◌, ◌-◌, ◌≤◌, refl, add-one, arith, rules}
+use Rattle.std.proofs.Common.{◌≡◌, refl, add-one, arith}
 use Rattle.rules.specs.Lists.{every}
-use Rattle.lent.specs.Patterns.{goes_on}
 use Rattle.lent.proofs.triangles.rows_go_on.Goals as goal
 
 pub loop-k-init : goal.loop-k-init

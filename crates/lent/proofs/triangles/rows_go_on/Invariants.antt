@@ -1,4 +1,4 @@
-use Rattle.std.proofs.Common.{◌≡◌, ◌-◌, ◌≤◌, refl, add-one, arith, rules}
+use Rattle.std.proofs.Common.{◌≡◌, ◌-◌, ◌≤◌}
 use Rattle.rules.specs.Lists.{every}
 use Rattle.lent.specs.Patterns.{goes_on}
 use Rattle.lent.proofs.triangles.rows_go_on.Given as goal

@@ -4,7 +4,6 @@ use Rattle.rules.specs.Mesh.{Lists, vertices_of, lists_of}
 use Rattle.rules.specs.Calls.{Scene}
 use Rattle.terms.specs.Scenes.{scene_of}
 use Rattle.release.proofs.OneByOne.{meshes, passed, chained, unmade}
-use borrow.Author.Rules.{rules}
 use Rattle.release.proofs.one_by_one.make_mend_and_check.Goals as goal
 use Rattle.release.proofs.one_by_one.make_mend_and_check.Lts
 use Rattle.release.proofs.one_by_one.make_mend_and_check.Tie
@@ -43,21 +42,18 @@ making c = (calling c).before.before.before.before.before.before.before.before.b
 pub returns-in-Done : goal.returns-in-Done
 returns-in-Done c =
     let call = calling c.before in
-    let told = call in
-    let m = told in
-    let t = start m.before.before.before.before.before.before.before.before.before.before.before.before.before.before.before.before.before.before.before.before.before.before.before in
+    let t = start call.before.before.before.before.before.before.before.before.before.before.before.before.before.before.before.before.before.before.before.before.before.before.before in
     let a = t.args in
     chained a.tested (scene t) a.grid.now a.log.now a.left.now (lists t) _
-    told.in-Done.quads (meshes told.in-Done.is m.mesh_grid-made.ensures)
+    call.in-Done.quads (meshes call.in-Done.is call.mesh_grid-made.ensures)
     (passed (scene t) a.left.now call.mend_by_entries-mended.result (exit call) c.check_made.ensures call.mend_by_entries-mended.ensures)
 
 pub returns-in-Refused : goal.returns-in-Refused
 returns-in-Refused c =
-    let m = c in
-    let t = start m.before.before.before.before.before.before.before.before.before.before.before.before.before.before.before.before in
+    let t = start c.before.before.before.before.before.before.before.before.before.before.before.before.before.before.before.before in
     unmade t.args.tested (scene t) t.args.grid.now t.args.log.now t.args.left.now (lists t) _
     c.in-Refused.why c.in-Refused.place
-    (meshes c.in-Refused.is m.mesh_grid-made.ensures)
+    (meshes c.in-Refused.is c.mesh_grid-made.ensures)
 
 pub shape_of-positions-in-Done : goal.shape_of-positions-in-Done
 shape_of-positions-in-Done c = (calling c.before).mend_by_entries-mended.auto.positions ∙ (making c.before).mesh_grid-made.auto.positions

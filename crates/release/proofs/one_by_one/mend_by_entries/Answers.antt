@@ -1,7 +1,7 @@
 -- `release::one_by_one::mend_by_entries` meets its contract: a call for each entry. Assumes nothing.
 use mathlib.Core.Path.{◌≡◌, ap, ◌∙◌}
 use mathlib.Core.List.{List}
-use Prim.Native.Nat.{ℕ, ◌-◌, ◌*◌, ◌/◌}
+use Prim.Native.Nat.{ℕ, ◌*◌, ◌/◌}
 use native.Mathlib.Omega.{arith}
 use lib.ListN.{length}
 use Rattle.rules.specs.Mesh.{Lists, vertices_of, lists_of}
@@ -12,8 +12,7 @@ use Rattle.terms.specs.Scenes.{scene_of}
 use Rattle.terms.specs.Modes.{tested_by}
 use Rattle.update.specs.Outcome.{outcome_of}
 use Rattle.release.specs.OneByOne.{entry_log}
-use Rattle.release.proofs.OneByOne.{updates, Calling, starts, goes_on, refuses, ends}
-use borrow.Author.Rules.{rules}
+use Rattle.release.proofs.OneByOne.{updates, starts, goes_on, refuses, ends}
 use Rattle.release.proofs.one_by_one.mend_by_entries.Goals as goal
 use Rattle.release.proofs.one_by_one.mend_by_entries.Lts
 use Rattle.release.proofs.one_by_one.mend_by_entries.Tie

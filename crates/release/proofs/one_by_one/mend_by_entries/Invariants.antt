@@ -1,18 +1,10 @@
-use mathlib.Core.Path.{◌≡◌, ap, ◌∙◌}
-use mathlib.Core.List.{List}
-use Prim.Native.Nat.{ℕ, ◌-◌, ◌*◌, ◌/◌}
-use native.Mathlib.Omega.{arith}
+use Prim.Native.Nat.{◌-◌, ◌/◌}
 use lib.ListN.{length}
-use Rattle.rules.specs.Mesh.{Lists, vertices_of, lists_of}
-use Rattle.rules.specs.Update.{ENTRY_BYTES, Tested}
-use Rattle.rules.specs.Calls.{Scene, update_mesh}
-use Rattle.vav.proofs.Laws.{part_lent}
+use Rattle.rules.specs.Mesh.{vertices_of, lists_of}
+use Rattle.rules.specs.Update.{ENTRY_BYTES}
 use Rattle.terms.specs.Scenes.{scene_of}
 use Rattle.terms.specs.Modes.{tested_by}
-use Rattle.update.specs.Outcome.{outcome_of}
-use Rattle.release.specs.OneByOne.{entry_log}
-use Rattle.release.proofs.OneByOne.{updates, Calling, starts, goes_on, refuses, ends}
-use borrow.Author.Rules.{rules}
+use Rattle.release.proofs.OneByOne.{Calling}
 use Rattle.release.proofs.one_by_one.mend_by_entries.Given as goal
 
 abbrev pub invariant-loop-k : goal.invariant-loop-k

@@ -3,7 +3,6 @@ use mathlib.Core.Path.{sym, ap, ◌∙◌}
 use Rattle.face.specs.Face.{number}
 use Rattle.terms.specs.declared.Tested.{Tested}
 use Rattle.terms.specs.Modes.{tested_by}
-use borrow.Author.Rules.{rules}
 use Rattle.terms.proofs.Tested.side.Goals as goal
 
 pub returns-in-Opposite : goal.returns-in-Opposite

@@ -1,6 +1,5 @@
 use native.Mathlib.Nat.{le_refl}
 use native.Mathlib.Omega.{arith}
-use borrow.Author.Rules.{rules}
 use Rattle.util.specs.Grid.{size_of}
 use Rattle.util.proofs.Cells.{plane_fits, volume_fits}
 use Rattle.util.proofs.Dimensions.cell_count.Goals as goal

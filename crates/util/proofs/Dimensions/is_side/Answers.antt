@@ -1,5 +1,4 @@
 use mathlib.Core.Path.{◌∙◌}
-use borrow.Author.Rules.{rules}
 use Rattle.util.proofs.Limits.{in_range}
 use Rattle.util.proofs.Dimensions.is_side.Goals as goal
 

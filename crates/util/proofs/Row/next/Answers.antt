@@ -1,7 +1,6 @@
 -- `util::Row::next` meets its contract. Assumes nothing.
 use mathlib.Core.Path.{refl}
 use native.Mathlib.Omega.{arith}
-use borrow.Author.Rules.{rules}
 use Rattle.util.specs.Grid.{size_of}
 use Rattle.util.proofs.Rows.{high, long, next_row, next_layer}
 use Rattle.util.proofs.Row.next.Goals as goal

@@ -1,6 +1,5 @@
 -- `voxel_mesh::Shape::has_numbers` meets its contract. Assumes nothing.
 use mathlib.Core.Bool.{◌&&◌}
-use borrow.Author.Rules.{rules}
 use Rattle.voxel_mesh.proofs.Shape.has_numbers.Goals as goal
 
 pub returns : goal.returns
