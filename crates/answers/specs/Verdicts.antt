@@ -1,10 +1,9 @@
 -- 01's number for each refusal, and the rules' verdict for each verdict. Definitions only.
-use Rattle.std.specs.Prelude.{ℕ, Bool, true, false}
+use Rattle.std.specs.Prelude.{ℕ, Result, Ok, Err}
 use Rattle.rules.specs.Answers as rules
 use Rattle.answers.specs.declared.Refusal.{Refusal}
 use Rattle.answers.specs.declared.Refusal.TheVariants.{BadFile, BadSize, BadTypes, BadNumber, BadAtlas, NotACube, BadFace, BadCell, ShortRoom, BadCount, BadLinks, BadTriangles, BadEntry, NoRoom, WrongSet, WrongVertex}
-use Rattle.answers.specs.declared.Verdict.{Verdict}
-use Rattle.answers.specs.declared.Verdict.TheVariants.{Fine, Refuse}
+use Rattle.answers.specs.declared.Refused.{Refused}
 
 abbrev pub number_of : Refusal → ℕ
 number_of BadFile = 1
@@ -24,10 +23,6 @@ number_of NoRoom = 14
 number_of WrongSet = 15
 number_of WrongVertex = 16
 
-abbrev pub verdict_of : Verdict → rules.Verdict
-verdict_of Fine = rules.fine
-verdict_of (Refuse why place) = rules.refuse (number_of why) place
-
-abbrev pub refuses : rules.Verdict → Bool
-refuses rules.fine = false
-refuses (rules.refuse n p) = true
+abbrev pub verdict_of : Result Unit Refused → rules.Verdict
+verdict_of (Ok _) = rules.fine
+verdict_of (Err e) = rules.refuse (number_of e.why) e.place

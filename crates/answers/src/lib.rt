@@ -3,56 +3,50 @@
 
 ghost use Rattle.std.specs.Prelude.{◌≡◌};
 ghost use Rattle.rules.specs.Answers.{refuse_if};
-ghost use Rattle.answers.specs.Verdicts.{number_of, verdict_of, refuses};
+ghost use Rattle.answers.specs.Verdicts.{number_of, verdict_of};
 
-#[derive(Clone, Copy)]
+#[derive(Clone, Copy, Debug, PartialEq, Eq)]
 pub enum Refusal {
-    BadFile,
-    BadSize,
-    BadTypes,
-    BadNumber,
-    BadAtlas,
-    NotACube,
-    BadFace,
-    BadCell,
-    ShortRoom,
-    BadCount,
-    BadLinks,
-    BadTriangles,
-    BadEntry,
-    NoRoom,
-    WrongSet,
-    WrongVertex,
+    BadFile = 1,
+    BadSize = 2,
+    BadTypes = 3,
+    BadNumber = 4,
+    BadAtlas = 5,
+    NotACube = 6,
+    BadFace = 7,
+    BadCell = 8,
+    ShortRoom = 9,
+    BadCount = 10,
+    BadLinks = 11,
+    BadTriangles = 12,
+    BadEntry = 13,
+    NoRoom = 14,
+    WrongSet = 15,
+    WrongVertex = 16,
 }
 
-#[derive(Clone, Copy)]
-pub enum Verdict {
-    Fine,
-    Refuse(Refusal, usize),
+// A refusal with its place.
+#[derive(Clone, Copy, Debug, PartialEq, Eq)]
+pub struct Refused {
+    pub why: Refusal,
+    pub place: usize,
+}
+
+pub type Verdict = Result<(), Refused>;
+
+impl From<Refusal> for u32 {
+    ghost from_gives = { λ why n. n ≡ number_of why };
+
+    fn from(why: Refusal) -> u32 {
+        why as u32
+    }
 }
 
 impl Refusal {
     pub fn number(self) -> u32
         ensures { result ≡ number_of self }
     {
-        match self {
-            Refusal::BadFile => 1,
-            Refusal::BadSize => 2,
-            Refusal::BadTypes => 3,
-            Refusal::BadNumber => 4,
-            Refusal::BadAtlas => 5,
-            Refusal::NotACube => 6,
-            Refusal::BadFace => 7,
-            Refusal::BadCell => 8,
-            Refusal::ShortRoom => 9,
-            Refusal::BadCount => 10,
-            Refusal::BadLinks => 11,
-            Refusal::BadTriangles => 12,
-            Refusal::BadEntry => 13,
-            Refusal::NoRoom => 14,
-            Refusal::WrongSet => 15,
-            Refusal::WrongVertex => 16,
-        }
+        self as u32
     }
 }
 
@@ -61,16 +55,7 @@ pub fn refuse_if(applies: bool, why: Refusal, place: usize) -> Verdict
     ensures { verdict_of result ≡ refuse_if applies (number_of why) place }
 {
     if applies {
-        return Verdict::Refuse(why, place);
+        return Err(Refused { why, place });
     }
-    Verdict::Fine
-}
-
-pub fn is_refusal(verdict: Verdict) -> bool
-    ensures { result ≡ refuses (verdict_of verdict) }
-{
-    match verdict {
-        Verdict::Fine => false,
-        Verdict::Refuse(_, _) => true,
-    }
+    Ok(())
 }

@@ -1,21 +1,22 @@
 // Cells, quads and vertices, the six faces, the link word of a cell and a face, and side sets.
 #![tactic(auto)]
 
-ghost use Rattle.std.specs.Prelude.{◌≡◌, cond, ◌+◌, ◌*◌, ◌/◌, ◌^◌, ◌≤◌, ◌<◌};
+ghost use Rattle.std.specs.Prelude.{ℕ, Bool, ◌≡◌, cond, ◌+◌, ◌*◌, ◌/◌, ◌^◌, ◌≤◌, ◌<◌};
 ghost use Rattle.std.specs.Int.Count.{count_trailing_zeros};
-ghost use Rattle.rules.specs.Cells.{UNIT, opposite, code, link_word, cell_in, code_in, key_of, key_in, first_vertex, has, quads_of, rank};
+ghost use Rattle.rules.specs.Cells.{UNIT, set_of, opposite, code, link_word, cell_in, code_in, key_of, key_in, first_vertex, has, quads_of, rank};
+ghost use Rattle.face.specs.declared.Face.{Face};
 ghost use Rattle.face.specs.Face.{number, face_at, face_of_code, face_of_word, Ranked};
 
 // The slot of a face with no quad; zero is vertex 0.
 pub const NONE: u32 = 4_294_967_295;
 
-#[derive(Clone, Copy)]
+#[derive(Clone, Copy, Debug, PartialEq, Eq)]
 pub struct Cell(pub u32);
 
-#[derive(Clone, Copy)]
+#[derive(Clone, Copy, Debug, PartialEq, Eq)]
 pub struct Quad(pub u32);
 
-#[derive(Clone, Copy)]
+#[derive(Clone, Copy, Debug, PartialEq, Eq)]
 pub struct Vertex(pub u32);
 
 impl Quad {
@@ -35,7 +36,7 @@ impl Vertex {
     }
 }
 
-#[derive(Clone, Copy)]
+#[derive(Clone, Copy, Debug, PartialEq, Eq)]
 pub enum Face {
     Top,
     Bottom,
@@ -43,12 +44,6 @@ pub enum Face {
     Left,
     Back,
     Forward,
-}
-
-#[derive(Clone, Copy)]
-pub enum FoundFace {
-    Face(Face),
-    Nothing,
 }
 
 impl Face {
@@ -71,27 +66,20 @@ impl Face {
     pub fn number(self) -> u32
         ensures { result ≡ number self }
     {
-        match self {
-            Face::Top => 0,
-            Face::Bottom => 1,
-            Face::Right => 2,
-            Face::Left => 3,
-            Face::Back => 4,
-            Face::Forward => 5,
-        }
+        self as u32
     }
 
-    pub fn from_number(n: u32) -> FoundFace
+    pub fn from_number(n: u32) -> Option<Face>
         ensures { result ≡ face_at n }
     {
         match n {
-            0 => FoundFace::Face(Face::Top),
-            1 => FoundFace::Face(Face::Bottom),
-            2 => FoundFace::Face(Face::Right),
-            3 => FoundFace::Face(Face::Left),
-            4 => FoundFace::Face(Face::Back),
-            5 => FoundFace::Face(Face::Forward),
-            _ => FoundFace::Nothing,
+            0 => Some(Face::Top),
+            1 => Some(Face::Bottom),
+            2 => Some(Face::Right),
+            3 => Some(Face::Left),
+            4 => Some(Face::Back),
+            5 => Some(Face::Forward),
+            _ => None,
         }
     }
 
@@ -108,17 +96,17 @@ impl Face {
         }
     }
 
-    pub fn from_u32(u: u32) -> FoundFace
+    pub fn from_u32(u: u32) -> Option<Face>
         ensures { result ≡ face_of_word u }
     {
         match u {
-            Face::TOP_CODE => FoundFace::Face(Face::Top),
-            Face::BOTTOM_CODE => FoundFace::Face(Face::Bottom),
-            Face::RIGHT_CODE => FoundFace::Face(Face::Right),
-            Face::LEFT_CODE => FoundFace::Face(Face::Left),
-            Face::BACK_CODE => FoundFace::Face(Face::Back),
-            Face::FORWARD_CODE => FoundFace::Face(Face::Forward),
-            _ => FoundFace::Nothing,
+            Face::TOP_CODE => Some(Face::Top),
+            Face::BOTTOM_CODE => Some(Face::Bottom),
+            Face::RIGHT_CODE => Some(Face::Right),
+            Face::LEFT_CODE => Some(Face::Left),
+            Face::BACK_CODE => Some(Face::Back),
+            Face::FORWARD_CODE => Some(Face::Forward),
+            _ => None,
         }
     }
 
@@ -141,8 +129,8 @@ pub fn face_at(n: u32) -> Face
     ensures { number result ≡ n }
 {
     match Face::from_number(n) {
-        FoundFace::Face(face) => face,
-        FoundFace::Nothing => Face::Forward,
+        Some(face) => face,
+        None => Face::Forward,
     }
 }
 
@@ -161,7 +149,7 @@ pub fn cell_of(link: u32) -> Cell
 }
 
 // A link whose code is over 5 is of no face.
-pub fn face_of(link: u32) -> FoundFace
+pub fn face_of(link: u32) -> Option<Face>
     ensures { result ≡ face_of_code (code_in link) }
 {
     Face::from_u32(link & Face::REVERSE_OFFSET_CONST)
@@ -201,16 +189,17 @@ pub fn bit_if(on: bool, weight: u8) -> u8
     weight * (on as u8)
 }
 
-// The set of those sides that are told true.
-pub fn side_set(top: bool, bottom: bool, right: bool, left: bool, back: bool, forward: bool) -> u8
-    ensures { result ≡ cond top 1 0 + cond bottom 2 0 + cond right 4 0 + cond left 8 0 + cond back 16 0 + cond forward 32 0 }
+// The set of the sides of which the test holds.
+pub fn side_set<F: Fn(Face) -> bool>(holds: F) -> u8
+    requires { F.IsAlwaysCallable holds }
+    ensures { (sides : ℕ → Bool) → ((face : Face) (b : Bool) → F.post holds face b → b ≡ sides (number face)) → result ≡ set_of sides }
 {
-    bit_if(top, 1)
-        + bit_if(bottom, 2)
-        + bit_if(right, 4)
-        + bit_if(left, 8)
-        + bit_if(back, 16)
-        + bit_if(forward, 32)
+    bit_if(holds(Face::Top), 1)
+        + bit_if(holds(Face::Bottom), 2)
+        + bit_if(holds(Face::Right), 4)
+        + bit_if(holds(Face::Left), 8)
+        + bit_if(holds(Face::Back), 16)
+        + bit_if(holds(Face::Forward), 32)
 }
 
 // The lowest side of a set that is not empty. The last side is put in, so that the compiler knows that there is one of the six.
