@@ -72,6 +72,7 @@ impl Face {
     pub fn from_number(n: u32) -> Option<Face>
         ensures { result ≡ face_at n }
     {
+        // By name, not by TryFrom: a u32 is a face's number or its code.
         match n {
             0 => Some(Face::Top),
             1 => Some(Face::Bottom),
@@ -128,10 +129,7 @@ pub fn face_at(n: u32) -> Face
     requires { n < 6 }
     ensures { number result ≡ n }
 {
-    match Face::from_number(n) {
-        Some(face) => face,
-        None => Face::Forward,
-    }
+    Face::from_number(n).unwrap()
 }
 
 // The link word of a quad: its cell, and its face's code in the top three bits.
@@ -186,7 +184,7 @@ pub fn has(set: u8, face: Face) -> bool
 pub fn bit_if(on: bool, weight: u8) -> u8
     ensures { (result ≡ cond on weight 0) × (result ≤ weight) }
 {
-    weight * (on as u8)
+    weight * u8::from(on)
 }
 
 // The set of the sides of which the test holds.

@@ -1,12 +1,12 @@
 -- The grid's declared types as those of the rules. Definitions only.
-use Rattle.std.specs.Prelude.{ℕ, ◌+◌, ◌/◌, ◌≤◌, ◌<◌, ◌≡◌}
+use Rattle.std.specs.Prelude as std
+use Rattle.std.specs.Prelude.{Some, None, ℕ, ◌+◌, ◌/◌, ◌≤◌, ◌<◌, ◌≡◌}
 use Rattle.std.proofs.Math.Option.{Option, none, some}
 use Rattle.rules.specs.Cells.{Size, Triple, cells, coordinates}
 use Rattle.util.specs.declared.Dimensions.{Dimensions}
 use Rattle.util.specs.declared.Coordinates.{Coordinates}
 use Rattle.util.specs.declared.Inverse.{Inverse}
-use Rattle.util.specs.declared.Neighbor.{Neighbor}
-use Rattle.util.specs.declared.Neighbor.TheVariants.{At, Nothing}
+use Rattle.face.specs.declared.Cell.{Cell}
 
 abbrev pub size_of : Dimensions → Size
 size_of dims = record { w = dims.width; h = dims.height; l = dims.length }
@@ -17,9 +17,9 @@ triple_of cords = record { x = cords.x; y = cords.y; z = cords.z }
 abbrev pub cords_of : ℕ → ℕ → ℕ → Triple
 cords_of x y z = record { x = x; y = y; z = z }
 
-abbrev pub cell_in : Neighbor → Option ℕ
-cell_in (At cell) = some cell.0
-cell_in Nothing = none
+abbrev pub cell_in : std.Option Cell → Option ℕ
+cell_in (Some cell) = some cell.0
+cell_in None = none
 
 -- Each size 1 to 1,024
 pub record Sides (s : Size) : Type 0 where

@@ -10,14 +10,14 @@ ghost use Rattle.util.specs.Grid.{inverse_of, Inverts, size_of, triple_of, cords
 use face::{Cell, Face};
 
 // Width goes along x, height along y and length along z.
-#[derive(Clone, Copy)]
+#[derive(Clone, Copy, Debug, PartialEq, Eq)]
 pub struct Dimensions {
     pub width: u32,
     pub height: u32,
     pub length: u32,
 }
 
-#[derive(Clone, Copy)]
+#[derive(Clone, Copy, Debug, PartialEq, Eq)]
 pub struct Coordinates {
     pub x: u32,
     pub y: u32,
@@ -25,23 +25,17 @@ pub struct Coordinates {
 }
 
 // A row of cells: its first, and its y and z.
-#[derive(Clone, Copy)]
+#[derive(Clone, Copy, Debug, PartialEq, Eq)]
 pub struct Row {
     pub first: u32,
     pub y: u32,
     pub z: u32,
 }
 
-#[derive(Clone, Copy)]
-pub enum Neighbor {
-    At(Cell),
-    Nothing,
-}
-
 pub fn in_range(x: u32, bot: u32, top: u32) -> bool
     ensures { result ≡ (leb bot x && ltb x top) }
 {
-    (bot <= x) & (x < top)
+    (bot..top).contains(&x)
 }
 
 impl Dimensions {
@@ -90,7 +84,7 @@ pub fn three_d_cords(cell: Cell, dims: Dimensions) -> Coordinates
 }
 
 // 2³² over a width and a length, rounded up: what multiplies in place of a division.
-#[derive(Clone, Copy)]
+#[derive(Clone, Copy, Debug, PartialEq, Eq)]
 pub struct Inverse {
     pub width: u64,
     pub length: u64,
@@ -100,7 +94,7 @@ fn inverse_of(n: u32) -> u64
     requires { (1 ≤ n) × (n ≤ 1024) }
     ensures { result ≡ inverse_of n }
 {
-    (4_294_967_295 + n as u64) / (n as u64)
+    (4_294_967_295 + u64::from(n)) / u64::from(n)
 }
 
 pub fn inverted(dims: Dimensions) -> Inverse
@@ -118,7 +112,7 @@ fn goes_into(c: u32, inverse: u64) -> u32
     requires { (c < 1048576) × (inverse ≤ 8589934592) }
     ensures { (n : ℕ) → 1 ≤ n → n ≤ 1024 → inverse ≡ inverse_of n → result ≡ c / n }
 {
-    ((c as u64) * inverse / 4_294_967_296) as u32
+    (u64::from(c) * inverse / 4_294_967_296) as u32
 }
 
 // The coordinates of a cell, without a division.
@@ -130,7 +124,7 @@ pub fn cords_of(cell: Cell, dims: Dimensions, inverse: Inverse) -> Coordinates
     let y = goes_into(row, inverse.length);
     Coordinates {
         x: cell.0 - row * dims.width,
-        y: y,
+        y,
         z: row - y * dims.length,
     }
 }
@@ -143,26 +137,26 @@ pub fn one_d_cords(cords: Coordinates, dims: Dimensions) -> Cell
 }
 
 // The cell that lies `step` cells on, unless the coordinate along that axis is the last.
-fn ahead(cell: u32, step: u32, at: u32, size: u32) -> Neighbor
+fn ahead(cell: u32, step: u32, at: u32, size: u32) -> Option<Cell>
     requires { (cell + step < 2 ^ 32) × (at + 1 < 2 ^ 32) }
     ensures { cell_in result ≡ only_if (ltb (at + 1) size) (cell + step) }
 {
     if at + 1 < size {
-        Neighbor::At(Cell(cell + step))
+        Some(Cell(cell + step))
     } else {
-        Neighbor::Nothing
+        None
     }
 }
 
 // The cell that lies `step` cells back, unless the coordinate along that axis is 0.
-fn behind(cell: u32, step: u32, at: u32) -> Neighbor
+fn behind(cell: u32, step: u32, at: u32) -> Option<Cell>
     requires { 0 < at → step ≤ cell }
     ensures { cell_in result ≡ only_if (ltb 0 at) (cell - step) }
 {
     if 0 < at {
-        Neighbor::At(Cell(cell - step))
+        Some(Cell(cell - step))
     } else {
-        Neighbor::Nothing
+        None
     }
 }
 
@@ -189,32 +183,25 @@ impl Row {
 }
 
 // The neighbour of a cell whose coordinates are known.
-pub fn neighbor_at(cell: Cell, x: u32, y: u32, z: u32, face: Face, dims: Dimensions) -> Neighbor
-    requires { Within (size_of dims) × (cell.0 < cells (size_of dims)) × (cords_of x y z ≡ coordinates (size_of dims) cell.0) }
+pub fn neighbor_at(cell: Cell, at: Coordinates, face: Face, dims: Dimensions) -> Option<Cell>
+    requires { Within (size_of dims) × (cell.0 < cells (size_of dims)) × (triple_of at ≡ coordinates (size_of dims) cell.0) }
     ensures { cell_in result ≡ neighbour (size_of dims) cell.0 (number face) }
 {
     let row = dims.width;
     let layer = dims.length * row;
     match face {
-        Face::Top => ahead(cell.0, layer, y, dims.height),
-        Face::Bottom => behind(cell.0, layer, y),
-        Face::Right => ahead(cell.0, 1, x, dims.width),
-        Face::Left => behind(cell.0, 1, x),
-        Face::Back => ahead(cell.0, row, z, dims.length),
-        Face::Forward => behind(cell.0, row, z),
+        Face::Top => ahead(cell.0, layer, at.y, dims.height),
+        Face::Bottom => behind(cell.0, layer, at.y),
+        Face::Right => ahead(cell.0, 1, at.x, dims.width),
+        Face::Left => behind(cell.0, 1, at.x),
+        Face::Back => ahead(cell.0, row, at.z, dims.length),
+        Face::Forward => behind(cell.0, row, at.z),
     }
 }
 
-pub fn get_neighbor(cell: Cell, face: Face, dims: Dimensions) -> Neighbor
+pub fn get_neighbor(cell: Cell, face: Face, dims: Dimensions) -> Option<Cell>
     requires { Within (size_of dims) × (cell.0 < cells (size_of dims)) }
     ensures { cell_in result ≡ neighbour (size_of dims) cell.0 (number face) }
 {
-    let cords = three_d_cords(cell, dims);
-    neighbor_at(cell, cords.x, cords.y, cords.z, face, dims)
-}
-
-pub fn wide(code: u8) -> usize
-    ensures { result ≡ code }
-{
-    code as usize
+    neighbor_at(cell, three_d_cords(cell, dims), face, dims)
 }
