@@ -1,8 +1,7 @@
 -- `util::inverse_of` meets its contract. Assumes nothing.
-use mathlib.Core.Path.{refl}
 use Rattle.util.specs.Grid.{inverse_of}
 use Rattle.util.proofs.inverse_of.Goals as goal
 
 pub returns : goal.returns
 unfolding inverse_of
-returns c = refl
+returns c = cc
