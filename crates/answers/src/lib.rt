@@ -1,8 +1,8 @@
 // The refusals by their names, and a verdict: nothing to refuse, or one refusal with its place.
 #![tactic(auto)]
 
-ghost use Rattle.std.specs.Prelude.{◌≡◌};
-ghost use Rattle.rules.specs.Answers.{refuse_if};
+ghost use Rattle.std.specs.Prelude.{◌≡◌, Bool, ℕ, ◌<◌};
+ghost use Rattle.rules.specs.Answers.{refuse_if, refuse_lowest};
 ghost use Rattle.answers.specs.Verdicts.{number_of, verdict_of};
 
 #[derive(Clone, Copy, Debug, PartialEq, Eq)]
@@ -42,20 +42,25 @@ impl From<Refusal> for u32 {
     }
 }
 
-impl Refusal {
-    pub fn number(self) -> u32
-        ensures { result ≡ number_of self }
-    {
-        self as u32
-    }
-}
-
 // A refusal with its place, if it applies.
 pub fn refuse_if(applies: bool, why: Refusal, place: usize) -> Verdict
     ensures { verdict_of result ≡ refuse_if applies (number_of why) place }
 {
     if applies {
         return Err(Refused { why, place });
+    }
+    Ok(())
+}
+
+// Refuses the lowest of n that is bad, if one is.
+pub fn refuse_lowest<F: Fn(usize) -> bool>(why: Refusal, n: usize, is_bad: F) -> Verdict
+    requires { (i : ℕ) → i < n → F.pre is_bad i }
+    ensures { (bad : ℕ → Bool) → ((i : ℕ) (b : Bool) → i < n → F.post is_bad i b → b ≡ bad i) → verdict_of result ≡ refuse_lowest (number_of why) n bad }
+{
+    for place in 0..n {
+        if is_bad(place) {
+            return Err(Refused { why, place });
+        }
     }
     Ok(())
 }
