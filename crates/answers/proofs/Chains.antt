@@ -1,17 +1,29 @@
--- Tests one after the other: what the first of them says, and what the call answers. Assumes nothing.
-use mathlib.Core.Path.{◌≡◌, refl, sym}
-use Prim.Native.Nat.{ℕ}
+-- Tests one after the other, each with a `?`: what the first of them says, and what the call answers. Assumes nothing.
+use mathlib.Core.Path.{◌≡◌, refl, sym, ap, ◌∙◌}
+use Rattle.std.specs.Prelude.{Result, Ok, Err}
+use Rattle.std.specs.Result.{IsErrAnd}
 use Rattle.rules.specs.Answers.{Verdict, fine, refuse, ◌then◌}
+use Rattle.answers.specs.declared.Refused.{Refused}
+use Rattle.answers.specs.Verdicts.{verdict_of}
+
+-- what a `?` gives out is what it met
+pub given : (r x : Result Unit Refused) {e : Refused} → x ≡ Err e → IsErrAnd r (λ y. y ≡ e) → verdict_of r ≡ verdict_of x
+given (Ok u) x was out = absurd out
+given (Err d) x was out = rw (was, out)
 
 -- a test that refuses is the answer
-pub stops : (n p : ℕ) (a b : Verdict) → refuse n p ≡ a → refuse n p ≡ (a then b)
+pub stops : (r x : Result Unit Refused) {e : Refused} (a b : Verdict) → x ≡ Err e → IsErrAnd r (λ y. y ≡ e) → verdict_of x ≡ a
+    → verdict_of r ≡ (a then b)
 unfolding ◌then◌
-stops n p a b e = rw (sym e)
+stops r x a b was out k = given r x was out ∙ rw (sym k, was)
 
 -- after a test that passes the others decide
-pub goes : (a : Verdict) {r b : Verdict} → fine ≡ a → r ≡ b → r ≡ (a then b)
+pub goes : (x : Result Unit Refused) {u : Unit {0}} (a : Verdict) {r b : Verdict} → x ≡ Ok u → verdict_of x ≡ a → r ≡ b → r ≡ (a then b)
 unfolding ◌then◌
-goes a e k = rw (sym e) k
+goes x a was e k = rw (sym e, was) k
+
+pub passes : (x : Result Unit Refused) {u : Unit {0}} (a : Verdict) → x ≡ Ok u → verdict_of x ≡ a → fine ≡ a
+passes x a was e = rw (sym e, was)
 
 pub then_assoc : (a b c : Verdict) → ((a then b) then c) ≡ (a then (b then c))
 unfolding ◌then◌

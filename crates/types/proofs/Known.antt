@@ -1,8 +1,8 @@
 -- What types that pass are known to be. Assumes nothing.
-use mathlib.Core.Path.{◌≡◌, sym, subst}
-use mathlib.Core.Bool.{false, not, ◌&&◌, ◌||◌}
+use mathlib.Core.Path.{◌≡◌, refl, sym, ◌∙◌, subst}
+use mathlib.Core.Bool.{Bool, true, false, true≢false, not, ◌&&◌, ◌||◌}
 use mathlib.Core.List.{List}
-use Prim.Native.Nat.{ℕ, ◌+◌, ◌*◌, ◌/◌, ◌%◌}
+use Prim.Native.Nat.{ℕ, ◌+◌, ◌*◌, ◌/◌, ◌%◌, ◌<◌}
 use native.Mathlib.Omega.{arith}
 use lib.Dec.{T, eqb, ltb}
 use lib.ListN.{length, get_or}
@@ -13,9 +13,9 @@ use Rattle.rules.specs.Floats.{finite}
 use Rattle.rules.specs.Cells.{Triple}
 use Rattle.rules.specs.Cube.{floats_of}
 use Rattle.rules.specs.Types.{Types, floats, cube_of, position_of, classed, is_cube}
-use Rattle.rules.specs.Answers.{out_of, bad_counts, not_a_cube}
+use Rattle.rules.specs.Answers.{fine, refuse, refuse_if, out_of, bad_counts, not_a_cube}
 use Rattle.types.specs.Tests.{Placed, Counted}
-use Rattle.rules.proofs.ListLaws.{or_false}
+use Rattle.rules.proofs.ListLaws.{or_false, every_true}
 use Rattle.rules.proofs.Searches.{every_at}
 
 -- the test of all positions, told of each
@@ -24,6 +24,14 @@ placed cube floats t i axis I A =
     let q : (3 * i + axis) / 3 ≡ i = omega arith in
     let r : (3 * i + axis) % 3 ≡ axis = omega arith in
     rw (q, r) at (every_at 72 (λ k. finite (position_of cube floats (k / 3) (k % 3))) t (3 * i + axis) (omega arith))
+
+-- one of which it does not hold
+pub every_false : (n : ℕ) (p : ℕ → Bool) (k : ℕ) → k < n → p k ≡ false → every n p ≡ false
+every_false n p k h e = neither (every n p) (λ t. every_true n p t k h)
+  where
+    neither : (b : Bool) → (b ≡ true → p k ≡ true) → b ≡ false
+    neither false g = refl
+    neither true g = absurd (true≢false (sym (g refl) ∙ e))
 
 -- ---- counts that are not bad
 
@@ -53,3 +61,9 @@ cube_placed types centre t e k =
     let classed-all = every 6 (classed cube n centre) in
     let whole : T (finite-all && classed-all) = subst T (sym (not-false (finite-all && classed-all) (rw (eq-eqb _ _ k) at e))) tt in
     placed cube n (and_l finite-all classed-all whole)
+
+-- what passes a test of its own
+pub not_refused : (b : Bool) (n p : ℕ) → fine ≡ refuse_if b n p → b ≡ false
+unfolding refuse_if
+not_refused false n p e = refl
+not_refused true n p e = (cc)

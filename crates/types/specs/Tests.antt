@@ -5,11 +5,15 @@ use Rattle.std.proofs.Math.Dec as Dec
 use Rattle.rules.specs.Floats.{finite}
 use Rattle.rules.specs.Cube.{floats_of}
 use Rattle.rules.specs.Types.{Types, position_of}
-use Rattle.types.specs.declared.Class.{Class}
-use Rattle.types.specs.declared.Class.TheVariants.{Of, Nothing}
+use Rattle.std.specs.Prelude as std
+use Rattle.std.specs.Prelude.{Some, None}
+use Rattle.types.specs.declared.Types as declared
 
 abbrev pub types_of : Bool → List ℕ → List ℕ → List ℕ → Types
 types_of coloured kinds covers cubes = record { coloured = coloured; kinds = kinds; covers = covers; cubes = cubes }
+
+abbrev pub types_in : declared.Types → Types
+types_in types = types_of types.coloured types.kinds.now types.covers.now types.cubes.now
 
 -- 24 vertices of 8 to 12 words
 pub record Words (cube : List ℕ) (floats : ℕ) : Type 0 where
@@ -27,10 +31,6 @@ pub record Counted (coloured : Bool) (kinds cubes : List ℕ) : Type 0 where
   pub whole : length cubes ≡ 24 * floats_of coloured * length kinds
 
 -- what the code tells of a triangle's class
-abbrev pub class_in : Class → Option ℕ
-class_in (Of face) = some face
-class_in Nothing = none
-
-abbrev pub is_some : Option ℕ → Bool
-is_some none = false
-is_some (some n) = true
+abbrev pub class_in : std.Option ℕ → Option ℕ
+class_in (Some face) = some face
+class_in None = none

@@ -2,73 +2,53 @@
 #![tactic(auto)]
 
 ghost use Rattle.rules.specs.Calls.{registry_verdict};
-ghost use Rattle.std.specs.Prelude.{◌≡◌, Bool, List, ℕ, ◌+◌, ◌*◌, ◌/◌, ◌%◌, ◌<◌, length, T};
-ghost use Rattle.rules.specs.Lists.{every, lowest};
+ghost use Rattle.std.specs.Prelude.{◌≡◌, ◌+◌, ◌*◌, ◌/◌, ◌%◌, ◌<◌, length, T};
+ghost use Rattle.rules.specs.Lists.{every};
 ghost use Rattle.rules.specs.Floats.{finite, finite3};
 ghost use Rattle.rules.specs.Cube.{cube_triangles};
 ghost use Rattle.rules.specs.Types.{position_of, class_on, class_at, class_of, is_of, classed, is_cube};
-ghost use Rattle.rules.specs.Answers.{bad_counts, bad_type, not_a_cube};
+ghost use Rattle.rules.specs.Answers.{bad_counts, bad_type, not_a_cube, refuse_lowest, NOT_A_CUBE};
 ghost use Rattle.answers.specs.Verdicts.{verdict_of};
 ghost use Rattle.floats.specs.Triples.{triple_of};
-ghost use Rattle.types.specs.Tests.{types_of, class_in, is_some, Words, Placed, Counted};
+ghost use Rattle.types.specs.Tests.{types_in, class_in, Words, Placed, Counted};
 
-use answers::{Refusal, Verdict};
+use answers::{Refusal, Verdict, refuse_if, refuse_lowest};
 use floats::{Triple, is_finite_bits};
 use voxel_mesh::{corner_of, floats_of, triangle_words};
 
-fn has_bad_counts(kinds: &[u8], covers: &[u8], cubes: &[u32], coloured: bool) -> bool
-    ensures { result ≡ bad_counts (types_of coloured kinds.now covers.now cubes.now) }
+// The types by their numbers: each has a kind, a covering side set and 24 vertices of the registry.
+#[derive(Clone, Copy)]
+pub struct Types<'a> {
+    pub kinds: &'a [u8],
+    pub covers: &'a [u8],
+    pub cubes: &'a [u32],
+    pub coloured: bool,
+}
+
+fn has_bad_counts(types: Types<'_>) -> bool
+    ensures { result ≡ bad_counts (types_in types.entry) }
 {
-    let n = kinds.len();
+    let n = types.kinds.len();
     if (n < 1) | (255 < n) {
         return true;
     }
-    (covers.len() != n) | (cubes.len() != 24 * floats_of(coloured) * n)
+    (types.covers.len() != n) | (types.cubes.len() != 24 * floats_of(types.coloured) * n)
 }
 
-// The lowest type with a bad kind or set, or their number.
-fn lowest_bad_type(kinds: &[u8], covers: &[u8]) -> usize
-    requires { length covers.now ≡ length kinds.now }
-    ensures { (coloured : Bool) (cubes : List ℕ) →
-        result ≡ lowest (length kinds.now) (bad_type (types_of coloured kinds.now covers.now cubes)) }
+// The lowest type with a bad kind or set.
+fn kinds_verdict(types: Types<'_>) -> Verdict
+    requires { length types.covers.now ≡ length types.kinds.now }
+    ensures { verdict_of result ≡ refuse_lowest 3 (length types.entry.kinds.now) (bad_type (types_in types.entry)) }
 {
-    let mut t: usize = 0;
-    while t < kinds.len() {
-        if (2 < kinds[t]) | (63 < covers[t]) {
-            return t;
-        }
-        t += 1;
-    }
-    t
-}
-
-// The face that a triangle is classed to, if any.
-#[derive(Clone, Copy)]
-enum Class {
-    Of(usize),
-    Nothing,
-}
-
-fn is_class(class: Class) -> bool
-    ensures { result ≡ is_some (class_in class) }
-{
-    match class {
-        Class::Of(_) => true,
-        Class::Nothing => false,
-    }
-}
-
-fn is_of(class: Class, face: usize) -> bool
-    ensures { result ≡ is_of (class_in class) face }
-{
-    match class {
-        Class::Of(own) => own == face,
-        Class::Nothing => false,
-    }
+    let kinds = types.kinds;
+    let covers = types.covers;
+    refuse_lowest(Refusal::BadTypes, kinds.len(), |t| {
+        (2 < kinds[t]) | (63 < covers[t])
+    })
 }
 
 // A triangle's class on one axis, on which its corners are equal: its low face or its high one.
-fn class_on(low: usize, high: usize, centre: u32, a: u32, b: u32, c: u32) -> Class
+fn class_on(low: usize, high: usize, centre: u32, a: u32, b: u32, c: u32) -> Option<usize>
     requires { T (finite centre) × T (finite a) × T (finite b) × T (finite c) }
     ensures { class_in result ≡ class_on low high centre a b c }
 {
@@ -78,11 +58,11 @@ fn class_on(low: usize, high: usize, centre: u32, a: u32, b: u32, c: u32) -> Cla
     let middle = f32::from_bits(centre);
     if (x == y) & (y == z) & (x == z) {
         if x < middle {
-            return Class::Of(low);
+            return Some(low);
         }
-        return Class::Of(high);
+        return Some(high);
     }
-    Class::Nothing
+    None
 }
 
 // A coordinate of vertex i.
@@ -104,7 +84,7 @@ fn class_at(
     i: usize,
     j: usize,
     k: usize,
-) -> Class
+) -> Option<usize>
     requires words { Words cube.now floats × Placed cube.now floats × T (finite3 (triple_of centre)) }
     requires axis_bound { (axis < 3) × (i < 24) × (j < 24) × (k < 24) }
     ensures { class_in result ≡ class_at cube.now floats (triple_of centre) axis low high i j k }
@@ -120,20 +100,22 @@ fn class_at(
 }
 
 // The class of a triangle: by the first axis on which its corners are equal.
-fn class_of(cube: &[u32], floats: usize, centre: Triple, i: usize, j: usize, k: usize) -> Class
+fn class_of(
+    cube: &[u32],
+    floats: usize,
+    centre: Triple,
+    i: usize,
+    j: usize,
+    k: usize,
+) -> Option<usize>
     requires words { Words cube.now floats × Placed cube.now floats × T (finite3 (triple_of centre)) }
     requires i_bound { (i < 24) × (j < 24) × (k < 24) }
     ensures { class_in result ≡ class_of cube.now floats (triple_of centre) i j k }
 {
     let by_x = class_at(cube, floats, centre, 0, 3, 2, i, j, k);
-    if is_class(by_x) {
-        return by_x;
-    }
     let by_y = class_at(cube, floats, centre, 1, 1, 0, i, j, k);
-    if is_class(by_y) {
-        return by_y;
-    }
-    class_at(cube, floats, centre, 2, 5, 4, i, j, k)
+    let by_z = class_at(cube, floats, centre, 2, 5, 4, i, j, k);
+    by_x.or(by_y).or(by_z)
 }
 
 // Whether both triangles of a face are classed to it.
@@ -164,7 +146,7 @@ fn is_classed(
         corner_of(triangles, face, 4),
         corner_of(triangles, face, 5),
     );
-    is_of(first, face) & is_of(second, face)
+    (first == Some(face)) & (second == Some(face))
 }
 
 // Whether every position is finite.
@@ -172,13 +154,12 @@ fn is_placed(cube: &[u32], floats: usize) -> bool
     requires { Words cube.now floats }
     ensures { result ≡ every 72 (λ k. finite (position_of cube.now floats (k / 3) (k % 3))) }
 {
-    let mut ok = true;
-    let mut k: usize = 0;
-    while k < 72 {
-        ok = ok & is_finite_bits(position_of(cube, floats, k / 3, k % 3));
-        k += 1;
+    for k in 0..72 {
+        if !is_finite_bits(position_of(cube, floats, k / 3, k % 3)) {
+            return false;
+        }
     }
-    ok
+    true
 }
 
 // Whether the 24 vertices of a type are a cube's.
@@ -190,72 +171,45 @@ pub fn is_cube(cube: &[u32], floats: usize, centre: Triple) -> bool
         return false;
     }
     let triangles = triangle_words();
-    let mut ok = true;
-    let mut face: usize = 0;
-    while face < 6 {
-        ok = ok & is_classed(cube, &triangles, floats, centre, face);
-        face += 1;
+    for face in 0..6 {
+        if !is_classed(cube, &triangles, floats, centre, face) {
+            return false;
+        }
     }
-    ok
+    true
 }
 
 // Whether type t is a NormalCube whose stretch of the registry is no cube.
-fn is_not_a_cube(kinds: &[u8], cubes: &[u32], coloured: bool, centre: Triple, t: usize) -> bool
-    requires { Counted coloured kinds.now cubes.now × T (finite3 (triple_of centre)) × (t < length kinds.now) }
-    ensures { (covers : List ℕ) →
-        result ≡ not_a_cube (types_of coloured kinds.now covers cubes.now) (triple_of centre) t }
+fn is_not_a_cube(types: Types<'_>, centre: Triple, t: usize) -> bool
+    requires { Counted types.coloured types.kinds.now types.cubes.now × T (finite3 (triple_of centre)) × (t < length types.kinds.now) }
+    ensures { result ≡ not_a_cube (types_in types.entry) (triple_of centre) t }
 {
-    if kinds[t] != 1 {
+    if types.kinds[t] != 1 {
         return false;
     }
-    let floats = floats_of(coloured);
+    let floats = floats_of(types.coloured);
     let span = 24 * floats;
     let start = span * t;
     let end = start + span;
-    !is_cube(&cubes[start..end], floats, centre)
+    !is_cube(&types.cubes[start..end], floats, centre)
 }
 
-// The lowest NormalCube that is no cube, or the number of types.
-fn lowest_not_a_cube(kinds: &[u8], cubes: &[u32], coloured: bool, centre: Triple) -> usize
-    requires { Counted coloured kinds.now cubes.now × T (finite3 (triple_of centre)) }
-    ensures { (covers : List ℕ) →
-        result ≡ lowest (length kinds.now) (not_a_cube (types_of coloured kinds.now covers cubes.now) (triple_of centre)) }
+// The lowest NormalCube that is no cube.
+fn cubes_verdict(types: Types<'_>, centre: Triple) -> Verdict
+    requires { Counted types.coloured types.kinds.now types.cubes.now × T (finite3 (triple_of centre)) }
+    ensures { verdict_of result ≡ NOT_A_CUBE (types_in types.entry) (triple_of centre) }
 {
-    let mut t: usize = 0;
-    while t < kinds.len() {
-        if is_not_a_cube(kinds, cubes, coloured, centre, t) {
-            return t;
-        }
-        t += 1;
-    }
-    t
+    refuse_lowest(Refusal::NotACube, types.kinds.len(), |t| {
+        is_not_a_cube(types, centre, t)
+    })
 }
 
 // The tests of the types and of d and the centre, in their order.
-pub fn types_verdict(
-    kinds: &[u8],
-    covers: &[u8],
-    cubes: &[u32],
-    coloured: bool,
-    d: Triple,
-    centre: Triple,
-) -> Verdict
-    ensures { verdict_of result ≡
-        registry_verdict (types_of coloured kinds.now covers.now cubes.now) (triple_of d) (triple_of centre) }
+pub fn types_verdict(types: Types<'_>, d: Triple, centre: Triple) -> Verdict
+    ensures { verdict_of result ≡ registry_verdict (types_in types.entry) (triple_of d) (triple_of centre) }
 {
-    if has_bad_counts(kinds, covers, cubes, coloured) {
-        return Verdict::Refuse(Refusal::BadTypes, 255);
-    }
-    let bad = lowest_bad_type(kinds, covers);
-    if bad < kinds.len() {
-        return Verdict::Refuse(Refusal::BadTypes, bad);
-    }
-    if !(d.is_finite() & centre.is_finite()) {
-        return Verdict::Refuse(Refusal::BadNumber, 0);
-    }
-    let flat = lowest_not_a_cube(kinds, cubes, coloured, centre);
-    if flat < kinds.len() {
-        return Verdict::Refuse(Refusal::NotACube, flat);
-    }
-    Verdict::Fine
+    refuse_if(has_bad_counts(types), Refusal::BadTypes, 255)?;
+    kinds_verdict(types)?;
+    refuse_if(!(d.is_finite() & centre.is_finite()), Refusal::BadNumber, 0)?;
+    cubes_verdict(types, centre)
 }

@@ -15,14 +15,14 @@ unfolding bad_counts
 returns-then-n c = simp c.if-n.true
 
 pub overflow_mul-result : goal.overflow_mul-result
-overflow_mul-result c = omega (arith, c.floats_of.ensures, few c.args.coloured)
+overflow_mul-result c = omega (arith, c.floats_of.ensures, few c.args.types.coloured)
 
 pub overflow_mul-result-2 : goal.overflow_mul-result-2
 overflow_mul-result-2 c =
     let args = c.args in
-    let n = length args.kinds.now in
+    let n = length args.types.kinds.now in
     let most : n ≤ 255 = ltb-false 255 n (or_false (ltb n 1) (ltb 255 n) c.if-n.false).1 in
-    let words : 24 * c.floats_of.result ≤ 288 = omega (arith, c.floats_of.ensures, few args.coloured) in
+    let words : 24 * c.floats_of.result ≤ 288 = omega (arith, c.floats_of.ensures, few args.types.coloured) in
     omega (arith, mul-le-mul words most)
 
 pub returns : goal.returns

@@ -1,5 +1,9 @@
 -- `types::is_classed` meets its contract: the six words of a face are the corners that the rule names. Assumes nothing.
-use mathlib.Core.Path.{◌≡◌, ap, ◌∙◌}
+use Rattle.std.specs.Prelude as std
+use Rattle.std.specs.Prelude.{Some, None, nat_eq}
+use Rattle.std.specs.Option.{option_eq}
+use Rattle.types.specs.Tests.{class_in}
+use mathlib.Core.Path.{◌≡◌, refl, ap, ◌∙◌}
 use mathlib.Core.Bool.{◌&&◌}
 use mathlib.Core.Option.{Option}
 use Prim.Native.Nat.{ℕ, ◌+◌, ◌*◌}
@@ -8,6 +12,10 @@ use Rattle.rules.specs.Types.{class_of, is_of, classed}
 use Rattle.floats.specs.Triples.{triple_of}
 use Rattle.voxel_mesh.proofs.Triangles.{word_of_face}
 use Rattle.types.proofs.is_classed.Goals as goal
+
+is_face : (o : std.Option ℕ) (f : ℕ) → option_eq nat_eq o (Some f) ≡ is_of (class_in o) f
+is_face None f = refl
+is_face (Some n) f = refl
 
 pub returns : goal.returns
 unfolding classed
@@ -25,6 +33,6 @@ returns c =
     let h : c.corner_of-6.result ≡ 4 * f + 1 = c.corner_of-6.ensures.0 ∙ word_of_face f 5 c.requires.face_bound.0 (lit< tt) in
     let v = c.args in
     let class = class_of v.cube.now v.floats (triple_of v.centre) in
-    let x = c.is_of.ensures ∙ ap (λ (o : Option ℕ). is_of o f) (c.class_of-first.ensures ∙ (λ i. class (a i) (b i) (d i))) in
-    let y = c.is_of-2.ensures ∙ ap (λ (o : Option ℕ). is_of o f) (c.class_of-second.ensures ∙ (λ i. class (e i) (g i) (h i))) in
+    let x = c.eq.ensures ∙ is_face _ f ∙ ap (λ (o : Option ℕ). is_of o f) (c.class_of-first.ensures ∙ (λ i. class (a i) (b i) (d i))) in
+    let y = c.eq-2.ensures ∙ is_face _ f ∙ ap (λ (o : Option ℕ). is_of o f) (c.class_of-second.ensures ∙ (λ i. class (e i) (g i) (h i))) in
     λ i. x i && y i

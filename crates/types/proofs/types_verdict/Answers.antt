@@ -1,107 +1,70 @@
--- `types::types_verdict` meets its contract: each return is the case that the tests before it pick. Assumes nothing.
-use mathlib.Core.Path.{◌≡◌, sym, ◌∙◌, subst}
-use mathlib.Core.Bool.{true, false, ◌&&◌}
-use borrow.Author.Tests.{lt-ltb, le-ltb}
-use lib.Dec.{T, ltb}
-use lib.ListN.{length}
+-- `types::types_verdict` meets its contract: each test is the first that refuses, or passes. Assumes nothing.
+use mathlib.Core.Path.{◌≡◌, refl, ap, sym, ◌∙◌, subst}
+use mathlib.Core.Bool.{Bool, true, false, not, ◌&&◌}
+use lib.Dec.{T}
 use lib.Ieee.Fits.{and_r}
-use Rattle.rules.specs.Lists.{lowest}
+use borrow.Author.Tests.{not-false}
+use Rattle.std.specs.Prelude.{Result, Ok, length}
+use Rattle.rules.specs.Cells.{Triple}
 use Rattle.rules.specs.Floats.{finite3}
 use Rattle.rules.specs.Types.{Types}
-use Rattle.rules.specs.Answers.{◌then◌, refuse_if, bad_counts, bad_type, BAD_TYPES, BAD_NUMBER}
+use Rattle.rules.specs.Answers.{Verdict, fine, refuse_if, refuse_lowest, ◌then◌, bad_counts, bad_type, BAD_TYPES, BAD_NUMBER}
 use Rattle.floats.specs.Triples.{triple_of}
-use Rattle.types.specs.Tests.{types_of}
-use Rattle.types.proofs.Known.{counted}
+use Rattle.answers.specs.declared.Refused.{Refused}
+use Rattle.answers.specs.Verdicts.{verdict_of}
+use Rattle.types.specs.Tests.{types_in}
+use Rattle.answers.proofs.Chains.{stops, goes, passes, then_assoc}
+use Rattle.types.proofs.Known.{counted, not_refused}
 use Rattle.types.proofs.types_verdict.Goals as goal
-use Rattle.types.proofs.types_verdict.Lts
-use Rattle.types.proofs.types_verdict.Tie
-use Rattle.types.proofs.types_verdict.Reads
+use Rattle.types.proofs.types_verdict.Goals.{In_ok-refuse_if}
 
-abbrev After-shared_slice_known-3-1 : Type 0
-After-shared_slice_known-3-1 = Lts.After-shared_slice_known3 Tie.the-claims Reads.Pre Reads.Post
+-- the two tests of BAD_TYPES, and what comes after them
+types_tested : (t : Types) (x : Result Unit Refused) {u : Unit {0}} (k : Bool) (r b : Verdict) → x ≡ Ok u → verdict_of x ≡ refuse_if k 3 255
+    → k ≡ bad_counts t → r ≡ (refuse_lowest 3 (length t.kinds) (bad_type t) then b) → r ≡ (BAD_TYPES t then b)
+unfolding BAD_TYPES
+types_tested t x k r b was e h rest = rw then_assoc (goes x _ was (e ∙ ap (λ (y : Bool). refuse_if y 3 255) h) rest)
 
-abbrev Else-has_bad_counts : Type 0
-Else-has_bad_counts = Lts.Else1 Tie.the-claims Reads.Pre Reads.Post
+third : (a b : Bool) → not (a && b) ≡ not (a && b && true)
+third true true = refl
+third true false = refl
+third false b = refl
 
-abbrev Else-bad-kinds : Type 0
-Else-bad-kinds = Lts.Else2 Tie.the-claims Reads.Pre Reads.Post
+number_tested : (d e : Triple) (v : Verdict) (x y : Bool) → v ≡ refuse_if (not (x && y)) 4 0 → x ≡ finite3 d → y ≡ finite3 e → v ≡ BAD_NUMBER d e 0
+unfolding BAD_NUMBER
+number_tested d e v x y h p q = h ∙ rw (p, q, third (finite3 d) (finite3 e))
 
-abbrev Else-not-is_finite : Type 0
-Else-not-is_finite = Lts.Else3 Tie.the-claims Reads.Pre Reads.Post
+counts : (c : In_ok-refuse_if) → bad_counts (types_in c.args.types) ≡ false
+counts c = sym c.has_bad_counts.ensures ∙ not_refused _ _ _ (passes _ _ c.in_ok-refuse_if.was c.refuse_if.ensures)
 
-abbrev types : After-shared_slice_known-3-1 → Types
-types c =
-    let args = c.args in
-    types_of args.coloured args.kinds.now args.covers.now args.cubes.now
+pub returns-in_err-refuse_if : goal.returns-in_err-refuse_if
+unfolding BAD_TYPES
+returns-in_err-refuse_if c =
+    rw then_assoc (stops _ _ _ _ c.in_err-refuse_if.was c.from_residual.ensures.1 (c.refuse_if.ensures ∙ ap (λ (x : Bool). refuse_if x 3 255) c.has_bad_counts.ensures))
 
--- what each test that was passed says
-counts : (c : Else-has_bad_counts) → bad_counts (types c.before.before) ≡ false
-counts c = sym c.has_bad_counts.ensures ∙ c.if-has_bad_counts.false
+pub kinds_verdict-requires : goal.kinds_verdict-requires
+kinds_verdict-requires c = (counted (types_in c.args.types) (counts c)).0
 
-kinds : (c : Else-bad-kinds) →
-    let t = types c.before.before.before.before in ltb (lowest (length t.kinds) (bad_type t)) (length t.kinds) ≡ false
-kinds c =
-    let t = types c.before.before.before.before in
-    rw (c.lowest_bad_type-bad.ensures t.coloured t.cubes) at (le-ltb _ _ c.if-bad-kinds.false)
+pub returns-in_err-kinds_verdict : goal.returns-in_err-kinds_verdict
+returns-in_err-kinds_verdict c =
+    types_tested _ _ _ _ _ c.in_ok-refuse_if.was c.refuse_if.ensures c.has_bad_counts.ensures
+    (stops _ _ _ _ c.in_err-kinds_verdict.was c.from_residual-in_err-kinds_verdict.ensures.1 c.kinds_verdict.ensures)
 
-numbers : (c : Else-not-is_finite) →
-    let args = c.args in
-    finite3 (triple_of args.d) && finite3 (triple_of args.centre) ≡ true
-numbers c =
-    rw (c.is_finite.ensures, c.is_finite-2.ensures) at
-    c.if-not-is_finite.false
+pub returns-in_err-refuse_if-2 : goal.returns-in_err-refuse_if-2
+returns-in_err-refuse_if-2 c =
+    types_tested _ _ _ _ _ c.in_ok-refuse_if.was c.refuse_if.ensures c.has_bad_counts.ensures
+    (goes _ _ c.in_ok-kinds_verdict.was c.kinds_verdict.ensures
+    (stops _ _ _ _ c.in_err-refuse_if-2.was c.from_residual-in_err-refuse_if-2.ensures.1
+    (number_tested _ _ _ _ _ c.refuse_if-2.ensures c.is_finite.ensures c.is_finite-2.ensures)))
 
-pub returns-then-has_bad_counts : goal.returns-then-has_bad_counts
-unfolding ◌then◌ refuse_if BAD_TYPES
-returns-then-has_bad_counts c = simp (← c.has_bad_counts.ensures, c.if-has_bad_counts.true)
-
-pub lowest_bad_type-bad-requires : goal.lowest_bad_type-bad-requires
-lowest_bad_type-bad-requires c = (counted (types c.before.before.before) (counts c.before)).0
-
-pub returns-then-bad-kinds : goal.returns-then-bad-kinds
-unfolding ◌then◌ refuse_if BAD_TYPES
-returns-then-bad-kinds c =
-    let t = types c.before.before.before.before.before in
-    simp (counts c.before.before.before, ← c.lowest_bad_type-bad.ensures t.coloured t.cubes, lt-ltb _ _ c.if-bad-kinds.true)
-
-pub returns-then-not-is_finite : goal.returns-then-not-is_finite
-unfolding ◌then◌ refuse_if BAD_TYPES BAD_NUMBER
-returns-then-not-is_finite c =
-    simp (
-      counts c.before.before.before.before.before.before,
-      kinds c.before.before.before.before,
-      ← c.is_finite.ensures,
-      ← c.is_finite-2.ensures,
-      c.if-not-is_finite.true,
-    )
-
-pub lowest_not_a_cube-flat-requires : goal.lowest_not_a_cube-flat-requires
-lowest_not_a_cube-flat-requires c =
-    let args = c.args in (
-      (counted (types c.before.before.before.before.before.before.before.before) (counts c.before.before.before.before.before.before)).1,
-      and_r (finite3 (triple_of args.d)) _ (subst T (sym (numbers c.before)) tt),
-    )
-
-pub returns-then-flat-kinds : goal.returns-then-flat-kinds
-unfolding ◌then◌ refuse_if BAD_TYPES BAD_NUMBER
-returns-then-flat-kinds c =
-    let t = types c.before.before.before.before.before.before.before.before.before.before in
-    simp (
-      counts c.before.before.before.before.before.before.before.before,
-      kinds c.before.before.before.before.before.before,
-      numbers c.before.before.before,
-      ← c.lowest_not_a_cube-flat.ensures t.covers,
-      lt-ltb _ _ c.if-flat-kinds.true,
+pub cubes_verdict-requires : goal.cubes_verdict-requires
+cubes_verdict-requires c =
+    let n : not (c.is_finite.result && c.is_finite-2.result) ≡ false = not_refused _ _ _ (passes _ _ c.in_ok-refuse_if-2.was c.refuse_if-2.ensures) in (
+      (counted (types_in c.args.types) (sym c.has_bad_counts.ensures ∙ not_refused _ _ _ (passes _ _ c.in_ok-refuse_if.was c.refuse_if.ensures))).1,
+      subst T c.is_finite-2.ensures (and_r c.is_finite.result _ (subst T (sym (not-false _ n)) tt)),
     )
 
 pub returns : goal.returns
-unfolding ◌then◌ refuse_if BAD_TYPES BAD_NUMBER
 returns c =
-    let t = types c.before.before.before.before.before.before.before.before.before.before in
-    simp (
-      counts c.before.before.before.before.before.before.before.before,
-      kinds c.before.before.before.before.before.before,
-      numbers c.before.before.before,
-      ← c.lowest_not_a_cube-flat.ensures t.covers,
-      le-ltb _ _ c.if-flat-kinds.false,
-    )
+    types_tested _ _ _ _ _ c.in_ok-refuse_if.was c.refuse_if.ensures c.has_bad_counts.ensures
+    (goes _ _ c.in_ok-kinds_verdict.was c.kinds_verdict.ensures
+    (goes _ _ c.in_ok-refuse_if-2.was (number_tested _ _ _ _ _ c.refuse_if-2.ensures c.is_finite.ensures c.is_finite-2.ensures) c.cubes_verdict.ensures))
