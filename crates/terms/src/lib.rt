@@ -7,19 +7,32 @@ ghost use Rattle.terms.specs.Modes.{is_culling, tested_by};
 
 use face::Face;
 use floats::Triple;
+use types::Types;
 use util::Dimensions;
 
 // What mesh, update and check are told of the grid and the types.
 #[derive(Clone, Copy)]
-pub struct Scene {
+pub struct Scene<'a> {
     pub dims: Dimensions,
-    pub coloured: bool,
+    pub types: Types<'a>,
     pub d: Triple,
     pub centre: Triple,
 }
 
-// How many words the lists of a mesh have.
+// The lists of a mesh that is only read. Those that are written go one by one: a struct of `&mut` would owe each contract a clause on each field's borrow.
 #[derive(Clone, Copy)]
+pub struct Lists<'a> {
+    pub positions: &'a [u32],
+    pub normals: &'a [u32],
+    pub uvs: &'a [u32],
+    pub colours: &'a [u32],
+    pub triangles: &'a [u32],
+    pub links: &'a [u32],
+    pub slots: &'a [u32],
+}
+
+// How many words the lists of a mesh have.
+#[derive(Clone, Copy, Debug, PartialEq, Eq)]
 pub struct Lengths {
     pub positions: usize,
     pub normals: usize,
@@ -31,13 +44,13 @@ pub struct Lengths {
 }
 
 // The number of quads, and how many have changed their place.
-#[derive(Clone, Copy)]
+#[derive(Clone, Copy, Debug, PartialEq, Eq)]
 pub struct Count {
     pub quads: usize,
     pub moved: u64,
 }
 
-#[derive(Clone, Copy)]
+#[derive(Clone, Copy, Debug, PartialEq, Eq)]
 pub enum MeshingAlgorithm {
     Naive,
     Culling,
@@ -47,16 +60,13 @@ impl MeshingAlgorithm {
     pub fn is_culling(self) -> bool
         ensures { result ≡ is_culling self }
     {
-        match self {
-            MeshingAlgorithm::Naive => false,
-            MeshingAlgorithm::Culling => true,
-        }
+        self == MeshingAlgorithm::Culling
     }
 }
 
 // Which side of a voxel that comes, by Added or Replaced, decides whether the neighbour at a face loses its facing quad: the opposite of the face,
 // as the source has it, or the face itself.
-#[derive(Clone, Copy)]
+#[derive(Clone, Copy, Debug, PartialEq, Eq)]
 pub enum Tested {
     Opposite,
     Itself,
