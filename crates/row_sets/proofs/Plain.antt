@@ -8,9 +8,9 @@ use Prim.Native.Nat.{ℕ, zero, suc, ◌+◌, ◌-◌, ◌*◌, ◌≤◌, ◌<�
 use native.Mathlib.Omega.{arith}
 use lib.Bits.{bit_and, bit_or, and_lt, or_lt}
 use lib.Dec.{eqb, ltb, leb}
-use lib.ListN.{length, get_or, set, length-set}
+use lib.ListN.{length, get_or, set, take, drop, length-set}
 use mir.Val.{bool_byte}
-use lib.Seq.{get_or-set_same, get_or-set_other}
+use lib.Seq.{get_or-set_same, get_or-set_other, get_or-take, get_or-drop}
 use borrow.Author.Count.{below_more}
 use borrow.Author.Tests.{ltb-true, ltb-false, lt-ltb, leb-true, leb-false, eq-eqb, ne_eqb, eqb-true, eqb-false}
 use Rattle.rules.specs.Lists.{member}
@@ -19,16 +19,17 @@ use Rattle.rules.specs.Mesh.{type_at, shown, drawn}
 use Rattle.rules.proofs.ListLaws.{within}
 use Rattle.rules.proofs.Sets.{set_of_lt, set_is, has-set_of, has_and, has_or, has_others}
 use Rattle.rules.proofs.Neighbours.{beside}
-use Rattle.util.specs.Grid.{size_of, cords_of, Within, Starts}
+use Rattle.util.specs.Grid.{cords_of, Within, Starts}
 use Rattle.util.proofs.Rows.{row_end, row_cords}
 use Rattle.util.proofs.Neighbors.{steps}
-use Rattle.culling.specs.Culling.{world_of, outer_set}
+use Rattle.culling.specs.Culling.{world_of, outer_set, Whole}
 use Rattle.culling.proofs.Sides.{set_of_cong}
 use Rattle.culling.proofs.Passing.{Passed}
-use Rattle.row_sets.specs.declared.Look.{Look}
 use Rattle.row_sets.specs.declared.Codes.{Codes}
-use Rattle.row_sets.specs.declared.Around.{Around}
-use Rattle.row_sets.specs.Rows.{ClearBelow, FullFrom, Plainly, Plain, Seen, code_of, plain_set, plain_shown, plain_at, is_row_face, RowBeside, is_there, RowsOf, Along, Beside, PlainAround, plain_in}
+use Rattle.row_sets.specs.declared.around.Around.{Around}
+use Rattle.row_sets.specs.Plainly.{ClearBelow, FullFrom, Plainly, Plain, Along}
+use Rattle.row_sets.specs.Around.{is_row_face, RowBeside, is_there, RowsOf}
+use Rattle.row_sets.specs.Rows.{code_of, plain_set, plain_shown, plain_at, Beside}
 
 -- ---- faces of a set that is made bit by bit
 
@@ -152,10 +153,7 @@ codes_at rows g x right left = record {
   forward = get_or g (rows.forward + x) 0;
 }
 
-module _ (rows : Around) (r : RowsOf rows) where
-  abbrev size : Size
-  size = size_of rows.dims
-
+module _ (size : Size) (in_limits : Within size) (rows : Around) (r : RowsOf size rows) where
   abbrev place : ℕ → ℕ → ℕ
   place x zero = rows.up + x
   place x (suc zero) = rows.down + x
@@ -164,29 +162,29 @@ module _ (rows : Around) (r : RowsOf rows) where
   place x (suc (suc (suc (suc zero)))) = rows.back + x
   place x (suc (suc (suc (suc (suc f))))) = rows.forward + x
 
-  beside_it : (x f : ℕ) → x < rows.dims.width → f < 6 → neighbour size (rows.at + x) f ≡ only_if (is_there rows x f) (place x f)
+  beside_it : (x f : ℕ) → x < size.w → f < 6 → neighbour size (rows.at + x) f ≡ only_if (is_there size rows x f) (place x f)
   beside_it x zero w h = r.up.is x w
   beside_it x (suc zero) w h = r.down.is x w
-  beside_it x (suc (suc zero)) w h = beside_cell size (rows.at + x) (row_cords size r.within r.starts x w) 2 h
-  beside_it x (suc (suc (suc zero))) w h = beside_cell size (rows.at + x) (row_cords size r.within r.starts x w) 3 h
+  beside_it x (suc (suc zero)) w h = beside_cell size (rows.at + x) (row_cords size in_limits r.starts x w) 2 h
+  beside_it x (suc (suc (suc zero))) w h = beside_cell size (rows.at + x) (row_cords size in_limits r.starts x w) 3 h
   beside_it x (suc (suc (suc (suc zero)))) w h = r.back.is x w
   beside_it x (suc (suc (suc (suc (suc zero))))) w h = r.forward.is x w
   beside_it x (suc (suc (suc (suc (suc (suc f)))))) w h = absurd (omega arith)
 
-  pub kept_sides : (along : List ℕ) (x : ℕ) → Along rows.dims.width along → x < rows.dims.width → rows.sides + get_or along x 0 ≡ set_of (is_there rows x)
+  pub kept_sides : (along : List ℕ) (x : ℕ) → Along size.w along → x < size.w → rows.sides + get_or along x 0 ≡ set_of (is_there size rows x)
   kept_sides along x a h = omega (arith, r.sides, a.sides x h)
 
   -- LAW: the formula, with the neighbours' codes read at these places, is the rule by bytes
-  pub cell_is_plain : (look : Look) (g : List ℕ) {x right left keep : ℕ} → Beside rows x right left → keep ≡ set_of (is_there rows x)
-      → plain_set look.full keep look.outer (get_or g (rows.at + x) 0) (code_of (codes_at rows g x right left)) ≡ plain_in look g rows x
+  pub cell_is_plain : (full outer : ℕ) (g : List ℕ) {x right left keep : ℕ} → Beside size rows x right left → keep ≡ set_of (is_there size rows x)
+      → plain_set full keep outer (get_or g (rows.at + x) 0) (code_of (codes_at rows g x right left)) ≡ plain_at size full outer g (rows.at + x)
   unfolding plain_set plain_at
-  cell_is_plain look g {x} {right} {left} {keep} p e =
-      ap (λ (n : ℕ). cond (leb look.full (get_or g (rows.at + x) 0)) n 0)
-      (set_of_cong _ (λ f. plain_shown look.full look.outer g f (neighbour size (rows.at + x) f))
-      (λ f h. side look.full look.outer g f _ (place x f) (is_there rows x f) (has keep f) (ap (λ (n : ℕ). has n f) e ∙ has-set_of (is_there rows x) f h) (read f h)
-      ∙ ap (plain_shown look.full look.outer g f) (sym (beside_it x f p.wide h))))
+  cell_is_plain full outer g {x} {right} {left} {keep} p e =
+      ap (λ (n : ℕ). cond (leb full (get_or g (rows.at + x) 0)) n 0)
+      (set_of_cong _ (λ f. plain_shown full outer g f (neighbour size (rows.at + x) f))
+      (λ f h. side full outer g f _ (place x f) (is_there size rows x f) (has keep f) (ap (λ (n : ℕ). has n f) e ∙ has-set_of (is_there size rows x) f h) (read f h)
+      ∙ ap (plain_shown full outer g f) (sym (beside_it x f p.wide h))))
     where
-      read : (f : ℕ) → f < 6 → is_there rows x f ≡ true → code_of (codes_at rows g x right left) f ≡ get_or g (place x f) 0
+      read : (f : ℕ) → f < 6 → is_there size rows x f ≡ true → code_of (codes_at rows g x right left) f ≡ get_or g (place x f) 0
       read zero h t = refl
       read (suc zero) h t = refl
       read (suc (suc zero)) h t = ap (λ (n : ℕ). get_or g n 0) (p.on (ltb-true _ _ t))
@@ -195,35 +193,39 @@ module _ (rows : Around) (r : RowsOf rows) where
       read (suc (suc (suc (suc (suc f))))) h t = refl
 
   -- a neighbour that is not there is read as the cell itself
-  pub beside_lone : (x : ℕ) → x < rows.dims.width → Beside rows x (rows.at + x + bool_byte (ltb (x + 1) rows.dims.width)) (rows.at + x - bool_byte (ltb 0 x))
+  pub beside_lone : (x : ℕ) → x < size.w → Beside size rows x (rows.at + x + bool_byte (ltb (x + 1) size.w)) (rows.at + x - bool_byte (ltb 0 x))
   beside_lone x h = record {
     wide = h;
     on = λ l. ap (λ (b : Bool). rows.at + x + bool_byte b) (lt-ltb _ _ l);
     off = λ l. ap (λ (b : Bool). rows.at + x - bool_byte b) (lt-ltb _ _ l);
-    right_in = go (ltb (x + 1) rows.dims.width) refl;
+    right_in = go (ltb (x + 1) size.w) refl;
     left_in = omega (arith, r.fits);
   }
     where
-      go : (t : Bool) → ltb (x + 1) rows.dims.width ≡ t → rows.at + x + bool_byte t < cells size
-      go true t = let l : x + 1 < rows.dims.width = ltb-true _ _ t in omega (arith, r.fits)
+      go : (t : Bool) → ltb (x + 1) size.w ≡ t → rows.at + x + bool_byte t < cells size
+      go true t = let l : x + 1 < size.w = ltb-true _ _ t in omega (arith, r.fits)
       go false t = omega (arith, r.fits)
 
   -- or as the cell before or after it in the grid
-  pub beside_in_grid : (x : ℕ) → x < rows.dims.width → 0 < rows.at → rows.at + rows.dims.width < cells size → Beside rows x (rows.at + x + 1) (rows.at + x - 1)
+  pub beside_in_grid : (x : ℕ) → x < size.w → 0 < rows.at → rows.at + size.w < cells size → Beside size rows x (rows.at + x + 1) (rows.at + x - 1)
   beside_in_grid x wide first last = record { wide = wide; on = λ h. refl; off = λ h. refl; right_in = omega arith; left_in = omega arith }
 
   -- ---- rows of plain codes
-  module _ (look : Look) (g : List ℕ) where
+  module _ (clear full : ℕ) (g : List ℕ) where
     abbrev PlainFrom : ℕ → Type 0
-    PlainFrom start = (k : ℕ) → k < rows.dims.width → Plain look.clear look.full (get_or g (start + k) 0)
+    PlainFrom start = (k : ℕ) → k < size.w → Plain clear full (get_or g (start + k) 0)
 
-    pub plain_around : PlainFrom rows.at → PlainFrom rows.up → PlainFrom rows.down → PlainFrom rows.back → PlainFrom rows.forward → PlainAround look g rows
+    abbrev Plainest : Type 0
+    Plainest = (x : ℕ) → x < size.w → Plain clear full (get_or g (rows.at + x) 0)
+        × ((f n : ℕ) → f < 6 → neighbour size (rows.at + x) f ≡ some n → Plain clear full (get_or g n 0))
+
+    pub plain_around : PlainFrom rows.at → PlainFrom rows.up → PlainFrom rows.down → PlainFrom rows.back → PlainFrom rows.forward → Plainest
     plain_around own above below behind before x wide = (own x wide, λ f n h e. let t = is_there_lem _ _ _ (sym (beside_it x f wide h) ∙ e) in move t.1 (at_place f h t.0))
       where
-        move : {m n : ℕ} → m ≡ n → Plain look.clear look.full (get_or g m 0) → Plain look.clear look.full (get_or g n 0)
-        move e p = subst (λ (n : ℕ). Plain look.clear look.full (get_or g n 0)) e p
+        move : {m n : ℕ} → m ≡ n → Plain clear full (get_or g m 0) → Plain clear full (get_or g n 0)
+        move e p = subst (λ (n : ℕ). Plain clear full (get_or g n 0)) e p
 
-        at_place : (f : ℕ) → f < 6 → is_there rows x f ≡ true → Plain look.clear look.full (get_or g (place x f) 0)
+        at_place : (f : ℕ) → f < 6 → is_there size rows x f ≡ true → Plain clear full (get_or g (place x f) 0)
         at_place zero h t = above x wide
         at_place (suc zero) h t = below x wide
         at_place (suc (suc zero)) h t = move (omega arith) (own (x + 1) (ltb-true _ _ t))
@@ -360,15 +362,16 @@ fill rule block {old} {sets} {new} {x} {start} p h s b = record { long = s.0 ∙
         ap (λ (n : ℕ). get_or new n 0) (sym e) ∙ s.2 (k - start) i ∙ b (k - start) i ∙ ap rule e
 
 -- LAW: a row of plain codes is drawn as the rule says
-pub row_is_drawn : (rows : Around) (look : Look) (g kinds covers : List ℕ) → RowsOf rows → Seen (size_of rows.dims) g kinds covers look → PlainAround look g rows
-    → (faces : List ℕ) → look.outer ≡ outer_set faces → (x : ℕ) → x < rows.dims.width
-    → plain_in look g rows x ≡ set_of (drawn (world_of (size_of rows.dims) kinds covers) faces g (rows.at + x))
-row_is_drawn rows look g kinds covers r seen plain faces e x h =
-    let s = size_of rows.dims in
-    let w = seen.grid in
+pub row_is_drawn : (s : Size) (rows : Around) (clear full outer : ℕ) (g kinds covers : List ℕ) → RowsOf s rows → Whole s g (length covers) → length covers ≡ length kinds
+    → Plainly kinds covers clear full
+    → ((x : ℕ) → x < s.w → Plain clear full (get_or g (rows.at + x) 0)
+    × ((f n : ℕ) → f < 6 → neighbour s (rows.at + x) f ≡ some n → Plain clear full (get_or g n 0)))
+    → (faces : List ℕ) → outer ≡ outer_set faces → (x : ℕ) → x < s.w
+    → plain_at s full outer g (rows.at + x) ≡ set_of (drawn (world_of s kinds covers) faces g (rows.at + x))
+row_is_drawn s rows clear full outer g kinds covers r w both known plain faces e x h =
     let c : rows.at + x < cells s = omega (arith, r.fits) in
-    ap (λ (o : ℕ). plain_at s look.full o g (rows.at + x)) e
-    ∙ plain_is_drawn s kinds covers look.clear look.full seen.plain g (λ k l. omega (arith, w.typed k l, seen.both)) faces (rows.at + x)
+    ap (λ (o : ℕ). plain_at s full o g (rows.at + x)) e
+    ∙ plain_is_drawn s kinds covers clear full known g (λ k l. omega (arith, w.typed k l, both)) faces (rows.at + x)
     (omega (arith, w.whole)) (plain x h).0
     (λ f n l q. (omega (arith, w.whole, (beside s w.within.sides.wide w.within.sides.long (rows.at + x) c f n q).inside), (plain x h).1 f n l q))
 
@@ -380,3 +383,13 @@ test_plain true clear full code e = (refl, go (ltb code clear) refl e)
     go true t e = inl (ltb-true code clear t)
     go false t e = inr (leb-true full code e)
 test_plain false clear full code e = absurd (let z : ◌≡◌ {A = ℕ} 0 1 = cc in omega arith)
+
+pub clear_to : (kinds covers : List ℕ) (n m : ℕ) → n ≡ m → ClearBelow kinds covers n → ClearBelow kinds covers m
+clear_to kinds covers n m e p = subst (λ (n : ℕ). ClearBelow kinds covers n) e p
+
+pub full_to : (kinds covers : List ℕ) (n m : ℕ) → n ≡ m → FullFrom kinds covers n → FullFrom kinds covers m
+full_to kinds covers n m e p = subst (λ (n : ℕ). FullFrom kinds covers n) e p
+
+-- a code of a stretch, read in the whole
+pub stretch_code : (g : List ℕ) (at n k : ℕ) → k < n → get_or (take (at + n - at) (drop at g)) k 0 ≡ get_or g (at + k) 0
+stretch_code g at n k h = get_or-take (at + n - at) (drop at g) k 0 (omega arith) ∙ get_or-drop at g k 0

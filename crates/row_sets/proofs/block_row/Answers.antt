@@ -8,16 +8,16 @@ pub loop-x-init : goal.loop-x-init
 loop-x-init c = (omega arith, passed _ _)
 
 pub block_start-start-requires : goal.block_start-start-requires
-block_start-start-requires c = (c.loop-x-test.true, c.requires.2, c.requires.0.rows_are.within.sides.widest)
+block_start-start-requires c = (c.loop-x-test.true, omega (arith, c.width-width.ensures, c.requires.1), omega (arith, c.width-width.ensures, c.args.rows.are.within.sides.widest))
 
 pub block_of-block-requires : goal.block_of-block-requires
-block_of-block-requires c = (c.requires.0, c.requires.3, c.block_start-start.ensures.2, c.requires.4)
+block_of-block-requires c = (c.requires.2, omega (arith, c.width-width.ensures, c.block_start-start.ensures.2), c.requires.3)
 
 pub store_block-requires : goal.store_block-requires
-store_block-requires c = omega (arith, c.block_start-start.ensures.2, c.loop-x.invariant.1.long, c.requires.1)
+store_block-requires c = omega (arith, c.block_start-start.ensures.2, c.loop-x.invariant.1.long, c.width-width.ensures, c.requires.0)
 
 pub overflow_add-x : goal.overflow_add-x
-overflow_add-x c = omega (arith, c.block_start-start.ensures.2, c.requires.0.rows_are.within.sides.widest)
+overflow_add-x c = omega (arith, c.block_start-start.ensures.2, c.width-width.ensures, c.args.rows.are.within.sides.widest)
 
 pub loop-x-smaller : goal.loop-x-smaller
 loop-x-smaller c = omega (arith, c.block_start-start.ensures.1, c.loop-x-test.true)
