@@ -1,4 +1,4 @@
-use Prim.Native.Nat.{◌-◌, ◌*◌}
+use Prim.Native.Nat.{◌*◌}
 use lib.Dec.{ltb}
 use lib.ListN.{get_or}
 use Rattle.rules.proofs.Searches.{Searched}
@@ -6,6 +6,3 @@ use Rattle.voxel_mesh.proofs.lowest_bad_face.Given as goal
 
 abbrev pub invariant-loop-i : goal.invariant-loop-i
 invariant-loop-i l = Searched l.n (λ k. ltb 5 (get_or l.texture (3 * k) 0)) l.i
-
-abbrev pub decreases-loop-i : goal.decreases-loop-i
-decreases-loop-i l = l.n - l.i
