@@ -12,7 +12,7 @@ ghost use Rattle.floats.specs.Triples.{triple_of};
 ghost use Rattle.voxel_mesh.specs.Outcome.{shape_of, verdict_in, Cubes, Accepted};
 ghost use Rattle.voxel_mesh.specs.Parts.{naming_in, corner_in, tile_word, Tiled, Cornered, part_word};
 
-use answers::{Refusal, Verdict, refuse_if};
+use answers::{Refusal, Verdict, refuse_if, refuse_lowest};
 use floats::{Triple, corner_word, is_finite_bits, uv_word};
 use vav::write_four;
 
@@ -157,25 +157,11 @@ fn is_bad_atlas(shape: Shape, texture: &[u32]) -> bool
     (wide < 1) | (4096 < wide) | ((tall < 1) | (4096 < tall)) | !has_tiles(texture)
 }
 
-// The lowest whole entry whose face is over 5, or their number.
-fn lowest_bad_face(texture: &[u32]) -> usize
-    ensures { result ≡ lowest (entries texture.now) (λ i. ltb 5 (get_or texture.now (3 * i) 0)) }
-{
-    let n = texture.len() / 3;
-    for i in 0..n {
-        if 5 < texture[3 * i] {
-            return i;
-        }
-    }
-    n
-}
-
 // BAD_TEXTURE: the lowest whole entry with a bad face, else a list of another length than six entries'.
 fn texture_verdict(texture: &[u32]) -> Verdict
     ensures { verdict_of result ≡ BAD_TEXTURE texture.now }
 {
-    let bad = lowest_bad_face(texture);
-    refuse_if(bad < texture.len() / 3, Refusal::BadFace, bad)?;
+    refuse_lowest(Refusal::BadFace, texture.len() / 3, |i| 5 < texture[3 * i])?;
     refuse_if(texture.len() != 18, Refusal::BadFace, 6)
 }
 
