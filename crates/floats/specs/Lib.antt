@@ -1,1 +1,2 @@
 pub mod Triples
+pub mod Tiles

@@ -1,12 +1,13 @@
 // Float words: each float is its 32 bits, and f32 is met only inside these leaves. Nothing is fused.
 #![tactic(auto)]
 
-ghost use Rattle.std.specs.Prelude.{◌≡◌, cond, ◌<◌, ◌≤◌, T};
+ghost use Rattle.std.specs.Prelude.{◌≡◌, cond, ◌<◌, ◌≤◌, T, IfSome, is_some};
 ghost use Rattle.rules.specs.Cells.{along};
 ghost use Rattle.rules.specs.Floats.{f32, finite, finite3};
 ghost use Rattle.rules.specs.Cube.{high_of, low_of, corner_word, start_of, end_of, uv_word};
 ghost use Rattle.rules.specs.Types.{moved_word};
 ghost use Rattle.floats.specs.Triples.{triple_of};
+ghost use Rattle.floats.specs.Tiles.{tile_in};
 
 // Three words: along x, y and z.
 #[derive(Clone, Copy)]
@@ -20,13 +21,11 @@ impl Triple {
     pub fn along(self, axis: usize) -> u32
         ensures { result ≡ along (triple_of self) axis }
     {
-        if axis == 0 {
-            return self.x;
+        match axis {
+            0 => self.x,
+            1 => self.y,
+            _ => self.z,
         }
-        if axis == 1 {
-            return self.y;
-        }
-        self.z
     }
 
     pub fn is_finite(self) -> bool
@@ -58,42 +57,32 @@ pub fn corner_word(high: bool, d: u32, centre: u32) -> u32
     requires { T (finite d) × T (finite centre) }
     ensures { result ≡ corner_word high d centre }
 {
-    f32::to_bits(corner(high, d, centre))
+    corner(high, d, centre).to_bits()
 }
 
-// Where a face's tile starts on one axis of the atlas. It is finite.
-fn uv_start(named: bool, tile: u32, atlas: u32, padding: u32) -> f32
-    requires { (tile < 4096) × (0 < atlas) × (atlas ≤ 4096) × T (finite padding) }
-    ensures { result ≡ start_of named tile atlas padding }
+// Where a face's tile starts on one axis of the atlas; without a tile, at 0. It is finite.
+fn uv_start(tile: Option<u32>, atlas: u32, padding: u32) -> f32
+    requires { IfSome tile (λ t. t < 4096) × (0 < atlas) × (atlas ≤ 4096) × T (finite padding) }
+    ensures { result ≡ start_of (is_some tile) (tile_in tile) atlas padding }
 {
     let wide = atlas as f32;
-    if named {
-        (tile as f32) * (1.0 / wide) + f32::from_bits(padding) / wide
-    } else {
-        0.0
+    match tile {
+        Some(tile) => (tile as f32) * (1.0 / wide) + f32::from_bits(padding) / wide,
+        None => 0.0,
     }
 }
 
-// Where it ends. It may be infinite.
-fn uv_end(named: bool, tile: u32, atlas: u32, padding: u32) -> f32
-    requires { (tile < 4096) × (0 < atlas) × (atlas ≤ 4096) × T (finite padding) }
-    ensures { result ≡ end_of named tile atlas padding }
+// A uv coordinate: the tile's end or its start. The end may be infinite.
+pub fn uv_word(end: bool, tile: Option<u32>, atlas: u32, padding: u32) -> u32
+    requires { IfSome tile (λ t. t < 4096) × (0 < atlas) × (atlas ≤ 4096) × T (finite padding) }
+    ensures { result ≡ uv_word end (is_some tile) (tile_in tile) atlas padding }
 {
-    let start = uv_start(named, tile, atlas, padding);
-    let wide = atlas as f32;
-    start + 1.0 / wide - f32::from_bits(padding) / wide * 2.0
-}
-
-// A uv coordinate: the tile's end or its start.
-pub fn uv_word(end: bool, named: bool, tile: u32, atlas: u32, padding: u32) -> u32
-    requires { (tile < 4096) × (0 < atlas) × (atlas ≤ 4096) × T (finite padding) }
-    ensures { result ≡ uv_word end named tile atlas padding }
-{
-    if end {
-        f32::to_bits(uv_end(named, tile, atlas, padding))
-    } else {
-        f32::to_bits(uv_start(named, tile, atlas, padding))
+    let start = uv_start(tile, atlas, padding);
+    if !end {
+        return start.to_bits();
     }
+    let wide = atlas as f32;
+    (start + 1.0 / wide - f32::from_bits(padding) / wide * 2.0).to_bits()
 }
 
 // A position, moved by coordinate · d. What is moved may be infinite.
@@ -102,5 +91,5 @@ pub fn moved_word(word: u32, coordinate: u32, d: u32) -> u32
     ensures { result ≡ moved_word word coordinate d }
 {
     let shift = (coordinate as f32) * f32::from_bits(d);
-    f32::to_bits(f32::from_bits(word) + shift)
+    (f32::from_bits(word) + shift).to_bits()
 }

@@ -1,1 +1,2 @@
 pub mod Quads
+pub mod Words

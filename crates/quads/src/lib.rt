@@ -3,19 +3,20 @@
 #![tactic(auto)]
 
 ghost use Rattle.std.specs.Prelude.{◌≡◌, ◌+◌, ◌*◌, ◌≤◌, ◌<◌, length, get_or};
-ghost use Rattle.rules.specs.Cells as cells;
 ghost use Rattle.rules.specs.Cells.{along};
-ghost use Rattle.rules.specs.Types.{order, quad_word, quad_words};
+ghost use Rattle.rules.specs.Cube.{floats_of};
+ghost use Rattle.rules.specs.Types.{order, quad_word};
 ghost use Rattle.rules.specs.Mesh.{normal, attribute_in};
 ghost use Rattle.util.specs.Grid as grid;
 ghost use Rattle.floats.specs.Triples.{triple_of};
 ghost use Rattle.vav.specs.Attributes.{attribute_of};
 ghost use Rattle.vav.specs.Rows.{put, four};
-ghost use Rattle.quads.specs.Quads.{Has, FourVertices, Corners};
+ghost use Rattle.quads.specs.Quads.{Has, Corners};
 
 use floats::{Triple, moved_word};
 use util::Coordinates;
 use vav::{Attribute, copy_four, select, write_four};
+use voxel_mesh::floats_of;
 
 // The order in which a quad takes the corners of its face.
 const ORDER: [usize; 4] = [0, 1, 3, 2];
@@ -38,111 +39,93 @@ fn coordinate(at: Coordinates, axis: usize) -> u32
     cell.along(axis)
 }
 
-// Word k of a corner.
-fn word_of(corners: &[u32], floats: usize, corner: usize, k: usize) -> u32
-    requires { FourVertices corners.now floats × (corner < 4) × (k < floats) }
-    ensures { result ≡ get_or corners.now (floats * corner + k) 0 }
-{
-    corners[floats * corner + k]
+// A quad that can be drawn: its face's corners, whether they have colour, and what moves their positions, the coordinates of its cell by d.
+#[derive(Clone, Copy)]
+pub struct Quad<'a> {
+    pub corners: &'a [u32],
+    pub coloured: bool,
+    pub at: Coordinates,
+    pub d: Triple,
+    pub ghost is_drawable: { Corners corners.now (floats_of coloured) (grid.triple_of at) (triple_of d) },
 }
 
-// Float k of an attribute of the i-th vertex of a quad. Positions alone are moved.
-pub fn quad_word(
-    corners: &[u32],
-    floats: usize,
-    attribute: Attribute,
-    at: Coordinates,
-    d: Triple,
-    i: usize,
-    k: usize,
-) -> u32
-    requires { Corners corners.now floats (grid.triple_of at) (triple_of d) × Has floats (attribute_of attribute) × (i < 4) × (k < (attribute_of attribute).width) }
-    ensures { result ≡ quad_word corners.now floats (triple_of d) 0 (grid.triple_of at) i ((attribute_of attribute).start + k) }
-{
-    let corner = corner_of(i);
-    if attribute.start() == 0 {
-        return moved_word(
-            word_of(corners, floats, corner, k),
-            coordinate(at, k),
-            d.along(k),
+impl Quad<'_> {
+    ghost use Rattle.quads.specs.Words.{words_of};
+
+    // Word k of a corner.
+    fn corner_word(self, corner: usize, k: usize) -> u32
+        requires { (corner < 4) × (k < floats_of self.coloured) }
+        ensures { result ≡ get_or self.entry.corners.now (floats_of self.entry.coloured * corner + k) 0 }
+    {
+        self.corners[floats_of(self.coloured) * corner + k]
+    }
+
+    // Float k of an attribute of the i-th vertex. Positions alone are moved.
+    pub fn word(self, attribute: Attribute, i: usize, k: usize) -> u32
+        requires { Has (floats_of self.coloured) (attribute_of attribute) × (i < 4) × (k < (attribute_of attribute).width) }
+        ensures { result ≡ quad_word self.entry.corners.now (floats_of self.entry.coloured) (triple_of self.entry.d) 0
+            (grid.triple_of self.entry.at) i ((attribute_of attribute).start + k) }
+    {
+        let corner = corner_of(i);
+        let word = self.corner_word(corner, attribute.start() + k);
+        if attribute == Attribute::Position {
+            return moved_word(word, coordinate(self.at, k), self.d.along(k));
+        }
+        word
+    }
+
+    // Word j of an attribute, the vertices one after the other.
+    fn attribute_word(self, attribute: Attribute, j: usize) -> u32
+        requires { Has (floats_of self.coloured) (attribute_of attribute) × (j < 4 * (attribute_of attribute).width) }
+        ensures { result ≡ get_or (attribute_in (floats_of self.entry.coloured) (attribute_of attribute) 4 (words_of self.entry)) j 0 }
+    {
+        let width = attribute.width();
+        self.word(attribute, j / width, j % width)
+    }
+
+    // Writes the words of an attribute from word j on, four of them. Read before they are written, they go at once.
+    fn write_words(self, out: &mut [u32], attribute: Attribute, j: usize)
+        requires { Has (floats_of self.coloured) (attribute_of attribute)
+            × (j + 4 ≤ 4 * (attribute_of attribute).width) × (length out.old ≡ 4 * (attribute_of attribute).width) }
+        ensures { out.new ≡ put j (four (attribute_in (floats_of self.entry.coloured) (attribute_of attribute) 4 (words_of self.entry)) j) out.old }
+    {
+        let a = self.attribute_word(attribute, j);
+        let b = self.attribute_word(attribute, j + 1);
+        let c = self.attribute_word(attribute, j + 2);
+        let d = self.attribute_word(attribute, j + 3);
+        write_four(out, j, a, b, c, d);
+    }
+
+    // Writes the normals. Those of a vertex go with the word after them at once, over which the next vertex's are written.
+    fn write_normals(self, out: &mut [u32])
+        requires { length out.old ≡ 12 }
+        ensures { out.new ≡ attribute_in (floats_of self.entry.coloured) normal 4 (words_of self.entry) }
+    {
+        let floats = floats_of(self.coloured);
+        for i in 0..3 {
+            copy_four(out, 3 * i, self.corners, floats * corner_of(i) + 3);
+        }
+        select(
+            out,
+            self.corners,
+            floats,
+            Attribute::Normal,
+            corner_of(3),
+            3,
         );
     }
-    word_of(corners, floats, corner, attribute.start() + k)
-}
 
-// Word j of an attribute of a quad, its vertices one after the other.
-fn attribute_word(
-    corners: &[u32],
-    floats: usize,
-    attribute: Attribute,
-    at: Coordinates,
-    d: Triple,
-    j: usize,
-) -> u32
-    requires { Corners corners.now floats (grid.triple_of at) (triple_of d) × Has floats (attribute_of attribute) × (j < 4 * (attribute_of attribute).width) }
-    ensures { result ≡ get_or (attribute_in floats (attribute_of attribute) 4 (quad_words corners.now floats (triple_of d) 0 (grid.triple_of at))) j 0 }
-{
-    let width = attribute.width();
-    quad_word(corners, floats, attribute, at, d, j / width, j % width)
-}
-
-// Writes the words of an attribute of a quad from word j on, four of them. Read before they are written, they go at once.
-fn write_words(
-    out: &mut [u32],
-    corners: &[u32],
-    floats: usize,
-    attribute: Attribute,
-    at: Coordinates,
-    d: Triple,
-    j: usize,
-)
-    requires { Corners corners.now floats (grid.triple_of at) (triple_of d) × Has floats (attribute_of attribute)
-        × (j + 4 ≤ 4 * (attribute_of attribute).width) × (length out.old ≡ 4 * (attribute_of attribute).width) }
-    ensures { out.new ≡ put j (four (attribute_in floats (attribute_of attribute) 4
-        (quad_words corners.now floats (triple_of d) 0 (grid.triple_of at))) j) out.old }
-{
-    let a = attribute_word(corners, floats, attribute, at, d, j);
-    let b = attribute_word(corners, floats, attribute, at, d, j + 1);
-    let c = attribute_word(corners, floats, attribute, at, d, j + 2);
-    let e = attribute_word(corners, floats, attribute, at, d, j + 3);
-    write_four(out, j, a, b, c, e);
-}
-
-// Writes the normals of a quad. Those of a vertex go with the word after them at once, over which the next vertex's are written.
-fn write_normals(out: &mut [u32], corners: &[u32], floats: usize)
-    requires { FourVertices corners.now floats × (length out.old ≡ 12) }
-    ensures { (d a : cells.Triple) → out.new ≡ attribute_in floats normal 4 (quad_words corners.now floats d 0 a) }
-{
-    let mut i: usize = 0;
-    while i < 3 {
-        copy_four(out, 3 * i, corners, floats * corner_of(i) + 3);
-        i += 1;
-    }
-    select(out, corners, floats, Attribute::Normal, corner_of(3), 3);
-}
-
-// Writes an attribute of a quad into the quad's own stretch of the attribute's list, its vertices in the order 0, 1, 3, 2.
-pub fn write_attribute(
-    out: &mut [u32],
-    corners: &[u32],
-    floats: usize,
-    attribute: Attribute,
-    at: Coordinates,
-    d: Triple,
-)
-    requires { Corners corners.now floats (grid.triple_of at) (triple_of d) × Has floats (attribute_of attribute)
-        × (length out.old ≡ 4 * (attribute_of attribute).width) }
-    ensures { out.new ≡ attribute_in floats (attribute_of attribute) 4
-        (quad_words corners.now floats (triple_of d) 0 (grid.triple_of at)) }
-{
-    if attribute.start() == 3 {
-        write_normals(out, corners, floats);
-        return;
-    }
-    let width = attribute.width();
-    let mut g: usize = 0;
-    while g < width {
-        write_words(out, corners, floats, attribute, at, d, 4 * g);
-        g += 1;
+    // Writes an attribute into the quad's own stretch of the attribute's list, its vertices in the order 0, 1, 3, 2.
+    pub fn write(self, out: &mut [u32], attribute: Attribute)
+        requires { Has (floats_of self.coloured) (attribute_of attribute) × (length out.old ≡ 4 * (attribute_of attribute).width) }
+        ensures { out.new ≡ attribute_in (floats_of self.entry.coloured) (attribute_of attribute) 4 (words_of self.entry) }
+    {
+        if attribute == Attribute::Normal {
+            self.write_normals(out);
+            return;
+        }
+        for g in 0..attribute.width() {
+            self.write_words(out, attribute, 4 * g);
+        }
     }
 }

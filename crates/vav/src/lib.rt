@@ -8,7 +8,7 @@ ghost use Rattle.vav.specs.Attributes.{attribute_of};
 ghost use Rattle.vav.specs.Rows.{put, four, zeros, source_of, freed};
 
 // An attribute of a vertex, which has a list of its own.
-#[derive(Clone, Copy)]
+#[derive(Clone, Copy, Debug, PartialEq, Eq)]
 pub enum Attribute {
     Position,
     Normal,
@@ -70,13 +70,9 @@ pub fn extend(list: &mut [u32], row: &[u32], count: usize)
     requires { length row.now * count + length row.now ≤ length list.old }
     ensures { list.new ≡ put (length row.now * count) row.now list.old }
 {
-    let n = row.len();
-    let at = n * count;
-    let mut i = 0;
-    while i < n {
-        list[at + i] = row[i];
-        i += 1;
-    }
+    let at = row.len() * count;
+    let end = at + row.len();
+    list[at..end].copy_from_slice(row);
 }
 
 // Copies an attribute of vertex `from` of another list, n floats a vertex, over row `to` of the attribute's own.
@@ -104,11 +100,8 @@ pub fn clear(list: &mut [u32], n: usize, q: usize)
     ensures { list.new ≡ put (n * q) (zeros n) list.old }
 {
     let at = n * q;
-    let mut i = 0;
-    while i < n {
-        list[at + i] = 0;
-        i += 1;
-    }
+    let end = at + n;
+    list[at..end].fill(0);
 }
 
 // Copies rows down, from row `from` on to row `to` on: the stretches may overlap.
@@ -119,10 +112,8 @@ fn copy_down(list: &mut [u32], n: usize, from: usize, to: usize, rows: usize)
     let start = n * from;
     let at = n * to;
     let words = n * rows;
-    let mut i = 0;
-    while i < words {
+    for i in 0..words {
         list[at + i] = list[start + i];
-        i += 1;
     }
 }
 

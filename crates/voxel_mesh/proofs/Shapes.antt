@@ -1,8 +1,6 @@
 -- What an accepted shape says of each word. Assumes nothing.
 use mathlib.Core.Path.{◌≡◌, sym, subst}
 use mathlib.Core.Bool.{Bool, true, false, not, ◌&&◌, ◌||◌, cond}
-use mathlib.Core.List.{List}
-use mathlib.Core.Option.{some}
 use Prim.Native.Nat.{ℕ, zero, suc, ◌+◌, ◌*◌, ◌≤◌, ◌<◌}
 use native.Mathlib.Nat.{mul-le-mul_left, mul-suc}
 use native.Mathlib.Omega.{arith}
@@ -14,10 +12,10 @@ use borrow.Author.Tests.{ltb-false, eqb-true, not-false}
 use Rattle.rules.specs.Lists.{every}
 use Rattle.rules.specs.Floats.{finite, finite3}
 use Rattle.rules.specs.Cells.{Triple, along}
-use Rattle.rules.specs.Cube.{Shape, floats_of, last_naming, atlas_along}
+use Rattle.rules.specs.Cube.{Shape, floats_of, atlas_along}
 use Rattle.rules.specs.Answers.{fine, refuse_if, refuse_lowest, out_of, entries, bad_tile, bad_atlas, BAD_NUMBER, BAD_TEXTURE}
 use Rattle.voxel_mesh.specs.Outcome.{Accepted, verdict_in}
-use Rattle.rules.proofs.ListLaws.{split, or_false}
+use Rattle.rules.proofs.ListLaws.{or_false}
 use Rattle.rules.proofs.Checking.{then_fine, if_fine}
 use Rattle.rules.proofs.Searches.{every_at}
 
@@ -119,11 +117,3 @@ accepted q room r =
       },
       ltb-false _ _ (if_fine _ 9 0 c.1),
     )
-
--- an entry that names a face is among those looked at
-pub named_below : (texture : List ℕ) (face k n : ℕ) → last_naming texture face k ≡ some n → n < k
-unfolding last_naming
-named_below texture face zero n e = absurd (let z : ◌≡◌ {A = ℕ} 0 1 = cc in omega arith)
-named_below texture face (suc k) n e =
-    split (λ b. cond b (some k) (last_naming texture face k) ≡ some n → n < suc k) (eqb (get_or texture (3 * k) 0) face)
-    (λ t h. let z : k ≡ n = cc in omega arith) (λ t h. let l = named_below texture face k n h in omega arith) e

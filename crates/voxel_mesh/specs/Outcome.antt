@@ -1,14 +1,14 @@
 -- The cube call's answer and its shape, as the rules see them. Definitions only.
-use Rattle.std.specs.Prelude.{ℕ, ◌*◌, List, ◌≡◌, false, length, T, ltb}
+use Rattle.std.specs.Prelude.{ℕ, ◌*◌, Result, List, ◌≡◌, false, length, T, ltb}
 use Rattle.rules.specs.Floats.{finite, finite3}
 use Rattle.rules.specs.Cube as rules
 use Rattle.rules.specs.Cube.{floats_of}
-use Rattle.rules.specs.Answers.{Verdict, fine, refuse, ◌then◌, refuse_if, bad_atlas, BAD_NUMBER, BAD_ATLAS, BAD_TEXTURE}
+use Rattle.rules.specs.Answers.{Verdict, ◌then◌, refuse_if, bad_atlas, BAD_NUMBER, BAD_ATLAS, BAD_TEXTURE}
 use Rattle.rules.specs.Calls.{CubeOutcome, check_by, generate_voxel_mesh}
+use Rattle.answers.specs.declared.Refused.{Refused}
+use Rattle.answers.specs.Verdicts.{verdict_of}
 use Rattle.floats.specs.Triples.{triple_of}
 use Rattle.voxel_mesh.specs.declared.Shape.{Shape}
-use Rattle.voxel_mesh.specs.declared.Cubed.{Cubed}
-use Rattle.voxel_mesh.specs.declared.Cubed.TheVariants.{Done, BadNumber, BadAtlas, BadFace, ShortRoom}
 
 abbrev pub shape_of : Shape → List ℕ → rules.Shape
 shape_of s texture = record {
@@ -23,20 +23,12 @@ shape_of s texture = record {
   alpha = s.alpha;
 }
 
--- 01's number and place for each answer
-abbrev pub verdict_of : Cubed → Verdict
-verdict_of Done = fine
-verdict_of BadNumber = refuse 4 0
-verdict_of BadAtlas = refuse 5 0
-verdict_of (BadFace place) = refuse 7 place
-verdict_of ShortRoom = refuse 9 0
-
 -- the answer, and the room as the call leaves it
-abbrev pub outcome : Cubed → List ℕ → CubeOutcome
+abbrev pub outcome : Result Unit Refused → List ℕ → CubeOutcome
 outcome r out = record { answer = check_by (verdict_of r); out = out }
 
 -- the call's contract: it answers r for a shape, and leaves the room at exit
-abbrev pub Cubes : rules.Shape → List ℕ → Cubed → List ℕ → Type 0
+abbrev pub Cubes : rules.Shape → List ℕ → Result Unit Refused → List ℕ → Type 0
 Cubes shape room r exit = outcome r exit ≡ generate_voxel_mesh shape room
 
 -- the refusals of a call with room for that many words

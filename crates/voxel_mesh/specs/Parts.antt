@@ -1,6 +1,7 @@
 -- What the vertices of a cube are made of: two corners, and a tile a face. Definitions only.
 use Rattle.std.specs.Prelude.{ℕ, ◌-◌, ◌/◌, ◌≡◌, Bool, true, false, cond, eqb, ltb}
-use Rattle.std.proofs.Math.Option.{Option, none, some}
+use Rattle.std.specs.Prelude.{Option, Some, None}
+use Rattle.std.proofs.Math.Option as Math
 use Rattle.rules.specs.Cells as cells
 use Rattle.rules.specs.Cells.{along}
 use Rattle.rules.specs.Cube as rules
@@ -8,14 +9,12 @@ use Rattle.rules.specs.Cube.{is_high, is_end, corner_word, last_naming, uv_in, n
 use Rattle.floats.specs.declared.Triple.{Triple}
 use Rattle.floats.specs.Triples.{triple_of}
 use Rattle.voxel_mesh.specs.declared.Shape.{Shape}
-use Rattle.voxel_mesh.specs.declared.Naming.{Naming}
-use Rattle.voxel_mesh.specs.declared.Naming.TheVariants.{Entry, Nothing}
 use Rattle.voxel_mesh.specs.declared.Tile.{Tile}
 
 -- the entry that names a face, if any
-abbrev pub naming_in : Naming → Option ℕ
-naming_in (Entry n) = some n
-naming_in Nothing = none
+abbrev pub naming_in : Option ℕ → Math.Option ℕ
+naming_in (Some n) = Math.some n
+naming_in None = Math.none
 
 -- the corner on the low or on the high side of all three axes
 abbrev pub corner_in : rules.Shape → Bool → cells.Triple

@@ -1,16 +1,18 @@
 // One cube's vertices: 24 of 8 words, or of 12 with colour, each word the bits of an f32.
 #![tactic(auto)]
 
-ghost use Rattle.std.specs.Prelude.{◌≡◌, cond, not, ◌&&◌, [], ◌++◌, ℕ, ◌+◌, ◌-◌, ◌*◌, ◌/◌, ◌<◌, ◌≤◌, length, get_or, drop, T, ltb};
-ghost use Rattle.std.proofs.Math.Option.{some};
+ghost use Rattle.std.specs.Prelude.{◌≡◌, cond, not, ◌&&◌, [], ◌++◌, ℕ, ◌+◌, ◌-◌, ◌*◌, ◌/◌, ◌<◌, ◌≤◌, length, get_or, drop, T, ltb, IfSome};
 ghost use Rattle.rules.specs.Lists.{each, every, lowest, table};
+ghost use Rattle.rules.specs.Cells.{along};
 ghost use Rattle.rules.specs.Floats.{finite, finite3};
 ghost use Rattle.rules.specs.Cube.{floats_of, is_high, is_end, last_naming, uv_in, atlas_along, axes, normal_of, cube_word, cube_words, cube_triangles};
-ghost use Rattle.rules.specs.Answers.{entries, bad_tile, bad_atlas};
+ghost use Rattle.rules.specs.Answers.{entries, bad_tile, bad_atlas, BAD_TEXTURE};
+ghost use Rattle.answers.specs.Verdicts.{verdict_of};
 ghost use Rattle.floats.specs.Triples.{triple_of};
-ghost use Rattle.voxel_mesh.specs.Outcome.{shape_of, verdict_of, verdict_in, Cubes, Accepted};
-ghost use Rattle.voxel_mesh.specs.Parts.{naming_in, corner_in, Tiled, Cornered, part_word};
+ghost use Rattle.voxel_mesh.specs.Outcome.{shape_of, verdict_in, Cubes, Accepted};
+ghost use Rattle.voxel_mesh.specs.Parts.{naming_in, corner_in, tile_word, Tiled, Cornered, part_word};
 
+use answers::{Refusal, Verdict, refuse_if, refuse_lowest};
 use floats::{Triple, corner_word, is_finite_bits, uv_word};
 use vav::write_four;
 
@@ -25,16 +27,6 @@ pub struct Shape {
     pub coloured: bool,
     pub colour: u32,
     pub alpha: u32,
-}
-
-// What the call answers.
-#[derive(Clone, Copy)]
-pub enum Cubed {
-    Done,
-    BadNumber,
-    BadAtlas,
-    BadFace(usize),
-    ShortRoom,
 }
 
 // Bit v: vertex v is on the high side of x, y, z.
@@ -128,20 +120,31 @@ impl Shape {
             self.atlas_height
         }
     }
+
+    // The corner on the low or on the high side of all three axes.
+    fn corner(self, high: bool) -> Triple
+        requires { T (finite3 (triple_of self.d)) × T (finite3 (triple_of self.centre)) }
+        ensures { triple_of result ≡ corner_in (shape_of self []) high }
+    {
+        let d = self.d;
+        let centre = self.centre;
+        Triple {
+            x: corner_word(high, d.x, centre.x),
+            y: corner_word(high, d.y, centre.y),
+            z: corner_word(high, d.z, centre.z),
+        }
+    }
 }
 
 // Whether the tiles of the whole entries are below 4,096.
 fn has_tiles(texture: &[u32]) -> bool
     ensures { result ≡ every (entries texture.now) (λ i. not (bad_tile texture.now i)) }
 {
-    let n = texture.len() / 3;
     let mut ok = true;
-    let mut i: usize = 0;
-    while i < n {
+    for i in 0..texture.len() / 3 {
         let a = texture[3 * i + 1];
         let b = texture[3 * i + 2];
         ok = ok & !((4095 < a) | (4095 < b));
-        i += 1;
     }
     ok
 }
@@ -154,79 +157,22 @@ fn is_bad_atlas(shape: Shape, texture: &[u32]) -> bool
     (wide < 1) | (4096 < wide) | ((tall < 1) | (4096 < tall)) | !has_tiles(texture)
 }
 
-// The lowest whole entry whose face is over 5, or their number.
-fn lowest_bad_face(texture: &[u32]) -> usize
-    ensures { result ≡ lowest (entries texture.now) (λ i. ltb 5 (get_or texture.now (3 * i) 0)) }
+// BAD_TEXTURE: the lowest whole entry with a bad face, else a list of another length than six entries'.
+fn texture_verdict(texture: &[u32]) -> Verdict
+    ensures { verdict_of result ≡ BAD_TEXTURE texture.now }
 {
-    let n = texture.len() / 3;
-    let mut i: usize = 0;
-    while i < n {
-        if 5 < texture[3 * i] {
-            return i;
-        }
-        i += 1;
-    }
-    i
+    refuse_lowest(Refusal::BadFace, texture.len() / 3, |i| 5 < texture[3 * i])?;
+    refuse_if(texture.len() != 18, Refusal::BadFace, 6)
 }
 
 // The refusals in their order, for room for that many words.
-fn verdict(shape: Shape, texture: &[u32], room: usize) -> Cubed
+fn verdict(shape: Shape, texture: &[u32], room: usize) -> Verdict
     ensures { verdict_of result ≡ verdict_in (shape_of shape texture.now) room }
 {
-    let numbers = shape.has_numbers();
-    let bad_atlas = is_bad_atlas(shape, texture);
-    if !numbers {
-        return Cubed::BadNumber;
-    }
-    if bad_atlas {
-        return Cubed::BadAtlas;
-    }
-    let bad = lowest_bad_face(texture);
-    if bad < texture.len() / 3 {
-        return Cubed::BadFace(bad);
-    }
-    if texture.len() != 18 {
-        return Cubed::BadFace(6);
-    }
-    if room < 24 * floats_of(shape.coloured) {
-        return Cubed::ShortRoom;
-    }
-    Cubed::Done
-}
-
-// Which entry of a texture names a face.
-#[derive(Clone, Copy)]
-enum Naming {
-    Entry(usize),
-    Nothing,
-}
-
-// The last entry that names the face.
-fn last_naming(texture: &[u32], face: usize) -> Naming
-    requires { (length texture.now ≡ 18) × (face < 6) }
-    ensures { naming_in result ≡ last_naming texture.now face 6 }
-{
-    let mut i: usize = 0;
-    while i < 6 {
-        let n = 5 - i;
-        if texture[3 * n] == face as u32 {
-            return Naming::Entry(n);
-        }
-        i += 1;
-    }
-    Naming::Nothing
-}
-
-// Where the tile of an entry, or of an unnamed face, starts or ends, along u (0) or v (1).
-fn uv_at(shape: Shape, texture: &[u32], naming: Naming, end: bool, axis: usize) -> u32
-    requires { Accepted (shape_of shape texture.now) × (axis < 2) × ((n : ℕ) → naming_in naming ≡ some n → n < 6) }
-    ensures { result ≡ uv_in (shape_of shape texture.now) (naming_in naming) end axis }
-{
-    let atlas = shape.atlas_along(axis);
-    match naming {
-        Naming::Entry(n) => uv_word(end, true, texture[3 * n + 1 + axis], atlas, shape.padding),
-        Naming::Nothing => uv_word(end, false, 0, atlas, shape.padding),
-    }
+    refuse_if(!shape.has_numbers(), Refusal::BadNumber, 0)?;
+    refuse_if(is_bad_atlas(shape, texture), Refusal::BadAtlas, 0)?;
+    texture_verdict(texture)?;
+    refuse_if(room < 24 * floats_of(shape.coloured), Refusal::ShortRoom, 0)
 }
 
 // Where the tile of a face starts and ends: left and right along u, top and bottom along v.
@@ -238,107 +184,150 @@ struct Tile {
     bottom: u32,
 }
 
-fn tile_of(shape: Shape, texture: &[u32], face: usize) -> Tile
-    requires { Accepted (shape_of shape texture.now) × (face < 6) }
-    ensures { Tiled (shape_of shape texture.now) face result }
-{
-    let naming = last_naming(texture, face);
-    Tile {
-        left: uv_at(shape, texture, naming, false, 0),
-        right: uv_at(shape, texture, naming, true, 0),
-        top: uv_at(shape, texture, naming, false, 1),
-        bottom: uv_at(shape, texture, naming, true, 1),
+impl Tile {
+    // Its end or its start, along u (0) or v (1).
+    fn word(self, end: bool, axis: usize) -> u32
+        ensures { result ≡ tile_word self end axis }
+    {
+        match (axis, end) {
+            (0, true) => self.right,
+            (0, false) => self.left,
+            (_, true) => self.bottom,
+            (_, false) => self.top,
+        }
     }
 }
 
-// The corner on the low or on the high side of all three axes.
-fn corner_at(shape: Shape, high: bool) -> Triple
-    requires { T (finite3 (triple_of shape.d)) × T (finite3 (triple_of shape.centre)) }
-    ensures { triple_of result ≡ corner_in (shape_of shape []) high }
-{
-    let d = shape.d;
-    let centre = shape.centre;
-    Triple {
-        x: corner_word(high, d.x, centre.x),
-        y: corner_word(high, d.y, centre.y),
-        z: corner_word(high, d.z, centre.z),
-    }
-}
-
-fn pick(on: bool, a: u32, b: u32) -> u32
-    ensures { result ≡ cond on a b }
-{
-    if on { a } else { b }
-}
-
-// Writes a vertex from the cube's two corners and its face's tile.
-fn write_vertex(out: &mut [u32], shape: Shape, low: Triple, high: Triple, tile: Tile, vertex: usize)
-    requires { (vertex < 24) × (length out.old ≡ floats_of shape.coloured) }
-    ensures { out.new ≡ table (length out.old) (part_word shape low high tile vertex) }
-{
-    let face = vertex / 4;
-    let x = pick(is_high(vertex, 0), high.x, low.x);
-    let y = pick(is_high(vertex, 1), high.y, low.y);
-    let z = pick(is_high(vertex, 2), high.z, low.z);
-    let u = pick(is_end(vertex, 0), tile.right, tile.left);
-    let v = pick(is_end(vertex, 1), tile.bottom, tile.top);
-    write_four(out, 0, x, y, z, normal_word(face, 0));
-    write_four(out, 4, normal_word(face, 1), normal_word(face, 2), u, v);
-    if shape.coloured {
-        let colour = shape.colour;
-        write_four(out, 8, colour, colour, colour, shape.alpha);
-    }
-}
-
-// Writes the four vertices of a face.
-fn write_face(
-    out: &mut [u32],
+// A shape that nothing speaks against, with its texture and its corners on the low and on the high side of all three axes.
+#[derive(Clone, Copy)]
+struct Cube<'a> {
     shape: Shape,
-    texture: &[u32],
+    texture: &'a [u32],
     low: Triple,
     high: Triple,
-    face: usize,
-)
-    requires { Accepted (shape_of shape texture.now) × (face < 6) × (length out.old ≡ 4 * floats_of shape.coloured)
-        × Cornered (shape_of shape texture.now) low high }
-    ensures { out.new ≡ each 4 (4 * face) (λ v. table (floats_of shape.coloured) (cube_word (shape_of shape texture.now) v)) }
-{
-    let floats = floats_of(shape.coloured);
-    let tile = tile_of(shape, texture, face);
-    let mut i: usize = 0;
-    while i < 4 {
-        let at = i * floats;
-        let end = at + floats;
-        write_vertex(&mut out[at..end], shape, low, high, tile, 4 * face + i);
-        i += 1;
-    }
+    ghost is_accepted: { Accepted (shape_of shape texture.now) },
+    ghost is_cornered: { Cornered (shape_of shape texture.now) low high },
 }
 
-fn write_cube(shape: Shape, texture: &[u32], out: &mut [u32])
-    requires { Accepted (shape_of shape texture.now) × (24 * floats_of shape.coloured ≤ length out.old) }
-    ensures { out.new ≡
-        cube_words (shape_of shape texture.now) ++ drop (24 * floats_of shape.coloured) out.old }
-{
-    let words = 4 * floats_of(shape.coloured);
-    let low = corner_at(shape, false);
-    let high = corner_at(shape, true);
-    let mut face: usize = 0;
-    while face < 6 {
-        let at = face * words;
-        let end = at + words;
-        write_face(&mut out[at..end], shape, texture, low, high, face);
-        face += 1;
+impl<'a> Cube<'a> {
+    fn new(shape: Shape, texture: &'a [u32]) -> Self
+        requires { Accepted (shape_of shape texture.now) }
+        ensures { (result.shape ≡ shape) × (result.texture.now ≡ texture.now) }
+    {
+        let low = shape.corner(false);
+        let high = shape.corner(true);
+        Cube {
+            shape,
+            texture,
+            low,
+            high,
+        }
+    }
+
+    // The last entry that names the face.
+    fn last_naming(self, face: usize) -> Option<usize>
+        requires { face < 6 }
+        ensures is_last { naming_in result ≡ last_naming self.entry.texture.now face 6 }
+        ensures below { IfSome result (λ n. n < 6) }
+    {
+        for n in (0..6).rev() {
+            if self.texture[3 * n] == face as u32 {
+                return Some(n);
+            }
+        }
+        None
+    }
+
+    // Where the tile of an entry, or of an unnamed face, starts or ends, along u (0) or v (1).
+    fn uv(self, naming: Option<usize>, end: bool, axis: usize) -> u32
+        requires { (axis < 2) × IfSome naming (λ n. n < 6) }
+        ensures { result ≡ uv_in (shape_of self.entry.shape self.entry.texture.now) (naming_in naming) end axis }
+    {
+        let atlas = self.shape.atlas_along(axis);
+        let padding = self.shape.padding;
+        match naming {
+            Some(n) => uv_word(end, Some(self.texture[3 * n + 1 + axis]), atlas, padding),
+            None => uv_word(end, None, atlas, padding),
+        }
+    }
+
+    fn tile(self, face: usize) -> Tile
+        requires { face < 6 }
+        ensures { Tiled (shape_of self.entry.shape self.entry.texture.now) face result }
+    {
+        let naming = self.last_naming(face);
+        Tile {
+            left: self.uv(naming, false, 0),
+            right: self.uv(naming, true, 0),
+            top: self.uv(naming, false, 1),
+            bottom: self.uv(naming, true, 1),
+        }
+    }
+
+    // A vertex's coordinate on one axis.
+    fn coordinate(self, vertex: usize, axis: usize) -> u32
+        requires { (vertex < 24) × (axis < 3) }
+        ensures { result ≡ cond (is_high vertex axis) (along (triple_of self.entry.high) axis) (along (triple_of self.entry.low) axis) }
+    {
+        if is_high(vertex, axis) {
+            self.high.along(axis)
+        } else {
+            self.low.along(axis)
+        }
+    }
+
+    // Writes a vertex from the cube's two corners and its face's tile.
+    fn write_vertex(self, out: &mut [u32], tile: Tile, vertex: usize)
+        requires { (vertex < 24) × (length out.old ≡ floats_of self.shape.coloured) }
+        ensures { out.new ≡ table (length out.old) (part_word self.entry.shape self.entry.low self.entry.high tile vertex) }
+    {
+        let face = vertex / 4;
+        let x = self.coordinate(vertex, 0);
+        let y = self.coordinate(vertex, 1);
+        let z = self.coordinate(vertex, 2);
+        let u = tile.word(is_end(vertex, 0), 0);
+        let v = tile.word(is_end(vertex, 1), 1);
+        write_four(out, 0, x, y, z, normal_word(face, 0));
+        write_four(out, 4, normal_word(face, 1), normal_word(face, 2), u, v);
+        if self.shape.coloured {
+            let colour = self.shape.colour;
+            write_four(out, 8, colour, colour, colour, self.shape.alpha);
+        }
+    }
+
+    // Writes the four vertices of a face.
+    fn write_face(self, out: &mut [u32], face: usize)
+        requires { (face < 6) × (length out.old ≡ 4 * floats_of self.shape.coloured) }
+        ensures { out.new ≡ each 4 (4 * face) (λ v. table (floats_of self.entry.shape.coloured) (cube_word (shape_of self.entry.shape self.entry.texture.now) v)) }
+    {
+        let floats = floats_of(self.shape.coloured);
+        let tile = self.tile(face);
+        for i in 0..4 {
+            let at = i * floats;
+            let end = at + floats;
+            self.write_vertex(&mut out[at..end], tile, 4 * face + i);
+        }
+    }
+
+    fn write(self, out: &mut [u32])
+        requires { 24 * floats_of self.shape.coloured ≤ length out.old }
+        ensures { out.new ≡
+            cube_words (shape_of self.entry.shape self.entry.texture.now) ++ drop (24 * floats_of self.entry.shape.coloured) out.old }
+    {
+        let words = 4 * floats_of(self.shape.coloured);
+        for face in 0..6 {
+            let at = face * words;
+            let end = at + words;
+            self.write_face(&mut out[at..end], face);
+        }
     }
 }
 
 // Writes the vertices of one cube at the start of the room, or refuses and writes nothing.
-pub fn generate_voxel_mesh(shape: Shape, texture: &[u32], out: &mut [u32]) -> Cubed
+pub fn generate_voxel_mesh(shape: Shape, texture: &[u32], out: &mut [u32]) -> Verdict
     ensures { Cubes (shape_of shape texture.now) out.old result out.new }
 {
-    let room = out.len();
-    let answer = verdict(shape, texture, room);
-    if let Cubed::Done = answer {
-        write_cube(shape, texture, out);
-    }
-    answer
+    verdict(shape, texture, out.len())?;
+    Cube::new(shape, texture).write(out);
+    Ok(())
 }

@@ -7,9 +7,3 @@ float_from_bits-size c = no_nan_bits _ c.requires.0
 
 pub float_from_bits-middle : goal.float_from_bits-middle
 float_from_bits-middle c = no_nan_bits _ c.requires.1
-
-pub returns-then-high : goal.returns-then-high
-returns-then-high c = simp c.if-high.true
-
-pub returns-else-high : goal.returns-else-high
-returns-else-high c = simp c.if-high.false

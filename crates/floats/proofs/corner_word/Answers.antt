@@ -7,8 +7,7 @@ use Rattle.floats.proofs.Corners.{corner_number}
 use Rattle.floats.proofs.corner_word.Goals as goal
 
 pub float_to_bits-result : goal.float_to_bits-result
-float_to_bits-result c = rw c.corner.ensures (no_nan (corner_number c.before.args.high _ _ c.before.requires.0
-    c.before.requires.1))
+float_to_bits-result c = rw c.corner.ensures (no_nan (corner_number c.args.high _ _ c.requires.0 c.requires.1))
 
 pub returns : goal.returns
 unfolding corner_word

@@ -2,21 +2,18 @@
 use mathlib.Core.Path.{refl}
 use native.Mathlib.Omega.{arith}
 use Rattle.rules.specs.Types.{moved_word}
-use Rattle.floats.proofs.Numbers.{bits_finite, no_nan_bits, no_nan, whole_finite, whole_casts, mul_number, add_number}
+use Rattle.floats.proofs.Numbers.{bits_finite, no_nan_bits, no_nan, whole_finite, mul_number, add_number}
 use Rattle.floats.proofs.moved_word.Goals as goal
 
 pub returns : goal.returns
 unfolding moved_word
 returns c = refl
 
-pub int_to_float-shift : goal.int_to_float-shift
-int_to_float-shift c = whole_casts _ (omega arith)
-
 pub float_from_bits-shift : goal.float_from_bits-shift
-float_from_bits-shift c = no_nan_bits _ c.before.requires.2
+float_from_bits-shift c = no_nan_bits _ c.requires.2
 
 pub float_from_bits-result : goal.float_from_bits-result
-float_from_bits-result c = no_nan_bits _ c.before.requires.0
+float_from_bits-result c = no_nan_bits _ c.requires.0
 
 pub float_to_bits-result : goal.float_to_bits-result
-float_to_bits-result c = let t = c.before in no_nan (add_number (bits_finite _ t.requires.0) (mul_number (whole_finite _ (omega arith)) (bits_finite _ t.requires.2)))
+float_to_bits-result c = no_nan (add_number (bits_finite _ c.requires.0) (mul_number (whole_finite _ (omega arith)) (bits_finite _ c.requires.2)))

@@ -1,27 +1,24 @@
-use mathlib.Core.Path.{◌≡◌, refl, ap, ◌∙◌}
+use mathlib.Core.Path.{◌≡◌, ap, ◌∙◌}
 use mathlib.Core.List.{List}
 use Prim.Native.Nat.{ℕ, ◌+◌, ◌*◌}
-use lib.ListN.{get_or, set, length-set}
+use lib.ListN.{get_or, set}
 use Rattle.vav.proofs.Laws.{put_none, copy_more}
 use native.Mathlib.Omega.{arith}
 use Rattle.vav.proofs.copy_down.Goals as goal
 
 pub loop-i-init : goal.loop-i-init
-loop-i-init c = (omega arith, put_none (c.args.n * c.args.to) c.args.list.now, refl)
+loop-i-init c = put_none (c.args.n * c.args.to) c.args.list.now
 
 pub loop-i-preserved : goal.loop-i-preserved
 loop-i-preserved c =
-    let l = c.before.before.loop-i in
-    let a = c.before.before.before.args in
+    let l = c.loop-i in
+    let a = c.args in
     let start = a.n * a.from in
-    let at = a.n * a.to in (
-      omega arith,
-      ap (λ (x : List ℕ). set x (at + l.i) (get_or x (start + l.i) 0)) l.invariant.1
-          ∙ copy_more start at l.i a.list.now (omega arith) (omega arith),
-      length-set l.list (at + l.i) (get_or l.list (start + l.i) 0) ∙ l.invariant.2,
-    )
+    let at = a.n * a.to in
+    ap (λ (x : List ℕ). set x (at + l.i) (get_or x (start + l.i) 0)) l.invariant
+    ∙ copy_more start at l.i a.list.now (omega arith) (omega arith)
 
 pub returns : goal.returns
 returns c =
-    let e : c.before.loop-i.i ≡ c.before.before.args.n * c.before.before.args.rows = omega arith in
-    rw e at c.before.loop-i.invariant.1
+    let e : c.loop-i.i ≡ c.args.n * c.args.rows = omega arith in
+    rw e at c.loop-i.invariant
