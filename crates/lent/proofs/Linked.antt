@@ -12,10 +12,6 @@ use Rattle.rules.proofs.Checking.{then_fine, lowest_fine, names_of}
 
 -- ---- filled slots, one by one
 
-pub byte_le : (b : Bool) → bool_byte b ≤ 1
-byte_le true = omega arith
-byte_le false = omega arith
-
 pub filled_none : (B : Lists) → slots_filled 0 B ≡ 0
 unfolding count
 filled_none B = refl
@@ -28,17 +24,6 @@ filled_more B k h = rw (add-one, within B.slots k 0 NONE) (one (eqb (slot_at B k
     one : (b : Bool) (n : ℕ) → n + cond (not b) 1 0 + bool_byte b ≡ n + 1
     one true n = omega arith
     one false n = omega arith
-
--- ---- the two halves of BAD-LINKS
-
-pub links_refused : (n : ℕ) (B : Lists) (Q r : ℕ) → r ≡ lowest Q (bad_link n B) → r < Q → refuse 11 r ≡ BAD_LINKS n B Q
-unfolding ◌then◌ refuse_if BAD_LINKS
-links_refused n B Q r e h = rw (sym e, lt-ltb r Q)
-
-pub links_counted : (n : ℕ) (B : Lists) (Q r f : ℕ) → r ≡ lowest Q (bad_link n B) → Q ≤ r → f ≡ slots_filled (6 * n) B
-    → refuse_if (ltb Q f) 11 Q ≡ BAD_LINKS n B Q
-unfolding ◌then◌ refuse_if BAD_LINKS
-links_counted n B Q r f e h k = rw (sym e, le-ltb r Q, k)
 
 -- ---- links that pass
 
