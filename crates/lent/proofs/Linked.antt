@@ -1,10 +1,10 @@
 -- Laws of links and slots. Assumes nothing.
-use Rattle.std.proofs.Common.{◌≡◌, ℕ, ◌+◌, ◌*◌, ◌<◌, ◌≤◌, Bool, true, false, cond, not, ◌||◌, eqb, ltb, leb, length, get_or, sym, refl, add-one, arith, ltb-false, le-ltb, lt-ltb, eqb-true, leb-false}
+use Rattle.std.proofs.Common.{◌≡◌, ℕ, ◌+◌, ◌*◌, ◌<◌, ◌≤◌, Bool, true, false, cond, not, ◌||◌, eqb, ltb, leb, length, get_or, refl, add-one, arith, ltb-false, eqb-true, leb-false}
 use mir.Val.{bool_byte}
-use Rattle.rules.specs.Lists.{table, count, lowest}
+use Rattle.rules.specs.Lists.{table, count}
 use Rattle.rules.specs.Cells.{code_in, cell_in, first_vertex}
 use Rattle.rules.specs.Mesh.{Lists, NONE}
-use Rattle.rules.specs.Answers.{fine, refuse, ◌then◌, refuse_if, refuse_lowest, slot_at, bad_link, slots_filled, BAD_LINKS}
+use Rattle.rules.specs.Answers.{fine, refuse_if, refuse_lowest, slot_at, bad_link, slots_filled, BAD_LINKS}
 use Rattle.rules.specs.Check.{linked}
 use Rattle.rules.proofs.ListLaws.{or_false, not_true, within, length-table}
 use Rattle.rules.proofs.Index.{full_le}

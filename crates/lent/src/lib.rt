@@ -1,8 +1,7 @@
 // The tests of what is lent that mesh, update and check share, each with its refusal.
 #![tactic(auto)]
 
-ghost use Rattle.std.specs.Prelude.{◌≡◌, ℕ, ◌*◌, ◌<◌, ◌≤◌, min, length, nat_le, nat_lt, slice_index};
-ghost use Rattle.rules.specs.Lists.{lowest};
+ghost use Rattle.std.specs.Prelude.{◌≡◌, ℕ, ◌<◌, ◌≤◌, length, slice_index};
 ghost use Rattle.rules.specs.Types.{Types};
 ghost use Rattle.rules.specs.Mesh.{Lists};
 ghost use Rattle.rules.specs.Answers.{◌then◌, BAD_SIZE, BAD_GRID, BAD_OUTER, BAD_CELL, SHORT_SLOTS, room_of, BAD_COUNT};
@@ -16,7 +15,6 @@ use answers::{Refusal, Verdict, refuse_if, refuse_lowest};
 use terms::{Lengths, Scene};
 use types::types_verdict;
 use util::Dimensions;
-use voxel_mesh::floats_of;
 
 pub mod links; // links.rt: the links, with their slots
 pub mod triangles; // triangles.rt: the triangles
