@@ -29,36 +29,19 @@ fn filled_set(slots: &[u32], cell: usize) -> u8
     requires { 6 * cell + 6 ≤ length slots.now }
     ensures { result ≡ filled_set slots.now cell }
 {
-    let at = 6 * cell;
-    side_set(
-        slots[at] != NONE,
-        slots[at + 1] != NONE,
-        slots[at + 2] != NONE,
-        slots[at + 3] != NONE,
-        slots[at + 4] != NONE,
-        slots[at + 5] != NONE,
-    )
+    side_set(|face| slots[6 * cell + face.number() as usize] != NONE)
 }
 
 // The lowest face that one side set has and the other has not, or 6.
 fn lowest_unlike(a: u8, b: u8) -> usize
     ensures { result ≡ lowest 6 (λ f. unlike (has a f) (has b f)) }
 {
-    let mut face: usize = 0;
-    while face < 6 {
+    for face in 0..6 {
         if (a >> face) % 2 != (b >> face) % 2 {
             return face;
         }
-        face += 1;
     }
-    face
-}
-
-// A weight, or none.
-fn weight_if(on: bool, weight: u32) -> u32
-    ensures { (result ≡ cond on weight 0) × (result ≤ weight) }
-{
-    weight * (on as u32)
+    6
 }
 
 // Which of 24 slots are filled, a bit each. No turn branches, so that the compiler reads several slots at once.
@@ -67,20 +50,10 @@ fn filled_bits(slots: &[u32], at: usize) -> u32
     ensures { result ≡ bits (λ k. is_filled slots.now (at + k)) 24 }
 {
     let mut filled: u32 = 0;
-    let mut weight: u32 = 1;
-    let mut k: usize = 0;
-    while k < 24 {
-        filled += weight_if(slots[at + k] != NONE, weight);
-        weight = 2 * weight;
-        k += 1;
+    for k in 0..24 {
+        filled += u32::from(slots[at + k] != NONE) << k;
     }
     filled
-}
-
-fn byte(set: u8) -> u32
-    ensures { (result ≡ set) × (result < 256) }
-{
-    set as u32
 }
 
 // Whether the side sets of four cells of a row, from x on, are those of their filled slots.
@@ -91,10 +64,10 @@ fn are_alike(sets: &[u8], slots: &[u32], first: usize, x: usize) -> bool
     if sets.len() < x + 4 {
         return false;
     }
-    let drawn = byte(sets[x])
-        + 64 * byte(sets[x + 1])
-        + 4_096 * byte(sets[x + 2])
-        + 262_144 * byte(sets[x + 3]);
+    let drawn = u32::from(sets[x])
+        + 64 * u32::from(sets[x + 1])
+        + 4_096 * u32::from(sets[x + 2])
+        + 262_144 * u32::from(sets[x + 3]);
     drawn == filled_bits(slots, 6 * (first + x))
 }
 

@@ -1,20 +1,16 @@
 -- Laws of links and slots. Assumes nothing.
-use Rattle.std.proofs.Common.{◌≡◌, ℕ, ◌+◌, ◌*◌, ◌<◌, ◌≤◌, Bool, true, false, cond, not, ◌||◌, eqb, ltb, leb, length, get_or, sym, refl, add-one, arith, ltb-false, le-ltb, lt-ltb, eqb-true, leb-false}
+use Rattle.std.proofs.Common.{◌≡◌, ℕ, ◌+◌, ◌*◌, ◌<◌, ◌≤◌, Bool, true, false, cond, not, ◌||◌, eqb, ltb, leb, length, get_or, refl, add-one, arith, ltb-false, eqb-true, leb-false}
 use mir.Val.{bool_byte}
-use Rattle.rules.specs.Lists.{table, count, lowest}
+use Rattle.rules.specs.Lists.{table, count}
 use Rattle.rules.specs.Cells.{code_in, cell_in, first_vertex}
 use Rattle.rules.specs.Mesh.{Lists, NONE}
-use Rattle.rules.specs.Answers.{fine, refuse, ◌then◌, refuse_if, refuse_lowest, slot_at, bad_link, slots_filled, BAD_LINKS}
+use Rattle.rules.specs.Answers.{fine, refuse_if, refuse_lowest, slot_at, bad_link, slots_filled, BAD_LINKS}
 use Rattle.rules.specs.Check.{linked}
 use Rattle.rules.proofs.ListLaws.{or_false, not_true, within, length-table}
 use Rattle.rules.proofs.Index.{full_le}
 use Rattle.rules.proofs.Checking.{then_fine, lowest_fine, names_of}
 
 -- ---- filled slots, one by one
-
-pub byte_le : (b : Bool) → bool_byte b ≤ 1
-byte_le true = omega arith
-byte_le false = omega arith
 
 pub filled_none : (B : Lists) → slots_filled 0 B ≡ 0
 unfolding count
@@ -28,17 +24,6 @@ filled_more B k h = rw (add-one, within B.slots k 0 NONE) (one (eqb (slot_at B k
     one : (b : Bool) (n : ℕ) → n + cond (not b) 1 0 + bool_byte b ≡ n + 1
     one true n = omega arith
     one false n = omega arith
-
--- ---- the two halves of BAD-LINKS
-
-pub links_refused : (n : ℕ) (B : Lists) (Q r : ℕ) → r ≡ lowest Q (bad_link n B) → r < Q → refuse 11 r ≡ BAD_LINKS n B Q
-unfolding ◌then◌ refuse_if BAD_LINKS
-links_refused n B Q r e h = rw (sym e, lt-ltb r Q)
-
-pub links_counted : (n : ℕ) (B : Lists) (Q r f : ℕ) → r ≡ lowest Q (bad_link n B) → Q ≤ r → f ≡ slots_filled (6 * n) B
-    → refuse_if (ltb Q f) 11 Q ≡ BAD_LINKS n B Q
-unfolding ◌then◌ refuse_if BAD_LINKS
-links_counted n B Q r f e h k = rw (sym e, le-ltb r Q, k)
 
 -- ---- links that pass
 

@@ -1,8 +1,8 @@
 -- Laws of triangles. Assumes nothing.
-use Rattle.std.proofs.Common.{◌≡◌, ℕ, zero, suc, ◌+◌, ◌-◌, ◌*◌, ◌%◌, ◌^◌, ◌<◌, ◌≤◌, Bool, true, false, not, ◌&&◌, eqb, List, [], ◌∷◌, length, get_or, take, sym, refl, ap, ◌∙◌, zero-add, arith, length-drop, length-take, get_or-drop, get_or-take, eq-eqb, eqb-true}
-use Rattle.rules.specs.Lists.{row, every, lowest, same}
+use Rattle.std.proofs.Common.{◌≡◌, ℕ, zero, suc, ◌+◌, ◌-◌, ◌*◌, ◌%◌, ◌^◌, ◌<◌, ◌≤◌, Bool, true, false, ◌&&◌, eqb, List, [], ◌∷◌, length, get_or, take, sym, refl, ap, ◌∙◌, zero-add, arith, length-drop, length-take, get_or-drop, get_or-take, eq-eqb, eqb-true}
+use Rattle.rules.specs.Lists.{row, every, same}
 use Rattle.rules.specs.Mesh.{pattern}
-use Rattle.rules.proofs.ListLaws.{every_true, same_true, lowest_none}
+use Rattle.rules.proofs.ListLaws.{every_true, same_true}
 use Rattle.lent.specs.Patterns.{goes_on}
 
 -- ---- six words
@@ -49,13 +49,10 @@ module _ (xs : List ℕ) (Q : ℕ) (room : 6 * Q ≤ length xs) (few : Q ≤ 2 ^
       let next : get_or xs (6 * q + j + 6) 0 ≡ (get_or xs (6 * q + j) 0 + 4) % 2 ^ 32 = eqb-true _ _ (every_true (6 * Q - 6) (goes_on xs) rest (6 * q + j) (omega arith)) in
       rw at (omega (arith, word_is q j (omega arith) l, below_four j l))
 
-  patterned : (q : ℕ) → q < Q → same (row 6 xs q) (pattern q) ≡ true
+  -- LAW: where the first row is right and each word goes on, each quad's triangles are the pattern
+  pub patterned : (q : ℕ) → q < Q → same (row 6 xs q) (pattern q) ≡ true
   patterned q h =
       let is : (j w : ℕ) → j < 6 → 4 * q + get_or (pattern 0) j 0 ≡ w → eqb (get_or (row 6 xs q) j 0) w ≡ true =
       λ j w l e. eq-eqb (get_or (row 6 xs q) j 0) w (rw (get_or-take, get_or-drop) (word_is q j h l ∙ e)) in
       sym (same_pattern (row 6 xs q) q (simp (length-take, length-drop) (omega arith)))
       ∙ rw (is 0 (4 * q) (omega arith) (omega arith), is 1 (4 * q + 1) (omega arith) refl, is 2 (4 * q + 2) (omega arith) refl, is 3 (4 * q + 3) (omega arith) refl, is 4 (4 * q + 2) (omega arith) refl, is 5 (4 * q + 1) (omega arith) refl)
-
-  -- LAW: where the first row is right and each word goes on, no quad's triangles are bad
-  pub none_bad : lowest Q (λ q. not (same (row 6 xs q) (pattern q))) ≡ Q
-  none_bad = lowest_none Q _ (λ q h. ap not (patterned q h))

@@ -1,8 +1,7 @@
 // The tests of what is lent that mesh, update and check share, each with its refusal.
 #![tactic(auto)]
 
-ghost use Rattle.std.specs.Prelude.{◌≡◌, ℕ, ◌*◌, ◌<◌, ◌≤◌, min, length, nat_le, nat_lt, slice_index};
-ghost use Rattle.rules.specs.Lists.{lowest};
+ghost use Rattle.std.specs.Prelude.{◌≡◌, ℕ, ◌<◌, ◌≤◌, length, slice_index};
 ghost use Rattle.rules.specs.Types.{Types};
 ghost use Rattle.rules.specs.Mesh.{Lists};
 ghost use Rattle.rules.specs.Answers.{◌then◌, BAD_SIZE, BAD_GRID, BAD_OUTER, BAD_CELL, SHORT_SLOTS, room_of, BAD_COUNT};
@@ -12,11 +11,10 @@ ghost use Rattle.util.specs.Grid.{size_of, Within};
 ghost use Rattle.terms.specs.Scenes.{scene_of};
 ghost use Rattle.lent.specs.Scenes.{Long};
 
-use answers::{Refusal, Verdict, is_refusal, refuse_if};
+use answers::{Refusal, Verdict, refuse_if, refuse_lowest};
 use terms::{Lengths, Scene};
 use types::types_verdict;
-use util::{Dimensions, wide};
-use voxel_mesh::floats_of;
+use util::Dimensions;
 
 pub mod links; // links.rt: the links, with their slots
 pub mod triangles; // triangles.rt: the triangles
@@ -38,74 +36,30 @@ pub fn grid_verdict(dims: Dimensions, grid: &[u8]) -> Verdict
     )
 }
 
-// The lowest position of a face over 5, or the list's length.
-fn lowest_bad_outer(outer: &[u8]) -> usize
-    ensures { result ≡ lowest (length outer.now) (λ i. nat_lt 5 (slice_index outer.now i)) }
-{
-    let mut i: usize = 0;
-    while i < outer.len() {
-        if 5 < outer[i] {
-            return i;
-        }
-        i += 1;
-    }
-    i
-}
-
 pub fn outer_verdict(outer: &[u8]) -> Verdict
     ensures { verdict_of result ≡ BAD_OUTER outer.now }
 {
-    let bad = lowest_bad_outer(outer);
-    refuse_if(bad < outer.len(), Refusal::BadFace, bad)
-}
-
-fn larger(a: u8, b: u8) -> u8
-    ensures { (a ≤ result) × (b ≤ result) }
-{
-    if a <= b { b } else { a }
+    refuse_lowest(Refusal::BadFace, outer.len(), |i| 5 < outer[i])
 }
 
 // A code that no cell's is over. No turn leaves early, so that the compiler looks at several cells at once.
 fn largest_code(grid: &[u8]) -> u8
     ensures { (c : ℕ) → c < length grid.now → slice_index grid.now c ≤ result }
 {
-    let mut most: u8 = 0;
-    let mut cell: usize = 0;
-    while cell < grid.len() {
-        most = larger(most, grid[cell]);
-        cell += 1;
-    }
-    most
-}
-
-fn find_bad_cell(types: usize, grid: &[u8]) -> usize
-    ensures { result ≡ lowest (length grid.now) (λ c. nat_le types (slice_index grid.now c)) }
-{
-    let mut cell: usize = 0;
-    while cell < grid.len() {
-        if types <= wide(grid[cell]) {
-            return cell;
-        }
-        cell += 1;
-    }
-    cell
-}
-
-// The lowest cell whose code is no type, or the grid's length.
-fn lowest_bad_cell(types: usize, grid: &[u8]) -> usize
-    ensures { result ≡ lowest (length grid.now) (λ c. nat_le types (slice_index grid.now c)) }
-{
-    if wide(largest_code(grid)) < types {
-        return grid.len();
-    }
-    find_bad_cell(types, grid)
+    grid.iter().copied().max().unwrap_or(0)
 }
 
 pub fn cell_verdict(types: usize, grid: &[u8]) -> Verdict
     ensures { (T : Types) → length T.kinds ≡ types → verdict_of result ≡ BAD_CELL T grid.now }
 {
-    let bad = lowest_bad_cell(types, grid);
-    refuse_if(bad < grid.len(), Refusal::BadCell, bad)
+    if usize::from(largest_code(grid)) < types {
+        return Ok(());
+    }
+    refuse_lowest(
+        Refusal::BadCell,
+        grid.len(),
+        |cell| types <= usize::from(grid[cell]),
+    )
 }
 
 pub fn slots_verdict(dims: Dimensions, slots: usize) -> Verdict
@@ -119,21 +73,15 @@ pub fn slots_verdict(dims: Dimensions, slots: usize) -> Verdict
     )
 }
 
-fn least(a: usize, b: usize) -> usize
-    ensures { result ≡ min a b }
-{
-    if a <= b { a } else { b }
-}
-
 // Room in quads: the least over all lists, the colour list counted only with colour.
 pub fn room_of(coloured: bool, lengths: Lengths) -> usize
     ensures { (B : Lists) → Long B lengths → result ≡ room_of coloured B }
 {
-    let indexed = least(lengths.triangles / 6, lengths.links);
-    let faced = least(lengths.normals / 12, least(lengths.uvs / 8, indexed));
-    let others = least(lengths.positions / 12, faced);
+    let indexed = (lengths.triangles / 6).min(lengths.links);
+    let faced = (lengths.normals / 12).min((lengths.uvs / 8).min(indexed));
+    let others = (lengths.positions / 12).min(faced);
     if coloured {
-        return least(lengths.colours / 16, others);
+        return (lengths.colours / 16).min(others);
     }
     others
 }
@@ -145,69 +93,36 @@ pub fn count_verdict(coloured: bool, lengths: Lengths, count: usize) -> Verdict
 }
 
 // BAD_SIZE to SHORT_ROOM: what mesh and check ask before the mesh is looked at.
-pub fn input_verdict(
-    scene: Scene,
-    outer: &[u8],
-    grid: &[u8],
-    kinds: &[u8],
-    covers: &[u8],
-    cubes: &[u32],
-    slots: usize,
-) -> Verdict
-    ensures { (B : Lists) → length B.slots ≡ slots → verdict_of result ≡ input_verdict (scene_of scene kinds.now covers.now cubes.now) outer.now grid.now B }
+pub fn input_verdict(scene: Scene<'_>, outer: &[u8], grid: &[u8], slots: usize) -> Verdict
+    ensures { (B : Lists) → length B.slots ≡ slots → verdict_of result ≡ input_verdict (scene_of scene.entry) outer.now grid.now B }
 {
-    let dims = scene.dims;
-    let size = size_verdict(dims);
-    if is_refusal(size) {
-        return size;
-    }
-    let whole = grid_verdict(dims, grid);
-    if is_refusal(whole) {
-        return whole;
-    }
-    let typed = types_verdict(kinds, covers, cubes, scene.coloured, scene.d, scene.centre);
-    if is_refusal(typed) {
-        return typed;
-    }
-    let faced = outer_verdict(outer);
-    if is_refusal(faced) {
-        return faced;
-    }
-    let coded = cell_verdict(kinds.len(), grid);
-    if is_refusal(coded) {
-        return coded;
-    }
-    slots_verdict(dims, slots)
+    size_verdict(scene.dims)?;
+    grid_verdict(scene.dims, grid)?;
+    types_verdict(scene.types, scene.d, scene.centre)?;
+    outer_verdict(outer)?;
+    cell_verdict(scene.types.kinds.len(), grid)?;
+    slots_verdict(scene.dims, slots)
 }
 
 // BAD_SIZE to BAD_COUNT: what the check asks before the mesh is looked at.
 pub fn open_verdict(
-    scene: Scene,
+    scene: Scene<'_>,
     outer: &[u8],
     grid: &[u8],
-    kinds: &[u8],
-    covers: &[u8],
-    cubes: &[u32],
     lengths: Lengths,
     count: usize,
 ) -> Verdict
-    ensures { (B : Lists) → Long B lengths → verdict_of result ≡ open_verdict (scene_of scene kinds.now covers.now cubes.now) outer.now grid.now B count }
+    ensures { (B : Lists) → Long B lengths → verdict_of result ≡ open_verdict (scene_of scene.entry) outer.now grid.now B count }
 {
-    let told = input_verdict(scene, outer, grid, kinds, covers, cubes, lengths.slots);
-    if is_refusal(told) {
-        return told;
-    }
-    count_verdict(scene.coloured, lengths, count)
+    input_verdict(scene, outer, grid, lengths.slots)?;
+    count_verdict(scene.types.coloured, lengths, count)
 }
 
 // SHORT_ROOM and BAD_COUNT: what the update asks before the mesh is looked at.
-pub fn lent_verdict(scene: Scene, lengths: Lengths, count: usize) -> Verdict
+pub fn lent_verdict(scene: Scene<'_>, lengths: Lengths, count: usize) -> Verdict
     requires { Within (size_of scene.dims) }
-    ensures { (B : Lists) → Long B lengths → verdict_of result ≡ (SHORT_SLOTS (size_of scene.dims) B then BAD_COUNT (room_of scene.coloured B) count) }
+    ensures { (B : Lists) → Long B lengths → verdict_of result ≡ (SHORT_SLOTS (size_of scene.entry.dims) B then BAD_COUNT (room_of scene.entry.types.coloured B) count) }
 {
-    let slotted = slots_verdict(scene.dims, lengths.slots);
-    if is_refusal(slotted) {
-        return slotted;
-    }
-    count_verdict(scene.coloured, lengths, count)
+    slots_verdict(scene.dims, lengths.slots)?;
+    count_verdict(scene.types.coloured, lengths, count)
 }

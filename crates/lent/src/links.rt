@@ -1,12 +1,11 @@
 // BAD_LINKS: the test of a lent mesh's links and slots.
 ghost use Rattle.std.specs.Prelude.{◌≡◌, ℕ, ◌*◌, ◌^◌, ◌<◌, ◌≤◌, List, [], length};
-ghost use Rattle.rules.specs.Lists.{lowest};
 ghost use Rattle.rules.specs.Mesh.{Vertices, lists_of, book_of};
 ghost use Rattle.rules.specs.Answers.{bad_link, slots_filled, BAD_LINKS};
 ghost use Rattle.answers.specs.Verdicts.{verdict_of};
 ghost use Rattle.lent.specs.Scenes.{Lent};
 
-use answers::{Refusal, Verdict, refuse_if};
+use answers::{Refusal, Verdict, refuse_if, refuse_lowest};
 use face::{NONE, cell_of, code_of, key_of};
 
 // Whether the link of quad q names no face of the grid, or one whose slot is not the quad's.
@@ -18,29 +17,7 @@ fn is_bad_link(cells: u32, links: &[u32], slots: &[u32], q: usize) -> bool
     if (5 < code_of(word)) | (cells <= cell_of(word).0) {
         return true;
     }
-    let at = key_of(word) as usize;
-    wide(slots[at]) != 4 * q
-}
-
-fn wide(word: u32) -> usize
-    ensures { result ≡ word }
-{
-    word as usize
-}
-
-// The lowest of the quads with a bad link, or their count.
-fn lowest_bad_link(cells: u32, links: &[u32], slots: &[u32], count: usize) -> usize
-    requires { (6 * cells ≤ length slots.now) × (count ≤ length links.now) × (4 * count < 2 ^ 64) }
-    ensures { result ≡ lowest count (bad_link cells (book_of links.now slots.now)) }
-{
-    let mut q: usize = 0;
-    while q < count {
-        if is_bad_link(cells, links, slots, q) {
-            return q;
-        }
-        q += 1;
-    }
-    q
+    slots[key_of(word) as usize] as usize != 4 * q
 }
 
 // How many of the first n slots are filled.
@@ -49,10 +26,8 @@ fn filled_slots(slots: &[u32], n: usize) -> u32
     ensures { result ≡ slots_filled n (book_of [] slots.now) }
 {
     let mut full = n as u32;
-    let mut k: usize = 0;
-    while k < n {
-        full -= (slots[k] == NONE) as u32;
-        k += 1;
+    for slot in &slots[..n] {
+        full -= u32::from(*slot == NONE);
     }
     full
 }
@@ -61,10 +36,11 @@ pub fn links_verdict(cells: u32, links: &[u32], slots: &[u32], count: usize) -> 
     requires { Lent cells links.now slots.now count }
     ensures { (vertices : Vertices) (triangles : List ℕ) → verdict_of result ≡ BAD_LINKS cells (lists_of vertices triangles links.now slots.now) count }
 {
-    let bad = lowest_bad_link(cells, links, slots, count);
-    if bad < count {
-        return Verdict::Refuse(Refusal::BadLinks, bad);
-    }
+    refuse_lowest(
+        Refusal::BadLinks,
+        count,
+        |q| is_bad_link(cells, links, slots, q),
+    )?;
     let filled = filled_slots(slots, 6 * cells as usize) as usize;
     refuse_if(count < filled, Refusal::BadLinks, count)
 }

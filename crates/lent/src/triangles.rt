@@ -1,13 +1,12 @@
 // BAD_TRIANGLES: the test of a lent mesh's triangles.
-ghost use Rattle.std.specs.Prelude.{◌≡◌, ℕ, ◌+◌, ◌*◌, ◌^◌, ◌<◌, ◌≤◌, true, not, List, length};
-ghost use Rattle.rules.specs.Lists.{every, lowest, row, same};
+ghost use Rattle.std.specs.Prelude.{◌≡◌, ℕ, ◌+◌, ◌*◌, ◌^◌, ◌<◌, ◌≤◌, true, List, length};
+ghost use Rattle.rules.specs.Lists.{every, row, same};
 ghost use Rattle.rules.specs.Mesh.{pattern, Vertices, lists_of};
 ghost use Rattle.rules.specs.Answers.{BAD_TRIANGLES};
 ghost use Rattle.answers.specs.Verdicts.{verdict_of};
 ghost use Rattle.lent.specs.Patterns.{goes_on};
 
-use answers::{Refusal, Verdict, refuse_if};
-use std::num::wrapping_add_u32;
+use answers::{Refusal, Verdict, refuse_lowest};
 
 // Whether six words are the triangles of quad q.
 fn is_pattern(words: &[u32], q: u32) -> bool
@@ -30,18 +29,16 @@ fn rows_go_on(triangles: &[u32], n: usize) -> bool
     ensures { result ≡ every n (goes_on triangles.now) }
 {
     let mut good = true;
-    let mut k: usize = 0;
-    while k < n {
-        good = good & (triangles[k + 6] == wrapping_add_u32(triangles[k], 4));
-        k += 1;
+    for k in 0..n {
+        good &= triangles[k + 6] == triangles[k].wrapping_add(4);
     }
     good
 }
 
-// Where it says yes, no quad is bad.
+// Where it says yes, each quad's triangles are the pattern.
 fn all_patterned(triangles: &[u32], count: usize) -> bool
     requires { (6 * count ≤ length triangles.now) × (count ≤ 2 ^ 30) }
-    ensures { result ≡ true → lowest count (λ q. not (same (row 6 triangles.now q) (pattern q))) ≡ count }
+    ensures { result ≡ true → (q : ℕ) → q < count → same (row 6 triangles.now q) (pattern q) ≡ true }
 {
     if count == 0 {
         return true;
@@ -49,37 +46,16 @@ fn all_patterned(triangles: &[u32], count: usize) -> bool
     is_pattern(&triangles[..6], 0) & rows_go_on(triangles, 6 * count - 6)
 }
 
-fn find_bad_triangles(triangles: &[u32], count: usize) -> usize
-    requires { (6 * count ≤ length triangles.now) × (count ≤ 2 ^ 30) }
-    ensures { result ≡ lowest count (λ q. not (same (row 6 triangles.now q) (pattern q))) }
-{
-    let mut q: usize = 0;
-    while q < count {
-        let at = 6 * q;
-        let end = at + 6;
-        if !is_pattern(&triangles[at..end], q as u32) {
-            return q;
-        }
-        q += 1;
-    }
-    q
-}
-
-// The lowest of the quads whose triangles are not the pattern, or their count.
-fn lowest_bad_triangles(triangles: &[u32], count: usize) -> usize
-    requires { (6 * count ≤ length triangles.now) × (count ≤ 2 ^ 30) }
-    ensures { result ≡ lowest count (λ q. not (same (row 6 triangles.now q) (pattern q))) }
-{
-    if all_patterned(triangles, count) {
-        return count;
-    }
-    find_bad_triangles(triangles, count)
-}
-
 pub fn triangles_verdict(triangles: &[u32], count: usize) -> Verdict
     requires { (6 * count ≤ length triangles.now) × (count ≤ 2 ^ 30) }
     ensures { (vertices : Vertices) (links slots : List ℕ) → verdict_of result ≡ BAD_TRIANGLES (lists_of vertices triangles.now links slots) count }
 {
-    let bad = lowest_bad_triangles(triangles, count);
-    refuse_if(bad < count, Refusal::BadTriangles, bad)
+    if all_patterned(triangles, count) {
+        return Ok(());
+    }
+    refuse_lowest(
+        Refusal::BadTriangles,
+        count,
+        |q| !is_pattern(&triangles[6 * q..6 * q + 6], q as u32),
+    )
 }

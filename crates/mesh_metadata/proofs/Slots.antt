@@ -1,33 +1,16 @@
 -- Laws of slot words: what a removal does to them, one store after the other. Assumes nothing.
 use mathlib.Core.Path.{◌≡◌, refl, sym, ap, ◌∙◌}
 use mathlib.Core.Logic.{◌≢◌, ◌⊎◌, inl, inr, ⊎_elim}
-use mathlib.Core.List.{List, [], ◌∷◌, ◌++◌, map, append_assoc}
-use mathlib.Core.Option.{none, some}
+use mathlib.Core.List.{List, [], ◌∷◌, map}
 use Prim.Native.Nat.{ℕ, zero, suc, ◌+◌, ◌-◌, ◌*◌, ◌≤◌, ◌<◌}
 use native.Mathlib.Omega.{arith}
 use native.Mathlib.Decide.{dec_lt}
-use native.Mathlib.Numerals.{add-one}
-use lib.ListN.{length, get_or, set, drop, replicate, length-replicate}
-use lib.Seq.{drop-cons, set_at}
+use lib.ListN.{length, get_or, set}
 use borrow.Author.Tests.{le-leb, lt-leb, le-ltb, lt-ltb, eq-eqb, ne_eqb}
 use Rattle.rules.specs.Cells.{key_in, first_vertex}
 use Rattle.rules.specs.Mesh.{NONE}
 use Rattle.vav.specs.Rows.{source_of}
-use Rattle.vav.proofs.Laws.{replicate_more}
-use Rattle.mesh_metadata.specs.Index.{vertex_of, shifted, renum, Linked}
-
--- ---- one more slot is filled
-pub fill_more : (i v : ℕ) (xs : List ℕ) → i < length xs → set (replicate i v ++ drop i xs) i v ≡ replicate (i + 1) v ++ drop (i + 1) xs
-fill_more i v xs h =
-    rw (replicate_more i v, append_assoc (replicate i v) (v ∷ []) (drop (i + 1) xs), add-one, drop-cons xs i 0 h)
-    (set_at (replicate i v) (get_or xs i 0) (drop (suc i) xs) v i (length-replicate i v))
-
--- ---- an answer's vertex
-pub vertex_none : (word : ℕ) → word ≡ NONE → none ≡ vertex_of word
-vertex_none word e = rw (eq-eqb word NONE e)
-
-pub vertex_some : (word w : ℕ) → word ≢ NONE → w ≡ word → some w ≡ vertex_of word
-vertex_some word w d e = rw (ne_eqb word NONE d, e)
+use Rattle.mesh_metadata.specs.Index.{shifted, renum, Linked}
 
 -- ---- a removal
 

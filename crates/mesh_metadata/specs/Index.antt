@@ -1,18 +1,17 @@
 -- Links and slots: the face that a quad shows, and the quad that shows a face. Definitions only.
-use Rattle.std.specs.Prelude.{◌≡◌, ◌⊎◌, cond, not, List, ℕ, ◌-◌, ◌≤◌, ◌<◌, length, get_or, leb, ltb, eqb}
-use Rattle.std.proofs.Math.Option.{Option, none, some}
+use Rattle.std.specs.Prelude.{◌≡◌, ◌⊎◌, cond, not, List, ℕ, ◌-◌, ◌≤◌, ◌<◌, length, get_or, leb, ltb, eqb, Option, Some, None}
+use Rattle.std.proofs.Math.Option as math
 use Rattle.rules.specs.Cells.{code_in, key_in, first_vertex, only_if}
 use Rattle.rules.specs.Mesh.{NONE}
 use Rattle.vav.specs.Rows.{source_of}
-use Rattle.mesh_metadata.specs.declared.QuadIndex.{QuadIndex}
-use Rattle.mesh_metadata.specs.declared.QuadIndex.TheVariants.{At, Nothing}
+use Rattle.face.specs.declared.Vertex.{Vertex}
 
 -- the quad's first vertex, or none
-abbrev pub vertex_in : QuadIndex → Option ℕ
-vertex_in (At v) = some v.0
-vertex_in Nothing = none
+abbrev pub vertex_in : Option Vertex → math.Option ℕ
+vertex_in (Some v) = math.some v.0
+vertex_in None = math.none
 
-abbrev pub vertex_of : ℕ → Option ℕ
+abbrev pub vertex_of : ℕ → math.Option ℕ
 vertex_of word = only_if (not (eqb word NONE)) word
 
 -- what a slot word becomes where the quads from s up to t have gone to q and on

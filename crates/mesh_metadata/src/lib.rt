@@ -9,26 +9,12 @@ ghost use Rattle.mesh_metadata.specs.Index.{vertex_in, vertex_of, shifted, renum
 
 use face::{Cell, Face, NONE, Quad, Vertex};
 
-// The first vertex of a quad.
-#[derive(Clone, Copy)]
-pub enum QuadIndex {
-    At(Vertex),
-    Nothing,
-}
-
-fn wide(x: u32) -> usize
-    ensures { (result ≡ x) × (result < 4294967296) }
-{
-    x as usize
-}
-
 // The slot that a quad's link names.
 fn slot_of(links: &[u32], quad: Quad) -> usize
     requires { (quad.0 < length links.now) × (code_in (get_or links.now quad.0 0) ≤ 5) }
     ensures { result ≡ key_in (get_or links.now quad.0 0) }
 {
-    let at = wide(quad.0);
-    wide(face::key_of(links[at]))
+    face::key_of(links[quad.0 as usize]) as usize
 }
 
 // A slot names a quad by its first vertex.
@@ -36,19 +22,14 @@ fn fill(slots: &mut [u32], slot: usize, quad: Quad)
     requires { (slot < length slots.old) × (quad.0 < 2 ^ 30) }
     ensures { slots.new ≡ set slots.old slot (first_vertex quad.0) }
 {
-    let vertex = quad.first_vertex();
-    slots[slot] = vertex.0;
+    slots[slot] = quad.first_vertex().0;
 }
 
 // No face has a quad.
 pub fn new(slots: &mut [u32])
     ensures { slots.new ≡ replicate (length slots.old) rule.NONE }
 {
-    let mut i = 0;
-    while i < slots.len() {
-        slots[i] = NONE;
-        i += 1;
-    }
+    slots.fill(NONE);
 }
 
 pub fn insert(links: &mut [u32], slots: &mut [u32], face: Face, cell: Cell, quad: Quad)
@@ -57,22 +38,19 @@ pub fn insert(links: &mut [u32], slots: &mut [u32], face: Face, cell: Cell, quad
     ensures { (links.new ≡ set links.old quad.0 (link_word cell.0 (number face)))
         × (slots.new ≡ set slots.old (key_of cell.0 (number face)) (first_vertex quad.0)) }
 {
-    let at = wide(quad.0);
-    links[at] = face::link(cell, face);
-    let slot = wide(face::key(cell, face));
-    fill(slots, slot, quad);
+    links[quad.0 as usize] = face::link(cell, face);
+    fill(slots, face::key(cell, face) as usize, quad);
 }
 
-pub fn get_quad_index(slots: &[u32], face: Face, cell: Cell) -> QuadIndex
+pub fn get_quad_index(slots: &[u32], face: Face, cell: Cell) -> Option<Vertex>
     requires { (cell.0 < UNIT) × (key_of cell.0 (number face) < length slots.now) }
     ensures { vertex_in result ≡ vertex_of (get_or slots.now (key_of cell.0 (number face)) rule.NONE) }
 {
-    let slot = wide(face::key(cell, face));
-    let vertex = slots[slot];
+    let vertex = slots[face::key(cell, face) as usize];
     if vertex == NONE {
-        QuadIndex::Nothing
+        None
     } else {
-        QuadIndex::At(Vertex(vertex))
+        Some(Vertex(vertex))
     }
 }
 
@@ -81,9 +59,7 @@ pub fn quad_of(slots: &[u32], key: u32) -> Quad
     requires { key < length slots.now }
     ensures { result.0 ≡ get_or slots.now key rule.NONE / 4 }
 {
-    let slot = wide(key);
-    let vertex = Vertex(slots[slot]);
-    vertex.quad()
+    Vertex(slots[key as usize]).quad()
 }
 
 // The slot of a moved quad names its new place.
@@ -92,8 +68,7 @@ pub fn change_quad_index(slots: &mut [u32], links: &[u32], old: Quad, new: Quad)
         × (key_in (get_or links.now old.0 0) < length slots.old) × (new.0 < 2 ^ 30) }
     ensures { slots.new ≡ set slots.old (key_in (get_or links.now old.0 0)) (first_vertex new.0) }
 {
-    let slot = slot_of(links, old);
-    fill(slots, slot, new);
+    fill(slots, slot_of(links, old), new);
 }
 
 // The slot of a removed quad's face, by its key, names none.
@@ -101,8 +76,7 @@ pub fn remove_quad(slots: &mut [u32], key: u32)
     requires { key < length slots.old }
     ensures { slots.new ≡ set slots.old key rule.NONE }
 {
-    let slot = wide(key);
-    slots[slot] = NONE;
+    slots[key as usize] = NONE;
 }
 
 // Quads `from` and on are at q and on from now on.
@@ -110,10 +84,8 @@ fn rename(slots: &mut [u32], links: &[u32], q: usize, from: usize, count: usize)
     requires { (q < from) × (from ≤ count) × Linked count links.now slots.old }
     ensures { slots.new ≡ map (shifted q from count) slots.old }
 {
-    let mut i = from;
-    while i < count {
+    for i in from..count {
         change_quad_index(slots, links, Quad(i as u32), Quad((i - (from - q)) as u32));
-        i += 1;
     }
 }
 

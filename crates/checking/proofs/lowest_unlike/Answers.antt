@@ -31,4 +31,4 @@ pub loop-face-preserved : goal.loop-face-preserved
 loop-face-preserved c = passed _ _ _ c.loop-face-test.true c.loop-face.invariant (bits c.before ∙ ap not (eq-eqb _ _ c.if-a-face.false))
 
 pub returns : goal.returns
-returns c = ended _ _ _ c.loop-face-test.false c.loop-face.invariant
+returns c = let e : c.loop-face.face ≡ 6 = omega arith in sym e ∙ ended _ _ _ c.loop-face-test.false c.loop-face.invariant

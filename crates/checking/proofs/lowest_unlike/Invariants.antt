@@ -1,4 +1,3 @@
-use Prim.Native.Nat.{◌-◌}
 use Rattle.rules.specs.Cells.{has}
 use Rattle.rules.specs.Answers.{unlike}
 use Rattle.rules.proofs.Searches.{Searched}
@@ -6,6 +5,3 @@ use Rattle.checking.proofs.lowest_unlike.Given as goal
 
 abbrev pub invariant-loop-face : goal.invariant-loop-face
 invariant-loop-face l = Searched 6 (λ f. unlike (has l.a f) (has l.b f)) l.face
-
-abbrev pub decreases-loop-face : goal.decreases-loop-face
-decreases-loop-face l = 6 - l.face

@@ -1,12 +1,9 @@
--- `lent::lent_verdict` meets its contract: each return is what the tests before it leave. Assumes nothing.
-use Rattle.std.proofs.Common.{sym, ◌∙◌}
+-- `lent::lent_verdict` meets its contract: each test is the first that refuses, or passes. Assumes nothing.
 use Rattle.answers.proofs.Chains.{stops, goes}
 use Rattle.lent.proofs.lent_verdict.Goals as goal
 
-pub returns-then-is_refusal : goal.returns-then-is_refusal
-returns-then-is_refusal c = λ B long. stops _ _ _ (c.slots_verdict-slotted.ensures B long.slots) (sym c.is_refusal.ensures ∙ c.if-is_refusal.true)
+pub returns-in_err-slots_verdict : goal.returns-in_err-slots_verdict
+returns-in_err-slots_verdict c = λ B long. stops _ _ _ _ c.in_err-slots_verdict.was c.from_residual.ensures.1 (c.slots_verdict.ensures B long.slots)
 
 pub returns : goal.returns
-returns c =
-    λ B long. goes _ _ (c.slots_verdict-slotted.ensures B long.slots) (sym c.is_refusal.ensures ∙ c.if-is_refusal.false)
-    (c.count_verdict.ensures B long)
+returns c = λ B long. goes _ _ c.in_ok-slots_verdict.was (c.slots_verdict.ensures B long.slots) (c.count_verdict.ensures B long)

@@ -1,12 +1,9 @@
--- `lent::open_verdict` meets its contract: each return is what the tests before it leave. Assumes nothing.
-use Rattle.std.proofs.Common.{sym, ◌∙◌}
+-- `lent::open_verdict` meets its contract: each test is the first that refuses, or passes. Assumes nothing.
 use Rattle.answers.proofs.Chains.{stops, goes}
 use Rattle.lent.proofs.open_verdict.Goals as goal
 
-pub returns-then-is_refusal : goal.returns-then-is_refusal
-returns-then-is_refusal c = λ B long. stops _ _ _ (c.input_verdict-told.ensures B long.slots) (sym c.is_refusal.ensures ∙ c.if-is_refusal.true)
+pub returns-in_err-input_verdict : goal.returns-in_err-input_verdict
+returns-in_err-input_verdict c = λ B long. stops _ _ _ _ c.in_err-input_verdict.was c.from_residual.ensures.1 (c.input_verdict.ensures B long.slots)
 
 pub returns : goal.returns
-returns c =
-    λ B long. goes _ _ (c.input_verdict-told.ensures B long.slots) (sym c.is_refusal.ensures ∙ c.if-is_refusal.false)
-    (c.count_verdict.ensures B long)
+returns c = λ B long. goes _ _ c.in_ok-input_verdict.was (c.input_verdict.ensures B long.slots) (c.count_verdict.ensures B long)

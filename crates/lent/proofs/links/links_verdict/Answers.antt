@@ -1,14 +1,15 @@
--- `lent::links::links_verdict` meets its contract. Assumes nothing.
-use Rattle.std.proofs.Common.{◌∙◌}
-use Rattle.rules.specs.Answers.{bad_link}
-use Rattle.rules.specs.Mesh.{lists_of}
-use Rattle.lent.proofs.Linked.{links_refused, links_counted}
+-- `lent::links::links_verdict` meets its contract: each test is the first that refuses, or passes. Assumes nothing.
+use Rattle.std.proofs.Common.{rules, ◌∙◌}
+use Rattle.rules.specs.Answers.{bad_link, BAD_LINKS}
+use Rattle.answers.proofs.Chains.{stops, goes}
 use Rattle.lent.proofs.links.links_verdict.Goals as goal
 
-pub returns-then-bad-count : goal.returns-then-bad-count
-unfolding bad_link
-returns-then-bad-count c = λ vertices triangles. links_refused _ (lists_of vertices triangles _ _) _ _ c.lowest_bad_link-bad.ensures c.if-bad-count.true
+pub returns-in_err-refuse_lowest : goal.returns-in_err-refuse_lowest
+unfolding BAD_LINKS bad_link
+returns-in_err-refuse_lowest c = λ vertices triangles.
+    stops _ _ _ _ c.in_err-refuse_lowest.was c.from_residual.ensures.1 (c.refuse_lowest.ensures _ (λ i b l p. search rules))
 
 pub returns : goal.returns
-unfolding bad_link
-returns c = λ vertices triangles. c.refuse_if.ensures ∙ links_counted _ (lists_of vertices triangles _ _) _ _ _ c.lowest_bad_link-bad.ensures c.if-bad-count.false c.filled_slots-filled.ensures
+unfolding BAD_LINKS bad_link
+returns c = λ vertices triangles.
+    goes _ _ c.in_ok-refuse_lowest.was (c.refuse_lowest.ensures _ (λ i b l p. search rules)) (c.refuse_if.ensures ∙ rw c.filled_slots-filled.ensures)

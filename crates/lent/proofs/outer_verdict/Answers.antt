@@ -1,6 +1,0 @@
--- `lent::outer_verdict` meets its contract. Assumes nothing.
-use Rattle.std.proofs.Common.{◌∙◌}
-use Rattle.lent.proofs.outer_verdict.Goals as goal
-
-pub returns : goal.returns
-returns c = c.refuse_if.ensures ∙ rw c.lowest_bad_outer-bad.ensures
