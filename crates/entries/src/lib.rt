@@ -1,39 +1,34 @@
 // The entries of a log, 16 bytes each, and which are bad.
 #![tactic(auto)]
 
-ghost use Rattle.std.specs.Prelude.{◌≡◌, ◌+◌, ◌-◌, ◌*◌, ◌/◌, ◌<◌, ◌≤◌, min, length, if◌then◌else◌, nat_eq, nat_lt};
+ghost use Rattle.std.specs.Prelude.{ℕ, Bool, ◌≡◌, ◌+◌, ◌-◌, ◌*◌, ◌/◌, ◌<◌, ◌≤◌, min, length, if◌then◌else◌, nat_eq, nat_lt};
 ghost use Rattle.rules.specs.Lists.{lowest};
 ghost use Rattle.rules.specs.Update.{ENTRY_BYTES, u32_at, change_of, entry_at, given_at};
-ghost use Rattle.rules.specs.Answers.{bad_neighbour, bad_neighbours, bad_sides, bad_bytes, bad_former_by, bad_spare, bad_entry};
+ghost use Rattle.rules.specs.Answers.{bad_neighbour, bad_bytes, bad_former_by, bad_spare, bad_entry};
 ghost use Rattle.face.specs.Face.{number};
-ghost use Rattle.entries.specs.Log.{change_in, entry_in, neighbour_of, side_of};
+ghost use Rattle.entries.specs.Log.{change_in, entry_in, neighbour_of, side_of, any_bad};
 
 use face::{Cell, Face};
 use std::num::wrapping_add_u8;
 
-#[derive(Clone, Copy)]
+// By its code.
+#[derive(Clone, Copy, Debug, PartialEq, Eq)]
 pub enum VoxelChange {
-    Broken,
-    Added,
-    Sides,
-    Replaced,
-}
-
-#[derive(Clone, Copy)]
-pub enum Neighbour {
-    Outside,
-    Voxel(u8),
+    Broken = 0,
+    Added = 1,
+    Sides = 2,
+    Replaced = 3,
 }
 
 // What Sides does with a side of its cell.
-#[derive(Clone, Copy)]
+#[derive(Clone, Copy, Debug, PartialEq, Eq)]
 pub enum Side {
     Keep,
     Hide,
     Draw,
 }
 
-#[derive(Clone, Copy)]
+#[derive(Clone, Copy, Debug, PartialEq, Eq)]
 pub struct Entry {
     pub cell: Cell,
     pub change: VoxelChange,
@@ -44,17 +39,10 @@ pub struct Entry {
     pub former: u8,
 }
 
-impl VoxelChange {
-    pub const BROKEN: u8 = 0;
+impl From<u8> for VoxelChange {
+    ghost from_gives = { λ code change. change_in change ≡ change_of code };
 
-    pub const SIDES: u8 = 2;
-
-    // The highest code.
-    pub const REPLACED: u8 = 3;
-
-    pub fn from_u8(code: u8) -> VoxelChange
-        ensures { change_in result ≡ change_of code }
-    {
+    fn from(code: u8) -> VoxelChange {
         match code {
             0 => VoxelChange::Broken,
             1 => VoxelChange::Added,
@@ -74,24 +62,22 @@ impl Entry {
 
     pub const MOST: usize = 16_777_216;
 
-    pub fn neighbour(self, face: Face) -> Neighbour
+    // The voxel beside a face, None outside.
+    pub fn neighbour(self, face: Face) -> Option<u8>
         ensures { result ≡ neighbour_of (given_at (entry_in self) (number face)) }
     {
-        let side = face.number() as usize;
-        let given = self.neighbours[side];
+        let given = self.neighbours[face.number() as usize];
         if given == Entry::OUTSIDE {
-            Neighbour::Outside
+            None
         } else {
-            Neighbour::Voxel(given)
+            Some(given)
         }
     }
 
     pub fn side(self, face: Face) -> Side
         ensures { result ≡ side_of (given_at (entry_in self) (number face)) }
     {
-        let side = face.number() as usize;
-        let byte = self.neighbours[side];
-        match byte {
+        match self.neighbours[face.number() as usize] {
             1 => Side::Hide,
             2 => Side::Draw,
             _ => Side::Keep,
@@ -99,21 +85,12 @@ impl Entry {
     }
 }
 
-fn wide_byte(x: u8) -> u32
-    ensures { (result ≡ x) × (result < 256) }
-{
-    x as u32
-}
-
 // Little-endian.
 fn u32_at(log: &[u8], at: usize) -> u32
     requires { at + 4 ≤ length log.now }
     ensures { result ≡ u32_at log.now at }
 {
-    wide_byte(log[at])
-        + 256 * wide_byte(log[at + 1])
-        + 65536 * wide_byte(log[at + 2])
-        + 16777216 * wide_byte(log[at + 3])
+    u32::from_le_bytes([log[at], log[at + 1], log[at + 2], log[at + 3]])
 }
 
 pub fn read_entry(log: &[u8], k: usize) -> Entry
@@ -121,25 +98,19 @@ pub fn read_entry(log: &[u8], k: usize) -> Entry
     ensures { entry_in result ≡ entry_at log.now k }
 {
     let at = Entry::BYTES * k;
-    let cell = Cell(u32_at(log, at));
-    let change = VoxelChange::from_u8(log[at + 4]);
-    let voxel = log[at + 5];
-    let side = at + 6;
-    let neighbours = [
-        log[side],
-        log[side + 1],
-        log[side + 2],
-        log[side + 3],
-        log[side + 4],
-        log[side + 5],
-    ];
-    let former = log[at + 12];
     Entry {
-        cell: cell,
-        change: change,
-        voxel: voxel,
-        neighbours: neighbours,
-        former: former,
+        cell: Cell(u32_at(log, at)),
+        change: VoxelChange::from(log[at + 4]),
+        voxel: log[at + 5],
+        neighbours: [
+            log[at + 6],
+            log[at + 7],
+            log[at + 8],
+            log[at + 9],
+            log[at + 10],
+            log[at + 11],
+        ],
+        former: log[at + 12],
     }
 }
 
@@ -147,7 +118,7 @@ pub fn read_entry(log: &[u8], k: usize) -> Entry
 fn byte_of(types: u32) -> u8
     ensures { result ≡ min types 255 }
 {
-    if types < 255 { types as u8 } else { 255 }
+    types.min(255) as u8
 }
 
 // One test of bytes, so that the six go at once: 255 and 1 wrap to 0, which is over no number of types.
@@ -157,56 +128,41 @@ fn bad_neighbour(given: u8, types: u32) -> bool
     byte_of(types) < wrapping_add_u8(given, 1)
 }
 
-// Whether one of the six bytes of the entry that starts at `at` is no type and not outside.
-fn bad_neighbours(log: &[u8], at: usize, types: u32) -> bool
-    requires { at + 12 ≤ length log.now }
-    ensures { result ≡ bad_neighbours types log.now at }
-{
-    let mut good = true;
-    let mut f = 0;
-    while f < 6 {
-        good = good & !bad_neighbour(log[at + (6 + f)], types);
-        f += 1;
-    }
-    !good
-}
-
 fn bad_side(byte: u8) -> bool
     ensures { result ≡ nat_lt 2 byte }
 {
     2 < byte
 }
 
-// Whether one of them is no side byte.
-fn bad_sides(log: &[u8], at: usize) -> bool
-    requires { at + 12 ≤ length log.now }
-    ensures { result ≡ bad_sides log.now at }
+// Whether one of the six bytes of the entry that starts at `at` is bad. All six are looked at, so that the compiler compares several at once.
+fn any_bad<F: Fn(u8) -> bool>(log: &[u8], at: usize, is_bad: F) -> bool
+    requires bytes { at + 12 ≤ length log.now }
+    requires calls { F.IsAlwaysCallable is_bad }
+    ensures { (bad : ℕ → Bool) → ((x : ℕ) (b : Bool) → x < 256 → F.post is_bad x b → b ≡ bad x) → result ≡ any_bad bad log.now at }
 {
-    let mut good = true;
-    let mut f = 0;
-    while f < 6 {
-        good = good & !bad_side(log[at + (6 + f)]);
-        f += 1;
+    let mut any = false;
+    for byte in &log[at + 6..at + 12] {
+        any |= is_bad(*byte);
     }
-    !good
+    any
 }
 
-// Whether one of them is none that the entry's change takes.
+// Whether one of the six is none that the entry's change takes: no side byte in Sides, else no type and not outside.
 fn bad_bytes(log: &[u8], at: usize, types: u32) -> bool
     requires { at + 12 ≤ length log.now }
     ensures { result ≡ bad_bytes types log.now at }
 {
-    if log[at + 4] == VoxelChange::SIDES {
-        return bad_sides(log, at);
+    if log[at + 4] == VoxelChange::Sides as u8 {
+        return any_bad(log, at, bad_side);
     }
-    bad_neighbours(log, at, types)
+    any_bad(log, at, |given| bad_neighbour(given, types))
 }
 
 // The former type of a change that is not Replaced.
 fn own_former(code: u8, voxel: u8) -> u8
     ensures { result ≡ (if nat_eq code 0 then voxel else 255) }
 {
-    if code == VoxelChange::BROKEN {
+    if code == VoxelChange::Broken as u8 {
         voxel
     } else {
         Entry::NO_TYPE
@@ -217,10 +173,10 @@ fn own_former(code: u8, voxel: u8) -> u8
 fn bad_former(code: u8, voxel: u8, former: u8, types: u32) -> bool
     ensures { result ≡ bad_former_by types voxel former (change_of code) }
 {
-    if code < VoxelChange::REPLACED {
+    if code < VoxelChange::Replaced as u8 {
         return former != own_former(code, voxel);
     }
-    types <= former as u32
+    types <= u32::from(former)
 }
 
 // Whether one of the last three bytes is not zero.
@@ -238,8 +194,8 @@ fn bad_entry(log: &[u8], k: usize, cells: u32, types: u32) -> bool
     let at = Entry::BYTES * k;
     (Entry::MOST <= k)
         | (cells <= u32_at(log, at))
-        | (VoxelChange::REPLACED < log[at + 4])
-        | (types <= wide_byte(log[at + 5]))
+        | ((VoxelChange::Replaced as u8) < log[at + 4])
+        | (types <= u32::from(log[at + 5]))
         | bad_bytes(log, at, types)
         | bad_former(log[at + 4], log[at + 5], log[at + 12], types)
         | bad_spare(log, at)
@@ -250,12 +206,10 @@ pub fn first_bad_entry(log: &[u8], cells: u32, types: u32) -> usize
     ensures { result ≡ lowest (length log.now / ENTRY_BYTES) (bad_entry cells types log.now) }
 {
     let entries = log.len() / Entry::BYTES;
-    let mut k = 0;
-    while k < entries {
+    for k in 0..entries {
         if bad_entry(log, k, cells, types) {
             return k;
         }
-        k += 1;
     }
-    k
+    entries
 }

@@ -10,6 +10,7 @@ use lib.Dec.{eqb}
 use lib.ListN.{length, get_or, set, length-append, length-set}
 use lib.Seq.{get_or-set_same, get_or-set_other}
 use borrow.Author.Tests.{lt-ltb}
+use Rattle.std.specs.Prelude as std
 use Rattle.rules.specs.Lists.{each}
 use Rattle.rules.specs.Cells.{key_in, only_if}
 use Rattle.rules.specs.Mesh.{Quad, NONE, slot_of}
@@ -19,7 +20,8 @@ use Rattle.rules.proofs.ListLaws.{All, within, split, length-table, each_same, e
 use Rattle.rules.proofs.Quads.{placed, moved_le}
 use Rattle.rules.proofs.Laying.{length-links}
 use Rattle.rules.proofs.Courses.{Good, sane_one, highest_ge}
-use Rattle.mesh_metadata.specs.Index.{Linked, vertex_of}
+use Rattle.face.specs.declared.Vertex.{Vertex}
+use Rattle.mesh_metadata.specs.Index.{Linked, vertex_in, vertex_of}
 use Rattle.mesh_metadata.proofs.Layouts as layouts
 use Rattle.steps.specs.Steps.{Step, came, CUT, step_in, step_at, steps_in, Deed, show, hide, quad_by, op_of, ops_of, step_of}
 use Rattle.steps.proofs.Turning.{Piecewise}
@@ -82,11 +84,9 @@ pub space_left : {space : ℕ} {d : Deed} {ds : List Deed} {links slots : List �
 space_left xs t r = let n = length-table (step_at xs) t.steps in let s = r.steps in omega arith
 
 -- ---- a deed, by what the slot tells
-pub none_told : (w : ℕ) → vertex_of w ≡ none → eqb w NONE ≡ true
-none_told w = split (λ b. only_if (not b) w ≡ none → b ≡ true) (eqb w NONE) (λ t r. refl) (λ t r. absurd (let z : ◌≡◌ {A = ℕ} 0 1 = cc in omega arith))
-
-pub some_told : (w v : ℕ) → vertex_of w ≡ some v → (eqb w NONE ≡ false) × (w ≡ v)
-some_told w v = split (λ b. only_if (not b) w ≡ some v → (b ≡ false) × (w ≡ v)) (eqb w NONE) (λ t r. absurd (let z : ◌≡◌ {A = ℕ} 0 1 = cc in omega arith)) (λ t r. (refl, cc))
+pub bare_told : (o : std.Option Vertex) (w : ℕ) → vertex_in o ≡ vertex_of w → not (std.is_some o) ≡ eqb w NONE
+bare_told std.None w = split (λ b. none ≡ only_if (not b) w → true ≡ b) (eqb w NONE) (λ t r. refl) (λ t r. absurd (let z : ◌≡◌ {A = ℕ} 0 1 = cc in omega arith))
+bare_told (std.Some v) w = split (λ b. some v.0 ≡ only_if (not b) w → false ≡ b) (eqb w NONE) (λ t r. absurd (let z : ◌≡◌ {A = ℕ} 0 1 = cc in omega arith)) (λ t r. refl)
 
 pub slotted : {space k : ℕ} {ds : List Deed} {B : Index} → Ready space (hide k ∷ ds) B → k < length B.slots
 slotted {k = k} r = let b = there_inside r.ground r.mesh r.top r.sane k r.acts.0 in let z = long_slots r in omega arith

@@ -3,7 +3,6 @@
 
 ghost use Rattle.std.specs.Prelude.{◌≡◌, [], ◌∷◌, ℕ, ◌+◌, ◌*◌, ◌^◌, ◌≤◌, ◌<◌, max, length};
 ghost use Rattle.rules.specs.Cells.{UNIT, key_of, set_of};
-ghost use Rattle.rules.specs.Mesh as rule;
 ghost use Rattle.face.specs.Face.{number};
 ghost use Rattle.entries.specs.Log.{entry_in};
 ghost use Rattle.works.specs.Sets.{set_in, key_met, deed_by, deeds};
@@ -12,13 +11,13 @@ ghost use Rattle.indexing.specs.Index.{index_of, gone_at, came_at, index_run, Re
 
 use entries::Entry;
 use face::{Cell, Face, NONE, Quad, face_at, quads_of, side_set};
-use mesh_metadata::{QuadIndex, get_quad_index, insert, quad_of, renumber};
+use mesh_metadata::{get_quad_index, insert, quad_of, renumber};
 use steps::CUT;
 use vav::{free_row, moved_by};
 use works::{Work, does_cut, key_place, type_of};
 
 // The number of quads, how many have changed their place, the highest number of quads on the way, and the number of steps.
-#[derive(Clone, Copy)]
+#[derive(Clone, Copy, Debug, PartialEq, Eq)]
 pub struct Tally {
     pub quads: usize,
     pub moved: u64,
@@ -26,11 +25,7 @@ pub struct Tally {
     pub steps: usize,
 }
 
-fn larger(a: usize, b: usize) -> usize
-    ensures { result ≡ max a b }
-{
-    if a <= b { b } else { a }
-}
+// Links, slots and steps go as three lists here, not as a struct of three `&mut`s: a contract would name each of its fields at entry and at exit.
 
 // Removes the quad of the face of a key: the links of those that move go along, their slots name the new places. The step is its place and the mark.
 fn remove_quad(
@@ -55,9 +50,9 @@ fn remove_quad(
     steps[at + 1] = CUT;
     Tally {
         quads: count - 1,
-        moved: moved,
-        top: tally.top,
+        moved,
         steps: tally.steps + 1,
+        ..tally
     }
 }
 
@@ -84,12 +79,12 @@ fn append_quad(
         Quad(count as u32),
     );
     steps[at] = key;
-    steps[at + 1] = voxel as u32;
+    steps[at + 1] = u32::from(voxel);
     Tally {
         quads: count + 1,
-        moved: tally.moved,
-        top: larger(tally.top, count + 1),
+        top: tally.top.max(count + 1),
         steps: tally.steps + 1,
+        ..tally
     }
 }
 
@@ -131,79 +126,50 @@ pub fn index_work(
     let mut left = tally;
     let mut rest = sides;
     while rest != 0 {
-        let i = u32::trailing_zeros(rest);
+        let i = rest.trailing_zeros();
         let at = key_place(i);
         let cuts = does_cut(i);
         let voxel = type_of(entry, i);
         left = do_face(links, slots, steps, keys[at], cuts, voxel, left);
-        rest = rest & (rest - 1);
+        rest &= rest - 1;
     }
     left
 }
 
-// Whether a side of a cell has no quad.
-fn lacks(slots: &[u32], cell: Cell, face: Face) -> bool
-    requires { (cell.0 < UNIT) × (key_of cell.0 (number face) < length slots.now) }
-    ensures { result ≡ is_bare slots.now (key_of cell.0 (number face)) }
-{
-    match get_quad_index(slots, face, cell) {
-        QuadIndex::Nothing => true,
-        QuadIndex::At(_) => false,
-    }
-}
-
-// Whether the face of a key has none. NONE is no face, so it has none.
+// Whether the face of a key has no quad. NONE is no face, so it has none.
 fn is_bare(slots: &[u32], key: u32) -> bool
-    requires { ((key ≡ rule.NONE → ⊥) → key < length slots.now) × (length slots.now ≤ rule.NONE) }
     ensures { result ≡ is_bare slots.now key }
 {
-    if key == NONE {
-        return true;
-    }
-    let at = key as usize;
-    slots[at] == NONE
+    slots.get(key as usize).copied().unwrap_or(NONE) == NONE
 }
 
+// The key of the side that faces a cell's.
+fn facing_key(keys: &[u32; 12], face: Face) -> u32
+    ensures { result ≡ key_met keys.now 1 (number face) }
+{
+    keys[6 + face.number() as usize]
+}
+
+// The sides of a cell that have no quad.
 fn own_bare(slots: &[u32], cell: Cell) -> u8
     requires { (cell.0 < UNIT) × (6 * cell.0 + 6 ≤ length slots.now) }
     ensures { result ≡ set_of (λ f. is_bare slots.now (key_of cell.0 f)) }
 {
-    side_set(
-        lacks(slots, cell, Face::Top),
-        lacks(slots, cell, Face::Bottom),
-        lacks(slots, cell, Face::Right),
-        lacks(slots, cell, Face::Left),
-        lacks(slots, cell, Face::Back),
-        lacks(slots, cell, Face::Forward),
-    )
+    side_set(|face| get_quad_index(slots, face, cell).is_none())
 }
 
+// Those whose facing side has none.
 fn facing_bare(slots: &[u32], keys: &[u32; 12]) -> u8
-    requires { Gridded keys.now slots.now }
     ensures { result ≡ set_of (λ f. is_bare slots.now (key_met keys.now 1 f)) }
 {
-    side_set(
-        is_bare(slots, keys[6]),
-        is_bare(slots, keys[7]),
-        is_bare(slots, keys[8]),
-        is_bare(slots, keys[9]),
-        is_bare(slots, keys[10]),
-        is_bare(slots, keys[11]),
-    )
+    side_set(|face| is_bare(slots, facing_key(keys, face)))
 }
 
-// The sides at which the grid has a neighbour.
+// Those at which the grid has a neighbour.
 fn met_sides(keys: &[u32; 12]) -> u8
     ensures { result ≡ set_of (is_met keys.now) }
 {
-    side_set(
-        keys[6] != NONE,
-        keys[7] != NONE,
-        keys[8] != NONE,
-        keys[9] != NONE,
-        keys[10] != NONE,
-        keys[11] != NONE,
-    )
+    side_set(|face| facing_key(keys, face) != NONE)
 }
 
 // What of a work changes something. The slots are looked at once, so that its parts need not ask.
@@ -216,8 +182,8 @@ pub fn due_work(slots: &[u32], keys: &[u32; 12], cell: Cell, work: Work) -> Work
     let own = work.own & (63 - bare);
     let shown = work.shown & facing & met_sides(keys);
     Work {
-        own: own,
-        shown: shown,
+        own,
+        shown,
         drawn: work.drawn & (own | bare),
         hidden: work.hidden & ((63 - facing) | shown),
     }

@@ -1,6 +1,6 @@
 -- What an entry tells of a side; its four sets as one, and the deeds of that; the keys around its cell. Assumes nothing.
 use mathlib.Core.Path.{◌≡◌, refl, sym, ap, ◌∙◌, subst}
-use mathlib.Core.Bool.{Bool, true, false, cond, not, true≢false}
+use mathlib.Core.Bool.{Bool, true, false, cond, not}
 use mathlib.Core.List.{List, [], ◌∷◌, ◌++◌, append_assoc, append-nil}
 use mathlib.Core.Option.{Option, none, some}
 use Prim.Native.Nat.{ℕ, zero, suc, ◌+◌, ◌-◌, ◌*◌, ◌/◌, ◌%◌, ◌≤◌, ◌<◌}
@@ -16,55 +16,28 @@ use Rattle.rules.proofs.Index.{count_le}
 use Rattle.rules.proofs.Neighbours.{beside, opposite_lt, opposite_twice}
 use Rattle.face.proofs.Lowest.{half}
 use Rattle.util.specs.Grid.{Within}
-use borrow.Author.Tests.{lt-ltb, le-ltb, eqb-true}
-use Rattle.entries.specs.Log.{neighbour_of, side_of}
-use Rattle.entries.specs.declared.Side.{Side}
-use Rattle.entries.specs.declared.Side.TheVariants.{Keep, Hide, Draw}
-use Rattle.entries.specs.declared.Neighbour.TheVariants.{Outside, Voxel}
+use borrow.Author.Tests.{lt-ltb, le-ltb}
+use Rattle.std.specs.Prelude.{Some, None}
+use Rattle.entries.specs.Log.{neighbour_of}
 use Rattle.steps.specs.Steps.{Deed}
 use Rattle.works.specs.declared.Work.{Work}
 use Rattle.works.specs.Sets.{set_in, packed, key_or, key_around, keys_around, key_met, cutting, type_drawn, deed_by, part_deeds, deed_by_side, deed_at, deeds}
 
 -- ---- types and neighbours
-given_outside : (g : ℕ) → neighbour_of g ≡ Outside → outside g ≡ true
-given_outside g = split (λ b. cond b Outside (Voxel g) ≡ Outside → b ≡ true) (eqb g 255)
+given_outside : (g : ℕ) → neighbour_of g ≡ None → outside g ≡ true
+given_outside g = split (λ b. cond b None (Some g) ≡ None → b ≡ true) (eqb g 255)
     (λ e r. refl) (λ e r. absurd (let z : ◌≡◌ {A = ℕ} 0 1 = cc in omega arith))
 
-given_voxel : (g v : ℕ) → neighbour_of g ≡ Voxel v → (outside g ≡ false) × (g ≡ v)
-given_voxel g v = split (λ b. cond b Outside (Voxel g) ≡ Voxel v → (b ≡ false) × (g ≡ v)) (eqb g 255)
+given_voxel : (g v : ℕ) → neighbour_of g ≡ Some v → (outside g ≡ false) × (g ≡ v)
+given_voxel g v = split (λ b. cond b None (Some g) ≡ Some v → (b ≡ false) × (g ≡ v)) (eqb g 255)
     (λ e r. absurd (let z : ◌≡◌ {A = ℕ} 0 1 = cc in omega arith)) (λ e r. (refl, cc))
 
 module _ (e : Entry) (f : ℕ) (W : World) where
-  pub open_outside : neighbour_of (given_at e f) ≡ Outside → true ≡ is_open W e f
+  pub open_outside : neighbour_of (given_at e f) ≡ None → true ≡ is_open W e f
   open_outside n = rw (given_outside (given_at e f) n)
 
-  pub open_voxel : {v k c : ℕ} {b : Bool} → neighbour_of (given_at e f) ≡ Voxel v → b ≡ has c k → c ≡ get_or W.covers v 0 → k ≡ opposite f → not b ≡ is_open W e f
+  pub open_voxel : {v k c : ℕ} {b : Bool} → neighbour_of (given_at e f) ≡ Some v → b ≡ has c k → c ≡ get_or W.covers v 0 → k ≡ opposite f → not b ≡ is_open W e f
   open_voxel {v} n b c k = rw ((given_voxel (given_at e f) v n).0, (given_voxel (given_at e f) v n).1, b, c, k)
-
--- whether a side is to be drawn; or to be hidden
-abbrev pub wants : Bool → Side → Bool
-wants draws Keep = false
-wants draws Hide = not draws
-wants draws Draw = draws
-
-pub wants_is : (draws : Bool) (n : ℕ) → wants draws (side_of n) ≡ cond draws (eqb n 2) (eqb n 1)
-wants_is draws n = go (eqb n 1) (eqb n 2) draws (λ e. ap (λ (k : ℕ). eqb k 2) (eqb-true n 1 e))
-  where
-    go : (a b d : Bool) → (a ≡ true → b ≡ false) → wants d (cond a Hide (cond b Draw Keep)) ≡ cond d b a
-    go true true d z = absurd (true≢false (z refl))
-    go true false true z = refl
-    go true false false z = refl
-    go false true true z = refl
-    go false true false z = refl
-    go false false true z = refl
-    go false false false z = refl
-
--- ---- a set that is asked for, or not
-pub if_on : {n r : ℕ} {on : Bool} → r ≡ n → on ≡ true → r ≡ cond on n 0
-if_on {n = n} e t = e ∙ sym (ap (λ (on : Bool). cond on n 0) t)
-
-pub if_off : (n : ℕ) {on : Bool} → on ≡ false → 0 ≡ cond on n 0
-if_off n t = sym (ap (λ (on : Bool). cond on n 0) t)
 
 -- ---- four sets as one
 module _ (r a : ℕ) (h : r < 64) where

@@ -9,5 +9,5 @@ unfolding bad_entry bad_former
 returns c =
     let a = c.args in
     let at = ENTRY_BYTES * a.k in
-    λ i. leb 16777216 a.k || leb a.cells (c.u32_at.ensures i) || ltb 3 (get_or a.log.now (at + 4) 0) || leb a.types (c.wide_byte.ensures.0 i) || c.bad_bytes.ensures i
+    λ i. leb 16777216 a.k || leb a.cells (c.u32_at.ensures i) || ltb 3 (get_or a.log.now (at + 4) 0) || leb a.types (c.from.ensures i) || c.bad_bytes.ensures i
     || c.bad_former.ensures i || c.bad_spare.ensures i

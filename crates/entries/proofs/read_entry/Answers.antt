@@ -7,8 +7,7 @@ pub returns : goal.returns
 unfolding entry_at
 returns c =
     let log = c.args.log.now in
-    let at = ENTRY_BYTES * c.args.k + 6 in
-    let s = six at log (omega arith) in
+    let s = six (ENTRY_BYTES * c.args.k) log (omega arith) in
     let x = c.u32_at.ensures in
-    let y = c.from_u8-change.ensures in
+    let y = c.from.ensures in
     λ i. record { cell = x i; change = y i; type = get_or log (ENTRY_BYTES * c.args.k + 5) 0; given = s i; former = get_or log (ENTRY_BYTES * c.args.k + 12) 0 }

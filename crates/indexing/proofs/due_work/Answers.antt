@@ -2,7 +2,7 @@
 use mathlib.Core.Path.{◌≡◌, refl, ap, ◌∙◌}
 use mathlib.Core.Bool.{Bool, true, false, not, ◌&&◌, ◌||◌}
 use mathlib.Core.List.{List}
-use Prim.Native.Nat.{ℕ, ◌-◌, ◌≤◌, ◌<◌}
+use Prim.Native.Nat.{ℕ, ◌-◌, ◌<◌}
 use native.Mathlib.Omega.{arith}
 use lib.Bits.{bit_and, bit_or, and_le_r, or_lt}
 use Rattle.rules.specs.Cells.{has, key_of, set_of}
@@ -11,15 +11,6 @@ use Rattle.works.specs.declared.Work.{Work}
 use Rattle.works.specs.Sets.{sets, key_met}
 use Rattle.indexing.specs.Due.{is_bare, is_met, goes, comes, due_of}
 use Rattle.indexing.proofs.due_work.Goals as goal
-use Rattle.indexing.proofs.due_work.Lts
-use Rattle.indexing.proofs.due_work.Tie
-use Rattle.indexing.proofs.due_work.Reads
-
-abbrev After-own_bare-bare : Type 0
-After-own_bare-bare = Lts.After-own_bare Tie.the-claims Reads.Pre Reads.Post
-
-abbrev After-facing_bare-facing : Type 0
-After-facing_bare-facing = Lts.After-facing_bare Tie.the-claims Reads.Pre Reads.Post
 
 -- a set of sides, and the others
 module _ (p : ℕ → Bool) {set : ℕ} (s : set ≡ set_of p) where
@@ -78,25 +69,10 @@ module _ (slots keys : List ℕ) (c : ℕ) (w : Work) {empty bare met : ℕ} (e 
       let hidden = either w.hidden (λ f. not (none f)) (comes slots keys w) (omega arith) h (others none b) has-come in
       λ i. sets (own i) (shown i) (drawn i) (hidden i)
 
--- no set has more than six sides
-few_own : (c : After-own_bare-bare) → c.own_bare-bare.result ≤ 63
-few_own c = let a = c.args in omega (arith, c.own_bare-bare.ensures, set_of_lt (λ f. is_bare a.slots.now (key_of a.cell.0 f)))
-
-few_facing : (c : After-facing_bare-facing) → c.facing_bare-facing.result ≤ 63
-few_facing c = let a = c.args in omega (arith, c.facing_bare-facing.ensures, set_of_lt (λ f. is_bare a.slots.now (key_met a.keys.now 1 f)))
-
 pub returns : goal.returns
 returns c =
     made c.args.slots.now c.args.keys.now c.args.cell.0 c.args.work c.own_bare-bare.ensures c.facing_bare-facing.ensures c.met_sides.ensures
 
-pub own_bare-bare-requires : goal.own_bare-bare-requires
-own_bare-bare-requires c = (let p = c.requires in (omega (arith, p.0.small, p.1), p.1))
-
-pub facing_bare-facing-requires : goal.facing_bare-facing-requires
-facing_bare-facing-requires c = c.requires.0
-
-pub overflow_sub-own : goal.overflow_sub-own
-overflow_sub-own c = omega (arith, few_own c.before.before)
-
+-- no set has more than six sides
 pub overflow_sub-result : goal.overflow_sub-result
-overflow_sub-result c = omega (arith, few_facing c.before.before.before.before.before)
+overflow_sub-result c = let a = c.args in omega (arith, c.facing_bare-facing.ensures, set_of_lt (λ f. is_bare a.slots.now (key_met a.keys.now 1 f)))

@@ -1,12 +1,11 @@
 -- `works::keys_around` meets its contract: face by face. Assumes nothing.
 use mathlib.Core.Path.{◌≡◌}
 use mathlib.Core.List.{[], ◌∷◌}
-use Prim.Native.Nat.{◌+◌, ◌*◌, ◌^◌, ◌<◌}
+use Prim.Native.Nat.{◌*◌}
 use native.Mathlib.Omega.{arith}
 use Rattle.rules.specs.Lists.{each}
 use Rattle.rules.specs.Cells.{key_of}
 use Rattle.works.proofs.keys_around.Goals as goal
-use Rattle.works.proofs.keys_around.Goals.{Start}
 
 pub returns : goal.returns
 unfolding each
@@ -14,25 +13,3 @@ returns c =
     let own = c.args.cell.0 in
     let first : 6 * own ≡ key_of own 0 = omega arith in
     λ i. first i ∷ key_of own 1 ∷ key_of own 2 ∷ key_of own 3 ∷ key_of own 4 ∷ key_of own 5 ∷ c.facing_key.ensures i ∷ c.facing_key-2.ensures i ∷ c.facing_key-3.ensures i ∷ c.facing_key-4.ensures i ∷ c.facing_key-5.ensures i ∷ c.facing_key-6.ensures i ∷ []
-
--- six keys a cell
-small : (t : Start) → 6 * t.args.cell.0 + 5 < 2 ^ 32
-small t = let l = t.requires.1 in omega (arith, t.requires.0.most)
-
-pub overflow_mul-first : goal.overflow_mul-first
-overflow_mul-first c = omega (arith, small c.before.before)
-
-pub overflow_add-result : goal.overflow_add-result
-overflow_add-result c = omega (arith, small c.before.before)
-
-pub overflow_add-result-2 : goal.overflow_add-result-2
-overflow_add-result-2 c = omega (arith, small c.before.before)
-
-pub overflow_add-result-3 : goal.overflow_add-result-3
-overflow_add-result-3 c = omega (arith, small c.before.before)
-
-pub overflow_add-result-4 : goal.overflow_add-result-4
-overflow_add-result-4 c = omega (arith, small c.before.before)
-
-pub overflow_add-result-5 : goal.overflow_add-result-5
-overflow_add-result-5 c = omega (arith, small c.before.before)

@@ -1,4 +1,5 @@
 -- `works::work_of` meets its contract: by whether something goes, and whether something is put. Assumes nothing.
+use Rattle.std.proofs.Common.{rules}
 use mathlib.Core.Path.{◌≡◌, refl, sym, ap, ◌∙◌}
 use mathlib.Core.Bool.{Bool, cond, ◌&&◌, ◌||◌}
 use Prim.Native.Nat.{ℕ}
@@ -6,18 +7,12 @@ use lib.ListN.{get_or}
 use lib.Dec.{eqb}
 use Rattle.rules.specs.Cells.{set_of, has}
 use Rattle.rules.specs.Mesh.{World, is_normal_cube}
-use Rattle.rules.specs.Update.{Change, Broken, Added, Sides, Replaced, Entry, Tested, to_hide, to_draw, draws}
-use Rattle.entries.specs.Log.{change_in, entry_in}
+use Rattle.rules.specs.Update.{Change, Broken, Added, Sides, Replaced, Entry, Tested, all, is_open, to_hide, draws}
+use Rattle.entries.specs.Log.{entry_in}
 use Rattle.terms.specs.Modes.{tested_by}
 use Rattle.works.specs.declared.Work.{Work}
 use Rattle.works.specs.Sets.{types_by, sets, is_shown, shown_for, open_for, hidden_for, is_breaking, is_adding, meant_by, meant}
 use Rattle.works.proofs.work_of.Goals as goal
-use Rattle.works.proofs.work_of.Lts
-use Rattle.works.proofs.work_of.Tie
-use Rattle.works.proofs.work_of.Reads
-
-abbrev Start : Type 0
-Start = Lts.Start Tie.the-claims Reads.Pre Reads.Post
 
 module _ (tested : Tested) (W : World) (e : Entry) where
   -- the sets of Sides; those of a change by which something goes, or is put
@@ -39,37 +34,30 @@ module _ (tested : Tested) (W : World) (e : Entry) where
   by_change Sides = refl
   by_change Replaced = refl
 
-abbrev types : Start → World
-types t = types_by t.args.kinds.now t.args.covers.now
-
--- what the rule says, once it is told whether something goes, or is put
-module _ (t : Start) {goes put : Bool} (g : goes ≡ is_breaking (change_in t.args.entry.change)) (p : put ≡ is_adding (change_in t.args.entry.change)) where
-  abbrev e : Entry
-  e = entry_in t.args.entry
-
-  abbrev side : Tested
-  side = tested_by t.args.tested
-
-  told : {b : Bool} → (goes || put) ≡ b → cond b (struck side (types t) e goes put) (sided side (types t) e) ≡ meant side (types t) e
-  told h = sym (ap (λ (b : Bool). cond b (struck side (types t) e goes put) (sided side (types t) e)) h) ∙ (λ i. ruled side (types t) e (g i) (p i)) ∙ by_change side (types t) e (change_in t.args.entry.change)
+  -- what the rule says, once it is told whether something goes, or is put
+  told : {goes put b : Bool} → goes ≡ is_breaking e.change → put ≡ is_adding e.change → (goes || put) ≡ b → cond b (struck goes put) sided ≡ meant tested W e
+  told {goes} {put} g p h = sym (ap (λ (b : Bool). cond b (struck goes put) sided) h) ∙ (λ i. ruled (g i) (p i)) ∙ by_change e.change
 
 pub returns-then-not-goes-put : goal.returns-then-not-goes-put
 returns-then-not-goes-put c =
-    let on = ap (λ (n : ℕ). eqb n 1) c.code_of-cube.ensures in
-    let new = c.sides_to_draw-drawn.ensures ∙ (λ i. set_of (λ f. on i && to_draw (entry_in c.args.entry) f)) in
-    (λ i. sets (c.sides_to_hide-own.ensures i) 0 (new i) 0)
-    ∙ told c.before.before.before.before.before.before.before.before.before c.breaks-goes.ensures c.adds-put.ensures c.if-not-goes-put.true
+    let a = c.args in
+    let e = entry_in a.entry in
+    let W = types_by a.kinds.now a.covers.now in
+    let hide = c.side_set.ensures (to_hide e) (λ face b h. search rules) in
+    let draw = c.side_set-then-not-goes-put.ensures (draws W e) (λ face b h. search rules) in
+    (λ i. sets (hide i) 0 (draw i) 0) ∙ told (tested_by a.tested) W e c.breaks-goes.ensures c.adds-put.ensures c.if-not-goes-put.true
 
 pub returns : goal.returns
 returns c =
-    let t = c.before.before.before.before.before.before.before.before.before.before.before.before.before.before in
-    let e = entry_in t.args.entry in
-    let a = c.breaks-goes.result in
-    let b = c.adds-put.result in
-    let on = ap (λ (n : ℕ). eqb n 1) c.code_of-cube.ensures in
-    let own = c.all_if-own.ensures ∙ (λ i. cond (a || (b && on i)) 63 0) in
-    let was = c.code_of.ensures ∙ ap (λ (v : ℕ). get_or t.args.covers.now v 0) c.gone.ensures in
-    let come = c.shown_if-shown.ensures ∙ (λ i. cond a (set_of (is_shown t.args.kinds.now (was i) e)) 0) in
-    let drawn = c.open_if-drawn.ensures ∙ (λ i. open_for (b && on i) (types t) e) in
-    let hidden = c.hidden_if-hidden.ensures ∙ (λ i. cond (b && on i) (set_of (λ f. has (c.code_of-2.ensures i) (tested_by t.args.tested f))) 0) in
-    (λ i. sets (own i) (come i) (drawn i) (hidden i)) ∙ told t c.breaks-goes.ensures c.adds-put.ensures c.if-not-goes-put.false
+    let a = c.args in
+    let e = entry_in a.entry in
+    let W = types_by a.kinds.now a.covers.now in
+    let goes = c.breaks-goes.result in
+    let put = c.adds-put.result in
+    let on = ap (λ (n : ℕ). eqb n 1) c.code_of.ensures in
+    let own = c.set_if.ensures all (λ face b h. search rules) ∙ (λ i. cond (goes || (put && on i)) 63 0) in
+    let was = c.code_of-was.ensures ∙ ap (λ (v : ℕ). get_or a.covers.now v 0) c.gone.ensures in
+    let come = c.set_if-2.ensures (is_shown a.kinds.now c.code_of-was.result e) (λ face b h. search rules) ∙ (λ i. cond goes (set_of (is_shown a.kinds.now (was i) e)) 0) in
+    let drawn = c.set_if-3.ensures (is_open W e) (λ face b h. search rules) ∙ (λ i. open_for (put && on i) W e) in
+    let hidden = c.set_if-4.ensures (λ f. has c.code_of-cover.result (tested_by a.tested f)) (λ face b h. search rules) ∙ (λ i. cond (put && on i) (set_of (λ f. has (c.code_of-cover.ensures i) (tested_by a.tested f))) 0) in
+    (λ i. sets (own i) (come i) (drawn i) (hidden i)) ∙ told (tested_by a.tested) W e c.breaks-goes.ensures c.adds-put.ensures c.if-not-goes-put.false
