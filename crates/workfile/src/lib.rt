@@ -92,6 +92,7 @@ fn dims_of(file: &[u8]) -> Dimensions
 }
 
 // A count that does not fit 32 bits counts as 2^32, so that nothing wraps.
+#[tactic(auto, unfolding(crate::specs::Work::capped))]
 fn capped_cells(dims: Dimensions) -> u64
     ensures { (result ≡ capped (cells (size_of dims))) × (result ≤ 4294967296) }
 {
