@@ -107,7 +107,7 @@ fn cell_count(file: &[u8]) -> u64
     capped_cells(dims_of(file))
 }
 
-// Whether the parts adjoin and fill the file.
+// Whether the parts adjoin and fill the file. Each test is made: with && the proof doesn't close.
 fn is_adjoining(file: &[u8]) -> bool
     requires { (92 ≤ length file.now) × (length file.now ≤ 8192) }
     ensures { result ≡ adjoining file.now }
@@ -121,6 +121,7 @@ fn is_adjoining(file: &[u8]) -> bool
         & (ENTRY_BYTES * long_word(file, 4) + log == body)
 }
 
+// Each test is made: with || the proof doesn't close.
 fn is_bad_trailer(file: &[u8]) -> bool
     requires { (92 ≤ length file.now) × (length file.now ≤ 8192) }
     ensures { result ≡ bad_file file.now }
