@@ -8,48 +8,28 @@ ghost use Rattle.face.specs.Face.{number};
 ghost use Rattle.util.specs.Grid.{size_of, Within};
 
 use check::expect;
-use face::{Cell, Face, FoundFace};
+use face::{Cell, Face, NONE, face_at};
 use std::io;
-use util::{Dimensions, Neighbor};
+use util::Dimensions;
 use vectors::{Count, say};
-
-const NONE: u32 = 4_294_967_295;
-
-fn face_at(n: u32) -> Face {
-    match Face::from_number(n) {
-        FoundFace::Face(face) => face,
-        FoundFace::Nothing => Face::Top,
-    }
-}
 
 fn size(width: u32, height: u32, length: u32) -> Dimensions
     ensures { size_of result ≡ record { w = width; h = height; l = length } }
 {
     Dimensions {
-        width: width,
-        height: height,
-        length: length,
+        width,
+        height,
+        length,
     }
 }
 
 // ---- side sets
 
-fn one_if(held: bool) -> u8
-    ensures { result ≤ 1 }
+// How many faces of a set are below a number.
+fn smaller_in(set: u8, end: u32) -> u8
+    requires { end ≤ 6 }
 {
-    if held { 1 } else { 0 }
-}
-
-fn smaller_in(set: u8, face: u32) -> u8
-    requires { face ≤ 6 }
-{
-    let mut count: u8 = 0;
-    let mut smaller = 0;
-    while smaller < face {
-        count += one_if(face::has(set, face_at(smaller)));
-        smaller += 1;
-    }
-    count
+    (0..end).filter(|n| face::has(set, face_at(*n))).count() as u8
 }
 
 fn is_rank(set: u8, face: Face, n: u8) -> bool
@@ -62,20 +42,17 @@ fn is_rank(set: u8, face: Face, n: u8) -> bool
 fn is_size(set: u8, n: u8) -> bool
     requires { set < 64 }
 {
-    face::quads_of(set) == n as u32
+    face::quads_of(set) == u32::from(n)
 }
 
 fn try_sets() -> Count {
-    let mut count = Count::none();
-    let mut place: u32 = 0;
-    while place < 384 {
-        let set = (place / 6) as u8;
-        let face = place % 6;
-        let smaller = smaller_in(set, face);
+    let mut count = Count::default();
+    for set in 0..64 {
         let all = smaller_in(set, 6);
-        count = count.and(is_rank(set, face_at(face), smaller));
-        count = count.and(is_size(set, all));
-        place += 1;
+        for n in 0..6 {
+            count = count.and(is_rank(set, face_at(n), smaller_in(set, n)));
+            count = count.and(is_size(set, all));
+        }
     }
     count
 }
@@ -102,10 +79,7 @@ fn found(cell: u32, face: Face, dims: Dimensions) -> u32
     requires { Within (size_of dims) × (cell < cells (size_of dims)) }
     ensures { result ≡ get_or (neighbour (size_of dims) cell (number face)) 4294967295 }
 {
-    match util::get_neighbor(Cell(cell), face, dims) {
-        Neighbor::At(neighbor) => neighbor.0,
-        Neighbor::Nothing => NONE,
-    }
+    util::get_neighbor(Cell(cell), face, dims).map_or(NONE, |neighbor| neighbor.0)
 }
 
 fn is_neighbor(cell: u32, face: Face, n: u32) -> bool
@@ -130,13 +104,12 @@ fn cell_again(cell: u32, dims: Dimensions) -> u32
 
 fn try_neighbors(tried: Count) -> Count {
     let mut count = tried;
-    let mut place: u32 = 0;
-    while place < 162 {
-        let cell = place / 6;
-        let face = face_at(place % 6);
-        count = count.and(is_neighbor(cell, face, expected(cell, face)));
-        count = count.and(is_cell(cell, cell));
-        place += 1;
+    for cell in 0..27 {
+        for n in 0..6 {
+            let face = face_at(n);
+            count = count.and(is_neighbor(cell, face, expected(cell, face)));
+            count = count.and(is_cell(cell, cell));
+        }
     }
     count
 }
@@ -144,23 +117,16 @@ fn try_neighbors(tried: Count) -> Count {
 // ---- what is packed is read again
 
 fn is_link(link: u32, cell: u32, face: Face) -> bool {
-    match face::face_of(link) {
-        FoundFace::Face(read) => {
-            (face::cell_of(link).0 == cell) & (read.number() == face.number())
-        }
-        FoundFace::Nothing => false,
-    }
+    face::cell_of(link).0 == cell && face::face_of(link) == Some(face)
 }
 
 fn try_links(tried: Count, cell: u32) -> Count
     requires { cell < 536870912 }
 {
     let mut count = tried;
-    let mut number: u32 = 0;
-    while number < 6 {
-        let face = face_at(number);
+    for n in 0..6 {
+        let face = face_at(n);
         count = count.and(is_link(face::link(Cell(cell), face), cell, face));
-        number += 1;
     }
     count
 }
@@ -189,10 +155,9 @@ fn try_wrong(tried: Count) -> Count {
 fn main(rt: HostRuntime) -> io::Result<()> {
     examples();
     let mut count = try_neighbors(try_sets());
-    count = try_links(count, 0);
-    count = try_links(count, 5);
-    count = try_links(count, 1_048_575);
-    count = try_links(count, 536_870_911);
+    for cell in [0, 5, 1_048_575, 536_870_911] {
+        count = try_links(count, cell);
+    }
     say(
         &rt,
         "faces, neighbours and links (8 wrong on purpose):",

@@ -6,7 +6,7 @@ use native.Mathlib.Nat.{add-zero}
 use native.Mathlib.Numerals.{add-one}
 use native.Mathlib.Omega.{arith}
 use lib.ListN.{length, set, take, drop, length-append, length-take, length-drop, length-set, take-append-drop}
-use lib.Seq.{take_at, take-length, take-set-le, drop-cons, drop-drop, drop-append-add, drop-set-lt, set_split, get_or-set_same, paste}
+use lib.Seq.{take_at, take-set-le, drop-cons, drop-drop, drop-append-add, drop-set-lt, set_split, get_or-set_same}
 use Rattle.lines.specs.Written.{put, Wrote, Room}
 
 pub length-put : (at : ℕ) (ys xs : List ℕ) → at + length ys ≤ length xs → length (put at ys xs) ≡ length xs
@@ -17,9 +17,6 @@ put_none at xs = sym (rw add-zero (take-append-drop at xs))
 
 pub put_one : (at y : ℕ) (xs : List ℕ) → at < length xs → set xs at y ≡ put at (y ∷ []) xs
 put_one at y xs h = rw add-one (set_split xs at y h)
-
-pub put_pasted : (at : ℕ) (ys xs : List ℕ) → paste xs at ys (length ys) ≡ put at ys xs
-put_pasted at ys xs = rw take-length (append_assoc (take at xs) ys (drop (at + length ys) xs))
 
 -- one piece after the other
 pub put_put : (at : ℕ) (a b xs : List ℕ) → at + length a ≤ length xs → put (at + length a) b (put at a xs) ≡ put at (a ++ b) xs

@@ -1,4 +1,5 @@
 // What the program prints, written into a lent buffer: each function writes its bytes at a place and returns the next place.
+// The buffer and the place stay two parameters: a struct of both would owe a clause on the buffer's ghost name in each contract.
 #![tactic(auto)]
 
 ghost use Rattle.std.specs.Prelude.{◌≡◌, [], ◌∷◌, ◌++◌, ◌/◌, ◌%◌, ◌≤◌, ◌<◌, length};
@@ -12,6 +13,7 @@ const SPACE: u8 = b' ';
 
 const LINE: u8 = b'\n';
 
+#[tactic(auto, using(crate::proofs::Writing::wrote_one))]
 fn write_byte(byte: u8, out: &mut [u8], at: usize) -> usize
     requires { Room (byte ∷ []) at out.old }
     ensures { Wrote (byte ∷ []) at out.old out.new result }
@@ -24,12 +26,9 @@ fn write_text(text: &[u8], out: &mut [u8], at: usize) -> usize
     requires { Room text.now at out.old }
     ensures { Wrote text.now at out.old out.new result }
 {
-    let mut i: usize = 0;
-    while i < text.len() {
-        out[at + i] = text[i];
-        i += 1;
-    }
-    at + i
+    let end = at + text.len();
+    out[at..end].copy_from_slice(text);
+    end
 }
 
 // ---- numbers in decimal
@@ -46,7 +45,7 @@ fn decimal_length(n: u64) -> usize
     let mut left = n;
     let mut count: usize = 1;
     while 10 <= left {
-        left = left / 10;
+        left /= 10;
         count += 1;
     }
     count
@@ -62,7 +61,7 @@ pub fn write_decimal(n: u64, out: &mut [u8], at: usize) -> usize
     let mut last = end - 1;
     while 10 <= left {
         out[last] = digit(left);
-        left = left / 10;
+        left /= 10;
         last -= 1;
     }
     out[last] = digit(left);
@@ -70,6 +69,7 @@ pub fn write_decimal(n: u64, out: &mut [u8], at: usize) -> usize
 }
 
 // A number, and the byte that ends it.
+#[tactic(auto, using(crate::proofs::Writing::room_first, crate::proofs::Writing::room_next))]
 fn write_ended(n: u64, end: u8, out: &mut [u8], at: usize) -> usize
     requires { Room (decimal n ++ (end ∷ [])) at out.old }
     ensures { Wrote (decimal n ++ (end ∷ [])) at out.old out.new result }
@@ -79,6 +79,7 @@ fn write_ended(n: u64, end: u8, out: &mut [u8], at: usize) -> usize
 }
 
 // A number after its name.
+#[tactic(auto, using(crate::proofs::Writing::room_first, crate::proofs::Writing::room_next))]
 fn write_named(name: &[u8], n: u64, out: &mut [u8], at: usize) -> usize
     requires { Room (name.now ++ decimal n) at out.old }
     ensures { Wrote (name.now ++ decimal n) at out.old out.new result }
@@ -93,7 +94,7 @@ pub fn write_refused(number: u32, place: u64, out: &mut [u8], at: usize) -> usiz
     requires { Room (refused_line (refused number place)) at out.old }
     ensures { Wrote (refused_line (refused number place)) at out.old out.new result }
 {
-    let next = write_named(b"refused ", number as u64, out, at);
+    let next = write_named(b"refused ", u64::from(number), out, at);
     let last = write_named(b" at ", place, out, next);
     write_byte(LINE, out, last)
 }
@@ -112,8 +113,8 @@ pub fn write_quad(number: u64, cell: u32, face: u32, out: &mut [u8], at: usize) 
     ensures { Wrote (quad_line number cell face) at out.old out.new result }
 {
     let second = write_ended(number, SPACE, out, at);
-    let third = write_ended(cell as u64, SPACE, out, second);
-    write_ended(face as u64, LINE, out, third)
+    let third = write_ended(u64::from(cell), SPACE, out, second);
+    write_ended(u64::from(face), LINE, out, third)
 }
 
 // The quad of a link.
@@ -130,14 +131,13 @@ fn write_quads(links: &[u32], out: &mut [u8], at: usize) -> usize
     ensures { Wrote (quad_lines 0 (quads_of links.now)) at out.old out.new result }
 {
     let mut next = at;
-    let mut i: usize = 0;
-    while i < links.len() {
-        next = write_link(i as u64, links[i], out, next);
-        i += 1;
+    for (i, link) in links.iter().enumerate() {
+        next = write_link(i as u64, *link, out, next);
     }
     next
 }
 
+#[tactic(auto, using(crate::proofs::Lining::head_room, crate::proofs::Lining::quads_room))]
 pub fn write_lines(links: &[u32], quads: u64, moved: u64, out: &mut [u8], at: usize) -> usize
     requires { OfFaces links.now × Room (mesh_lines (answered quads moved) (quads_of links.now)) at out.old }
     ensures { Wrote (mesh_lines (answered quads moved) (quads_of links.now)) at out.old out.new result }
@@ -152,10 +152,7 @@ fn write_if(held: bool, byte: u8, out: &mut [u8], at: usize) -> usize
     requires { Room (only held byte) at out.old }
     ensures { Wrote (only held byte) at out.old out.new result }
 {
-    if held {
-        return write_byte(byte, out, at);
-    }
-    at
+    if held { write_byte(byte, out, at) } else { at }
 }
 
 // The faces of a set, at the start of the buffer; how many there are is returned.
@@ -164,10 +161,8 @@ pub fn outer_of(set: u8, out: &mut [u8]) -> usize
     ensures { Wrote (faces_of set) 0 out.old out.new result }
 {
     let mut next: usize = 0;
-    let mut f: u8 = 0;
-    while f < 6 {
+    for f in 0..6 {
         next = write_if((set >> f) % 2 == 1, f, out, next);
-        f += 1;
     }
     next
 }

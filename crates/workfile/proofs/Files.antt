@@ -2,15 +2,14 @@
 use mathlib.Core.Path.{◌≡◌, refl, sym, ap, ◌∙◌}
 use mathlib.Core.Bool.{Bool, true, false, not, ◌&&◌, ◌||◌}
 use mathlib.Core.List.{List}
-use Prim.Native.Nat.{ℕ, ◌+◌, ◌-◌, ◌*◌, ◌≤◌, ◌<◌}
-use native.Mathlib.Nat.{mul-le-mul, mul-le-mul_left, mul-one, mul-zero, le_refl}
+use Prim.Native.Nat.{ℕ, ◌+◌, ◌*◌, ◌≤◌, ◌<◌}
 use native.Mathlib.Omega.{arith}
-use lib.ListN.{length, take, drop}
+use lib.ListN.{length}
 use lib.Dec.{eqb, ltb}
 use borrow.Author.Tests.{eqb-true, ne_eqb, ltb-true, ltb-false, lt-ltb, le-ltb}
 use Rattle.rules.specs.Update.{ENTRY_BYTES}
 use Rattle.rules.specs.Cells.{cells}
-use Rattle.rules.specs.Program.{body, word, type_count, size_in, grid_start, log_start, grid_in, log_in, adjoining, bad_file}
+use Rattle.rules.specs.Program.{body, word, type_count, size_in, grid_start, log_start, adjoining, bad_file}
 use Rattle.rules.proofs.ListLaws.{not_true, and_true, or_false}
 use Rattle.floats.specs.declared.Triple.{Triple}
 use Rattle.util.specs.declared.Dimensions.{Dimensions}
@@ -19,9 +18,6 @@ use Rattle.workfile.specs.Work.{Good, capped, triple_at, dims_in, work_in}
 
 -- ---- capped counts
 
-pub product_fits : (a b : ℕ) → a < 4294967296 → b < 4294967296 → a * b < 18446744073709551616
-product_fits a b h l = let m : a * b ≤ 4294967295 * 4294967295 = mul-le-mul {n₂ = 4294967295} {m₂ = 4294967295} (omega arith) (omega arith) in omega arith
-
 pub capped_under : (n : ℕ) → n < 4294967296 → capped n ≡ n
 unfolding capped
 capped_under n h = rw (lt-ltb n 4294967296 h)
@@ -29,13 +25,6 @@ capped_under n h = rw (lt-ltb n 4294967296 h)
 pub capped_over : (n : ℕ) → 4294967296 ≤ n → capped n ≡ 4294967296
 unfolding capped
 capped_over n h = rw (le-ltb n 4294967296 h)
-
--- a layer that is capped, and any row of it
-pub capped_product : (a b : ℕ) → 4294967296 ≤ a → (b ≡ 0 → ⊥) → capped (a * b) ≡ 4294967296
-capped_product a b h n = capped_over (a * b) (omega (arith, mul-le-mul_left {m = 1} {n = b} a (omega arith), mul-one a))
-
-pub capped_empty : (a b : ℕ) → b ≡ 0 → capped (a * b) ≡ 0
-capped_empty a b e = rw (e, mul-zero) (capped_under 0 (omega arith))
 
 -- a test that holds of a count below the cap as above it
 capped_test : (test : ℕ → Bool) → ((n : ℕ) → 4294967296 ≤ n → test n ≡ test 4294967296) → (n : ℕ) → test (capped n) ≡ test n
@@ -146,52 +135,5 @@ work_read file g t n s d c e o a w h p f l k =
     let m : capped (cells (size_in file)) ≡ cells (size_in file) = capped_under (cells (size_in file)) (few g.cells) in
     rw (t, n, m, s, d, c, e, o, a, w, h, p, f, l, k)
 
--- ---- the parts lie in the file, one after the other
-
-later : (a b : ℕ) → a ≤ a + b
-later a b = omega arith
-
-before : (a b c : ℕ) → a + b ≡ c → b ≤ c
-before a b c e = omega arith
-
-counted : (t n : ℕ) → t < n → 74 * t + 74 ≤ 74 * n
-counted t n h = omega arith
-
-between : (a b c n m : ℕ) → a ≤ b → b ≤ c → c ≤ m - n → a ≤ m
-between a b c n m h l k = omega arith
-
-pub type_inside : (file : List ℕ) → Good file → (t : ℕ) → t < type_count file → 74 * t + 74 ≤ length file
-type_inside file g t h =
-    between (74 * t + 74) (grid_start file) (log_start file) 92 (length file) (counted t (type_count file) h)
-    (later (grid_start file) (cells (size_in file))) (before (ENTRY_BYTES * word file 4) (log_start file) (body file) g.fills)
-
-module _ (file : List ℕ) (g : Good file) {work : Work} (e : work ≡ work_in file) where
-  grid_starts : work.grid_start ≡ grid_start file
-  grid_starts = ap (λ (w : Work). w.grid_start) e
-
-  log_starts : work.log_start ≡ log_start file
-  log_starts = ap (λ (w : Work). w.log_start) e
-
-  pub types_are : work.types ≡ type_count file
-  types_are = ap (λ (w : Work). w.types) e
-
-  pub grid_first : work.grid_start ≤ work.log_start
-  grid_first = rw (grid_starts, log_starts) (later (grid_start file) (cells (size_in file)))
-
-  pub log_ends : work.log_start ≤ body file
-  log_ends = rw log_starts (before (ENTRY_BYTES * word file 4) (log_start file) (body file) g.fills)
-
-  pub log_inside : work.log_start ≤ length file
-  log_inside = between _ _ _ 92 (length file) log_ends (le_refl (body file)) (le_refl (body file))
-
-  pub grid_part : take (work.log_start - work.grid_start) (drop work.grid_start file) ≡ grid_in file
-  grid_part = rw (grid_starts, log_starts, rest (grid_start file) (cells (size_in file)))
-    where
-      rest : (a b : ℕ) → a + b - a ≡ b
-      rest a b = omega arith
-
-  pub log_part : take (body file - work.log_start) (drop work.log_start file) ≡ log_in file
-  log_part = rw (log_starts, rest (ENTRY_BYTES * word file 4) (log_start file) (body file) g.fills)
-    where
-      rest : (a b c : ℕ) → a + b ≡ c → c - b ≡ a
-      rest a b c h = omega arith
+pub types_are : (file : List ℕ) → Good file → {work : Work} → work ≡ work_in file → work.types ≡ type_count file
+types_are file g e = ap (λ (w : Work). w.types) e

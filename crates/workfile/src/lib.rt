@@ -1,7 +1,8 @@
 // The work file: whether it is bad, what its trailer says, and its parts.
 #![tactic(auto)]
 
-ghost use Rattle.std.specs.Prelude.{◌≡◌, ◌+◌, ◌*◌, ◌≤◌, ◌<◌, length};
+ghost use Rattle.std.specs.Prelude.{◌≡◌, true, false, ◌+◌, ◌*◌, ◌≤◌, ◌<◌, length};
+ghost use Rattle.std.specs.Option.{MatchOption};
 ghost use Rattle.rules.specs.Lists.{filled};
 ghost use Rattle.rules.specs.Cells.{cells};
 ghost use Rattle.rules.specs.Update.{u32_at};
@@ -24,6 +25,9 @@ pub const MAX_TYPES: u32 = 8;
 
 pub const MAX_CELLS: u64 = 512;
 
+// No file has as many.
+const MANY_CELLS: u64 = 4_294_967_296;
+
 // What the trailer says; each float is its bits.
 #[derive(Clone, Copy)]
 pub struct Work {
@@ -44,20 +48,11 @@ pub struct Work {
     pub log_start: usize,
 }
 
-fn wide(byte: u8) -> u32
-    ensures { (result ≡ byte) × (result < 256) }
-{
-    byte as u32
-}
-
 pub fn u32_at(file: &[u8], at: usize) -> u32
     requires { at + 4 ≤ length file.now }
     ensures { result ≡ u32_at file.now at }
 {
-    wide(file[at])
-        + 256 * wide(file[at + 1])
-        + 65_536 * wide(file[at + 2])
-        + 16_777_216 * wide(file[at + 3])
+    u32::from_le_bytes([file[at], file[at + 1], file[at + 2], file[at + 3]])
 }
 
 pub fn word(file: &[u8], i: usize) -> u32
@@ -71,7 +66,7 @@ fn long_word(file: &[u8], i: usize) -> u64
     requires { (92 ≤ length file.now) × (i < 23) }
     ensures { (result ≡ word file.now i) × (result < 4294967296) }
 {
-    word(file, i) as u64
+    u64::from(word(file, i))
 }
 
 fn triple_at(file: &[u8], i: usize) -> Triple
@@ -97,23 +92,12 @@ fn dims_of(file: &[u8]) -> Dimensions
 }
 
 // A count that does not fit 32 bits counts as 2^32, so that nothing wraps.
+#[tactic(auto, unfolding(crate::specs::Work::capped))]
 fn capped_cells(dims: Dimensions) -> u64
     ensures { (result ≡ capped (cells (size_of dims))) × (result ≤ 4294967296) }
 {
-    let layer = (dims.height as u64) * (dims.length as u64);
-    let width = dims.width as u64;
-    if width == 0 {
-        return 0;
-    }
-    if 4_294_967_296 <= layer {
-        return 4_294_967_296;
-    }
-    let cells = layer * width;
-    if cells < 4_294_967_296 {
-        cells
-    } else {
-        4_294_967_296
-    }
+    let layer = u64::from(dims.height) * u64::from(dims.length);
+    layer.saturating_mul(u64::from(dims.width)).min(MANY_CELLS)
 }
 
 fn cell_count(file: &[u8]) -> u64
@@ -123,7 +107,7 @@ fn cell_count(file: &[u8]) -> u64
     capped_cells(dims_of(file))
 }
 
-// Whether the parts adjoin and fill the file.
+// Whether the parts adjoin and fill the file. Each test is made: with && the proof doesn't close.
 fn is_adjoining(file: &[u8]) -> bool
     requires { (92 ≤ length file.now) × (length file.now ≤ 8192) }
     ensures { result ≡ adjoining file.now }
@@ -137,6 +121,7 @@ fn is_adjoining(file: &[u8]) -> bool
         & (ENTRY_BYTES * long_word(file, 4) + log == body)
 }
 
+// Each test is made: with || the proof doesn't close.
 fn is_bad_trailer(file: &[u8]) -> bool
     requires { (92 ≤ length file.now) × (length file.now ≤ 8192) }
     ensures { result ≡ bad_file file.now }
@@ -167,93 +152,100 @@ pub fn is_bad_file(file: &[u8]) -> bool
     is_bad_trailer(file)
 }
 
-pub fn read_work(file: &[u8]) -> Work
-    requires { Good file.now }
-    ensures { result ≡ work_in file.now }
-{
-    let types = word(file, 3) as usize;
-    let cells = cell_count(file) as usize;
-    let dims = dims_of(file);
-    let d = triple_at(file, 10);
-    let centre = triple_at(file, 13);
-    let grid_start = TYPE_BYTES * types;
-    Work {
-        types: types,
-        entries: word(file, 4),
-        dims: dims,
-        outer: word(file, 8) as u8,
-        culling: word(file, 9) == 1,
-        d: d,
-        centre: centre,
-        atlas_width: word(file, 16),
-        atlas_height: word(file, 17),
-        padding: word(file, 18),
-        coloured: word(file, 19) == 1,
-        colour: word(file, 20),
-        alpha: word(file, 21),
-        grid_start: grid_start,
-        log_start: grid_start + cells,
+// A file that is not bad.
+#[derive(Clone, Copy)]
+pub struct WorkFile<'a> {
+    pub bytes: &'a [u8],
+    ghost good: { Good bytes.now },
+}
+
+impl<'a> WorkFile<'a> {
+    // None where the file is bad. Takes any bytes.
+    pub fn open(bytes: &'a [u8]) -> Option<WorkFile<'a>>
+        ensures { MatchOption result (bad_file bytes.now ≡ true) (λ file. (bad_file bytes.now ≡ false) × (file.bytes.now ≡ bytes.now)) }
+    {
+        if is_bad_file(bytes) {
+            None
+        } else {
+            Some(WorkFile { bytes })
+        }
     }
-}
 
-// ---- the parts
-
-pub fn grid_of(file: &[u8]) -> &[u8]
-    requires { Good file.now }
-    ensures { result.now ≡ grid_in file.now }
-{
-    let work = read_work(file);
-    let start = work.grid_start;
-    let end = work.log_start;
-    &file[start..end]
-}
-
-pub fn log_of(file: &[u8]) -> &[u8]
-    requires { Good file.now }
-    ensures { result.now ≡ log_in file.now }
-{
-    let work = read_work(file);
-    let start = work.log_start;
-    let end = file.len() - TRAILER_BYTES;
-    &file[start..end]
-}
-
-// Byte i of each type.
-fn type_bytes(file: &[u8], i: usize, out: &mut [u8])
-    requires { Good file.now × (i < 74) × (type_count file.now ≤ length out.old) }
-    ensures { out.new ≡ filled (type_count file.now) (λ t. type_byte file.now t i) out.old }
-{
-    let types = read_work(file).types;
-    let mut t: usize = 0;
-    while t < types {
-        out[t] = file[TYPE_BYTES * t + i];
-        t += 1;
+    pub fn read_work(self) -> Work
+        ensures { result ≡ work_in self.entry.bytes.now }
+    {
+        let file = self.bytes;
+        let types = word(file, 3) as usize;
+        let cells = cell_count(file) as usize;
+        let grid_start = TYPE_BYTES * types;
+        Work {
+            types,
+            entries: word(file, 4),
+            dims: dims_of(file),
+            outer: word(file, 8) as u8,
+            culling: word(file, 9) == 1,
+            d: triple_at(file, 10),
+            centre: triple_at(file, 13),
+            atlas_width: word(file, 16),
+            atlas_height: word(file, 17),
+            padding: word(file, 18),
+            coloured: word(file, 19) == 1,
+            colour: word(file, 20),
+            alpha: word(file, 21),
+            grid_start,
+            log_start: grid_start + cells,
+        }
     }
-}
 
-pub fn kinds_of(file: &[u8], out: &mut [u8])
-    requires { Good file.now × (type_count file.now ≤ length out.old) }
-    ensures { out.new ≡ filled (type_count file.now) (λ t. type_byte file.now t 0) out.old }
-{
-    type_bytes(file, 0, out);
-}
+    pub fn grid_of(self) -> &'a [u8]
+        ensures { result.now ≡ grid_in self.entry.bytes.now }
+    {
+        let work = self.read_work();
+        &self.bytes[work.grid_start..work.log_start]
+    }
 
-pub fn covers_of(file: &[u8], out: &mut [u8])
-    requires { Good file.now × (type_count file.now ≤ length out.old) }
-    ensures { out.new ≡ filled (type_count file.now) (λ t. type_byte file.now t 1) out.old }
-{
-    type_bytes(file, 1, out);
-}
+    pub fn log_of(self) -> &'a [u8]
+        ensures { result.now ≡ log_in self.entry.bytes.now }
+    {
+        let start = self.read_work().log_start;
+        let end = self.bytes.len() - TRAILER_BYTES;
+        &self.bytes[start..end]
+    }
 
-// The six entries of face, a, b of a type.
-pub fn texture_of(file: &[u8], t: usize, out: &mut [u32])
-    requires { Good file.now × (t < type_count file.now) × (length out.old ≡ 18) }
-    ensures { out.new ≡ (shape_in file.now t).texture }
-{
-    let start = TYPE_BYTES * t + 2;
-    let mut i: usize = 0;
-    while i < 18 {
-        out[i] = u32_at(file, start + 4 * i);
-        i += 1;
+    // Byte i of each type.
+    fn type_bytes(self, i: usize, out: &mut [u8])
+        requires { (i < 74) × (type_count self.bytes.now ≤ length out.old) }
+        ensures { out.new ≡ filled (type_count self.entry.bytes.now) (λ t. type_byte self.entry.bytes.now t i) out.old }
+    {
+        let file = self.bytes;
+        for t in 0..self.read_work().types {
+            out[t] = file[TYPE_BYTES * t + i];
+        }
+    }
+
+    pub fn kinds_of(self, out: &mut [u8])
+        requires { type_count self.bytes.now ≤ length out.old }
+        ensures { out.new ≡ filled (type_count self.entry.bytes.now) (λ t. type_byte self.entry.bytes.now t 0) out.old }
+    {
+        self.type_bytes(0, out);
+    }
+
+    pub fn covers_of(self, out: &mut [u8])
+        requires { type_count self.bytes.now ≤ length out.old }
+        ensures { out.new ≡ filled (type_count self.entry.bytes.now) (λ t. type_byte self.entry.bytes.now t 1) out.old }
+    {
+        self.type_bytes(1, out);
+    }
+
+    // The six entries of face, a, b of a type.
+    pub fn texture_of(self, t: usize, out: &mut [u32])
+        requires { (t < type_count self.bytes.now) × (length out.old ≡ 18) }
+        ensures { out.new ≡ (shape_in self.entry.bytes.now t).texture }
+    {
+        let file = self.bytes;
+        let start = TYPE_BYTES * t + 2;
+        for i in 0..18 {
+            out[i] = u32_at(file, start + 4 * i);
+        }
     }
 }

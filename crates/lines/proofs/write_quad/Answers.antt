@@ -7,13 +7,16 @@ pub write_ended-second-requires : goal.write_ended-second-requires
 write_ended-second-requires c = room_one (quad_pieces c.args.number c.args.cell c.args.face) c.requires
 
 pub write_ended-third-requires : goal.write_ended-third-requires
-write_ended-third-requires c = room_two (quad_pieces c.args.number c.args.cell c.args.face) c.requires c.write_ended-second.ensures
+write_ended-third-requires c = rw c.from.ensures (room_two (quad_pieces c.args.number c.args.cell c.args.face) c.requires c.write_ended-second.ensures)
 
 pub write_ended-requires : goal.write_ended-requires
 write_ended-requires c =
-    room_three (quad_pieces c.args.number c.args.cell c.args.face) c.requires c.write_ended-second.ensures c.write_ended-third.ensures
+    rw c.from-2.ensures
+    (room_three (quad_pieces c.args.number c.args.cell c.args.face) c.requires c.write_ended-second.ensures
+    (rw c.from.ensures at c.write_ended-third.ensures))
 
 pub returns : goal.returns
 returns c =
-    wrote_three (quad_pieces c.args.number c.args.cell c.args.face) c.requires c.write_ended-second.ensures c.write_ended-third.ensures
-    c.write_ended.ensures
+    wrote_three (quad_pieces c.args.number c.args.cell c.args.face) c.requires c.write_ended-second.ensures
+    (rw c.from.ensures at c.write_ended-third.ensures)
+    (rw c.from-2.ensures at c.write_ended.ensures)
