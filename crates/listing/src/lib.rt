@@ -6,51 +6,37 @@ ghost use Rattle.rules.specs.Cells.{cells, quads_of};
 ghost use Rattle.face.specs.Face.{Ranked};
 ghost use Rattle.drawing.specs.Written.{side_of};
 ghost use Rattle.util.specs.Grid.{size_of, Starts};
-ghost use Rattle.culling.specs.Culling.{world_of, Whole};
-ghost use Rattle.row_sets.specs.Rows.{Along, Seen};
+ghost use Rattle.culling.specs.Culling.{world_of};
 ghost use Rattle.listing.specs.Fresh.{set_at, faces_of, RowOf, sets_from, asked, cell_keys, keys_of, Roomy, Entered};
 
+use culling::Ground;
 use face::{Cell, Quad, bit_if, face_at, lowest_side, quads_of, rank};
 use mesh_metadata::insert;
 use row_sets::{Look, drawn_row};
-use util::{Dimensions, Row, wide};
+use util::Row;
 
 // All six sides of each NormalCube of a row.
-fn cube_row(sets: &mut [u8], dims: Dimensions, grid: &[u8], kinds: &[u8], first: u32)
-    requires { Whole (size_of dims) grid.now (length kinds.now) × (first + dims.width ≤ cells (size_of dims)) × (dims.width ≤ length sets.old) }
-    ensures { (covers outer : List ℕ) → RowOf (set_at false (world_of (size_of dims) kinds.now covers) outer grid.now) first dims.width sets.new }
+fn cube_row(sets: &mut [u8], ground: Ground<'_>, first: u32)
+    requires { (first + ground.dims.width ≤ cells (size_of ground.dims)) × (ground.dims.width ≤ length sets.old) }
+    ensures { (covers outer : List ℕ) → RowOf (set_at false (world_of (size_of ground.entry.dims) ground.entry.kinds.now covers) outer ground.entry.grid.now) first ground.entry.dims.width sets.new }
 {
-    let width = dims.width as usize;
     let at = first as usize;
-    let mut x: usize = 0;
-    while x < width {
-        let code = wide(grid[at + x]);
-        sets[x] = bit_if(kinds[code] == 1, 63);
-        x += 1;
+    for x in 0..ground.dims.width as usize {
+        let code = usize::from(ground.grid[at + x]);
+        sets[x] = bit_if(ground.kinds[code] == 1, 63);
     }
 }
 
 // The sides of each cell of a row to draw.
-pub fn side_row(
-    sets: &mut [u8],
-    dims: Dimensions,
-    culling: bool,
-    look: Look,
-    along: &[u8],
-    grid: &[u8],
-    kinds: &[u8],
-    covers: &[u8],
-    row: Row,
-)
-    requires { Seen (size_of dims) grid.now kinds.now covers.now look
-        × Starts (size_of dims) row.first row.y row.z × (dims.width ≤ length sets.old) × Along dims.width along.now }
-    ensures { RowOf (set_at culling (world_of (size_of dims) kinds.now covers.now) (faces_of look.outer) grid.now) row.first dims.width sets.new }
+pub fn side_row(sets: &mut [u8], look: Look<'_>, culling: bool, row: Row)
+    requires { Starts (size_of look.ground.dims) row.first row.y row.z × (look.ground.dims.width ≤ length sets.old) }
+    ensures { RowOf (set_at culling (world_of (size_of look.entry.ground.dims) look.entry.ground.kinds.now look.entry.ground.covers.now) (faces_of look.entry.outer) look.entry.ground.grid.now) row.first look.entry.ground.dims.width sets.new }
 {
     if culling {
-        drawn_row(sets, dims, look, along, grid, kinds, covers, row);
+        drawn_row(sets, look, row);
         return;
     }
-    cube_row(sets, dims, grid, kinds, row.first);
+    cube_row(sets, look.ground, row.first);
 }
 
 // How many quads few sets ask for: a byte holds it, so that they are added up many at once.
@@ -59,10 +45,8 @@ fn quads_in_few(sets: &[u8]) -> u8
     ensures { result ≡ asked (sets_from 0 sets.now) 0 (length sets.now) }
 {
     let mut n: u8 = 0;
-    let mut x: usize = 0;
-    while x < sets.len() {
-        n += quads_of(sets[x]) as u8;
-        x += 1;
+    for set in sets {
+        n += quads_of(*set) as u8;
     }
     n
 }
@@ -72,7 +56,7 @@ fn few_to(x: usize, end: usize) -> usize
     requires { (x < end) × (end ≤ 1024) }
     ensures { (x < result) × (result ≤ x + 32) × (result ≤ end) }
 {
-    if x + 32 <= end { x + 32 } else { end }
+    (x + 32).min(end)
 }
 
 // How many quads the sets of a row ask for.
@@ -84,27 +68,18 @@ fn quads_in(sets: &[u8]) -> u32
     let mut x: usize = 0;
     while x < sets.len() {
         let to = few_to(x, sets.len());
-        n += quads_in_few(&sets[x..to]) as u32;
+        n += u32::from(quads_in_few(&sets[x..to]));
         x = to;
     }
     n
 }
 
 // How many quads the cells ask for; `sets` is room for a row.
-pub fn count_quads(
-    dims: Dimensions,
-    culling: bool,
-    look: Look,
-    along: &[u8],
-    grid: &[u8],
-    kinds: &[u8],
-    covers: &[u8],
-    sets: &mut [u8],
-) -> usize
-    requires { Seen (size_of dims) grid.now kinds.now covers.now look
-        × (dims.width ≤ length sets.old) × Along dims.width along.now }
-    ensures { result ≡ asked (set_at culling (world_of (size_of dims) kinds.now covers.now) (faces_of look.outer) grid.now) 0 (cells (size_of dims)) }
+pub fn count_quads(look: Look<'_>, culling: bool, sets: &mut [u8]) -> usize
+    requires { look.ground.dims.width ≤ length sets.old }
+    ensures { result ≡ asked (set_at culling (world_of (size_of look.entry.ground.dims) look.entry.ground.kinds.now look.entry.ground.covers.now) (faces_of look.entry.outer) look.entry.ground.grid.now) 0 (cells (size_of look.entry.ground.dims)) }
 {
+    let dims = look.ground.dims;
     let width = dims.width as usize;
     let end = dims.cell_count();
     let mut n: usize = 0;
@@ -114,7 +89,7 @@ pub fn count_quads(
         z: 0,
     };
     while row.first < end {
-        side_row(sets, dims, culling, look, along, grid, kinds, covers, row);
+        side_row(sets, look, culling, row);
         n += quads_in(&sets[..width]) as usize;
         row = row.next(dims);
     }
@@ -140,7 +115,7 @@ fn index_cell(
         links.old slots.old sides.old links.new slots.new sides.new n result }
 {
     let mut next = n;
-    let mut rest = set as u32;
+    let mut rest = u32::from(set);
     while rest != 0 {
         let f = lowest_side(rest);
         let face = face_at(f);
@@ -158,7 +133,7 @@ fn side_at(code: u8, x: usize) -> u32
     requires { x < 1024 }
     ensures { (result ≡ 6144 * code + x) × (result < 2097152) }
 {
-    6144 * code as u32 + x as u32
+    6144 * u32::from(code) + x as u32
 }
 
 // The faces of a row's cells that are in their sets, into the index from place `base` on, and into the list of the row's faces. Answers how many there are.
@@ -179,12 +154,10 @@ pub fn index_row(
 {
     let start = first as usize;
     let mut n: usize = 0;
-    let mut x: usize = 0;
-    while x < sets.len() {
+    for (x, set) in sets.iter().enumerate() {
         let side = side_at(grid[start + x], x);
         let cell = Cell(first + x as u32);
-        n = index_cell(links, slots, sides, ranks, cell, sets[x], side, base, n);
-        x += 1;
+        n = index_cell(links, slots, sides, ranks, cell, *set, side, base, n);
     }
     n
 }

@@ -13,7 +13,7 @@ use Rattle.rules.specs.Floats.{finite}
 use Rattle.rules.specs.Cells.{Triple}
 use Rattle.rules.specs.Cube.{floats_of}
 use Rattle.rules.specs.Types.{Types, floats, cube_of, position_of, classed, is_cube}
-use Rattle.rules.specs.Answers.{fine, refuse, refuse_if, out_of, bad_counts, not_a_cube}
+use Rattle.rules.specs.Answers.{fine, refuse_if, out_of, bad_counts, not_a_cube}
 use Rattle.types.specs.Tests.{Placed, Counted}
 use Rattle.rules.proofs.ListLaws.{or_false, every_true}
 use Rattle.rules.proofs.Searches.{every_at}

@@ -73,82 +73,6 @@ fn position_of(cube: &[u32], floats: usize, i: usize, axis: usize) -> u32
     cube[floats * i + axis]
 }
 
-// The class on one axis of the triangle with the corners i, j and k.
-fn class_at(
-    cube: &[u32],
-    floats: usize,
-    centre: Triple,
-    axis: usize,
-    low: usize,
-    high: usize,
-    i: usize,
-    j: usize,
-    k: usize,
-) -> Option<usize>
-    requires words { Words cube.now floats × Placed cube.now floats × T (finite3 (triple_of centre)) }
-    requires axis_bound { (axis < 3) × (i < 24) × (j < 24) × (k < 24) }
-    ensures { class_in result ≡ class_at cube.now floats (triple_of centre) axis low high i j k }
-{
-    class_on(
-        low,
-        high,
-        centre.along(axis),
-        position_of(cube, floats, i, axis),
-        position_of(cube, floats, j, axis),
-        position_of(cube, floats, k, axis),
-    )
-}
-
-// The class of a triangle: by the first axis on which its corners are equal.
-fn class_of(
-    cube: &[u32],
-    floats: usize,
-    centre: Triple,
-    i: usize,
-    j: usize,
-    k: usize,
-) -> Option<usize>
-    requires words { Words cube.now floats × Placed cube.now floats × T (finite3 (triple_of centre)) }
-    requires i_bound { (i < 24) × (j < 24) × (k < 24) }
-    ensures { class_in result ≡ class_of cube.now floats (triple_of centre) i j k }
-{
-    let by_x = class_at(cube, floats, centre, 0, 3, 2, i, j, k);
-    let by_y = class_at(cube, floats, centre, 1, 1, 0, i, j, k);
-    let by_z = class_at(cube, floats, centre, 2, 5, 4, i, j, k);
-    by_x.or(by_y).or(by_z)
-}
-
-// Whether both triangles of a face are classed to it.
-fn is_classed(
-    cube: &[u32],
-    triangles: &[usize; 36],
-    floats: usize,
-    centre: Triple,
-    face: usize,
-) -> bool
-    requires words { Words cube.now floats × Placed cube.now floats × T (finite3 (triple_of centre)) }
-    requires face_bound { (face < 6) × (triangles.now ≡ cube_triangles) }
-    ensures { result ≡ classed cube.now floats (triple_of centre) face }
-{
-    let first = class_of(
-        cube,
-        floats,
-        centre,
-        corner_of(triangles, face, 0),
-        corner_of(triangles, face, 1),
-        corner_of(triangles, face, 2),
-    );
-    let second = class_of(
-        cube,
-        floats,
-        centre,
-        corner_of(triangles, face, 3),
-        corner_of(triangles, face, 4),
-        corner_of(triangles, face, 5),
-    );
-    (first == Some(face)) & (second == Some(face))
-}
-
 // Whether every position is finite.
 fn is_placed(cube: &[u32], floats: usize) -> bool
     requires { Words cube.now floats }
@@ -162,6 +86,76 @@ fn is_placed(cube: &[u32], floats: usize) -> bool
     true
 }
 
+// The 24 vertices of a type, which are all placed, and the centre that they are to lie about.
+#[derive(Clone, Copy)]
+struct Vertices<'a> {
+    words: &'a [u32],
+    floats: usize,
+    centre: Triple,
+    ghost whole: { Words words.now floats },
+    ghost placed: { Placed words.now floats },
+    ghost centred: { T (finite3 (triple_of centre)) },
+}
+
+impl Vertices<'_> {
+    // The class on one axis of the triangle with the corners i, j and k.
+    fn class_at(
+        self,
+        axis: usize,
+        low: usize,
+        high: usize,
+        i: usize,
+        j: usize,
+        k: usize,
+    ) -> Option<usize>
+        requires { (axis < 3) × (i < 24) × (j < 24) × (k < 24) }
+        ensures { class_in result ≡ class_at self.entry.words.now self.entry.floats (triple_of self.entry.centre) axis low high i j k }
+    {
+        class_on(
+            low,
+            high,
+            self.centre.along(axis),
+            position_of(self.words, self.floats, i, axis),
+            position_of(self.words, self.floats, j, axis),
+            position_of(self.words, self.floats, k, axis),
+        )
+    }
+
+    // The class of a triangle: by the first axis on which its corners are equal.
+    fn class_of(self, i: usize, j: usize, k: usize) -> Option<usize>
+        requires { (i < 24) × (j < 24) × (k < 24) }
+        ensures { class_in result ≡ class_of self.entry.words.now self.entry.floats (triple_of self.entry.centre) i j k }
+    {
+        let by_x = self.class_at(0, 3, 2, i, j, k);
+        if by_x.is_some() {
+            return by_x;
+        }
+        let by_y = self.class_at(1, 1, 0, i, j, k);
+        if by_y.is_some() {
+            return by_y;
+        }
+        self.class_at(2, 5, 4, i, j, k)
+    }
+
+    // Whether both triangles of a face are classed to it.
+    fn is_classed(self, triangles: &[usize; 36], face: usize) -> bool
+        requires { (face < 6) × (triangles.now ≡ cube_triangles) }
+        ensures { result ≡ classed self.entry.words.now self.entry.floats (triple_of self.entry.centre) face }
+    {
+        let first = self.class_of(
+            corner_of(triangles, face, 0),
+            corner_of(triangles, face, 1),
+            corner_of(triangles, face, 2),
+        );
+        let second = self.class_of(
+            corner_of(triangles, face, 3),
+            corner_of(triangles, face, 4),
+            corner_of(triangles, face, 5),
+        );
+        (first == Some(face)) & (second == Some(face))
+    }
+}
+
 // Whether the 24 vertices of a type are a cube's.
 pub fn is_cube(cube: &[u32], floats: usize, centre: Triple) -> bool
     requires { Words cube.now floats × T (finite3 (triple_of centre)) }
@@ -170,9 +164,14 @@ pub fn is_cube(cube: &[u32], floats: usize, centre: Triple) -> bool
     if !is_placed(cube, floats) {
         return false;
     }
+    let vertices = Vertices {
+        words: cube,
+        floats,
+        centre,
+    };
     let triangles = triangle_words();
     for face in 0..6 {
-        if !is_classed(cube, &triangles, floats, centre, face) {
+        if !vertices.is_classed(&triangles, face) {
             return false;
         }
     }

@@ -1,12 +1,8 @@
 -- `types::is_cube` meets its contract: the first faces are classed to themselves. Assumes nothing.
-use mathlib.Core.Path.{◌≡◌, sym, ◌∙◌, subst}
-use mathlib.Core.Bool.{true}
-use Prim.Native.Nat.{◌/◌, ◌%◌}
+use mathlib.Core.Path.{sym, ◌∙◌, subst}
 use native.Mathlib.Omega.{arith}
 use lib.Dec.{T}
-use Rattle.rules.specs.Lists.{every}
-use Rattle.rules.specs.Floats.{finite}
-use Rattle.rules.specs.Types.{position_of, is_cube}
+use Rattle.rules.specs.Types.{is_cube}
 use Rattle.rules.proofs.ListLaws.{every_all}
 use Rattle.types.proofs.Known.{placed, every_false}
 use Rattle.types.proofs.is_cube.Goals as goal
@@ -15,10 +11,12 @@ pub returns-then-not-is_placed : goal.returns-then-not-is_placed
 unfolding is_cube
 returns-then-not-is_placed c = simp (← c.is_placed.ensures, c.if-not-is_placed.true)
 
-pub is_classed-requires : goal.is_classed-requires
-is_classed-requires c =
-    let all = placed c.args.cube.now c.args.floats (subst T c.is_placed.ensures (subst T (sym c.if-not-is_placed.false) tt)) in
-    record { words = (c.requires.0, all, c.requires.1); face_bound = (omega arith, c.triangle_words-triangles.ensures) }
+pub invariant_of-vertices : goal.invariant_of-vertices
+invariant_of-vertices c = record {
+  whole = c.requires.0;
+  placed = placed c.args.cube.now c.args.floats (subst T c.is_placed.ensures (subst T (sym c.if-not-is_placed.false) tt));
+  centred = c.requires.1;
+}
 
 pub returns-then-not-is_classed : goal.returns-then-not-is_classed
 unfolding is_cube

@@ -8,8 +8,7 @@ use Rattle.std.specs.Prelude.{Result, Ok, length}
 use Rattle.rules.specs.Cells.{Triple}
 use Rattle.rules.specs.Floats.{finite3}
 use Rattle.rules.specs.Types.{Types}
-use Rattle.rules.specs.Answers.{Verdict, fine, refuse_if, refuse_lowest, ◌then◌, bad_counts, bad_type, BAD_TYPES, BAD_NUMBER}
-use Rattle.floats.specs.Triples.{triple_of}
+use Rattle.rules.specs.Answers.{Verdict, refuse_if, refuse_lowest, ◌then◌, bad_counts, bad_type, BAD_TYPES, BAD_NUMBER}
 use Rattle.answers.specs.declared.Refused.{Refused}
 use Rattle.answers.specs.Verdicts.{verdict_of}
 use Rattle.types.specs.Tests.{types_in}
