@@ -2,46 +2,33 @@
 // one after the other.
 #![tactic(auto)]
 
-ghost use Rattle.std.specs.Prelude.{◌≡◌, [], ℕ, ◌+◌, ◌-◌, ◌*◌, ◌≤◌, ◌<◌, length, get_or};
+ghost use Rattle.std.specs.Prelude.{◌≡◌, ℕ, ◌+◌, ◌-◌, ◌*◌, ◌≤◌, ◌<◌, length, get_or};
 ghost use Rattle.rules.specs.Lists.{each};
-ghost use Rattle.rules.specs.Types.{quad_words};
 ghost use Rattle.rules.specs.Cube.{floats_of};
 ghost use Rattle.rules.specs.Mesh.{attribute_in, vertices_of, NONE, pattern};
 ghost use Rattle.util.specs.Grid.{size_of, Within, Starts};
-ghost use Rattle.util.specs.Grid as grid;
-ghost use Rattle.floats.specs.Triples.{triple_of};
 ghost use Rattle.terms.specs.Scenes.{scene_of};
 ghost use Rattle.vav.specs.Attributes.{attribute_of};
 ghost use Rattle.vav.specs.Rows.{put};
-ghost use Rattle.quads.specs.Quads.{Has, Corners};
+ghost use Rattle.quads.specs.Quads.{Has};
+ghost use Rattle.quads.specs.Words.{words_of};
 ghost use Rattle.drawing.specs.Written.{quad_written, side_words, rows_written, Long, Side};
 
-use floats::Triple;
-use quads::write_attribute;
+use quads::Quad;
 use terms::Scene;
 use util::{Coordinates, Row};
 use vav::Attribute;
-use voxel_mesh::floats_of;
 
 // Writes an attribute of a quad at place q.
-fn write_place(
-    list: &mut [u32],
-    corners: &[u32],
-    floats: usize,
-    attribute: Attribute,
-    at: Coordinates,
-    d: Triple,
-    q: usize,
-)
-    requires { Corners corners.now floats (grid.triple_of at) (triple_of d) × Has floats (attribute_of attribute)
-        × (4 * (attribute_of attribute).width * (q + 1) ≤ length list.old) }
+fn write_place(list: &mut [u32], quad: Quad<'_>, attribute: Attribute, q: usize)
+    requires { Has (floats_of quad.coloured) (attribute_of attribute) × (4 * (attribute_of attribute).width * (q + 1) ≤ length list.old) }
     ensures { list.new ≡ put (4 * (attribute_of attribute).width * q)
-        (attribute_in floats (attribute_of attribute) 4 (quad_words corners.now floats (triple_of d) 0 (grid.triple_of at))) list.old }
+        (attribute_in (floats_of quad.entry.coloured) (attribute_of attribute) 4 (words_of quad.entry)) list.old }
 {
     let words = 4 * attribute.width();
     let start = words * q;
     let end = start + words;
-    write_attribute(&mut list[start..end], corners, floats, attribute, at, d);
+    quad.write(&mut list[start..end], attribute);
 }
 
 // Writes each attribute that the vertices have of a quad, at place q of its own list. The compiler knows each number of floats.
@@ -50,24 +37,18 @@ pub fn write_places(
     normals: &mut [u32],
     uvs: &mut [u32],
     colours: &mut [u32],
-    corners: &[u32],
-    coloured: bool,
-    at: Coordinates,
-    d: Triple,
+    quad: Quad<'_>,
     q: usize,
 )
-    requires { Corners corners.now (floats_of coloured) (grid.triple_of at) (triple_of d)
-        × Long coloured (q + 1) (vertices_of positions.old normals.old uvs.old colours.old) }
+    requires { Long quad.coloured (q + 1) (vertices_of positions.old normals.old uvs.old colours.old) }
     ensures { vertices_of positions.new normals.new uvs.new colours.new
-        ≡ quad_written coloured q (quad_words corners.now (floats_of coloured) (triple_of d) 0 (grid.triple_of at))
-        (vertices_of positions.old normals.old uvs.old colours.old) }
+        ≡ quad_written quad.entry.coloured q (words_of quad.entry) (vertices_of positions.old normals.old uvs.old colours.old) }
 {
-    let floats = floats_of(coloured);
-    write_place(positions, corners, floats, Attribute::Position, at, d, q);
-    write_place(normals, corners, floats, Attribute::Normal, at, d, q);
-    write_place(uvs, corners, floats, Attribute::Uv, at, d, q);
-    if coloured {
-        write_place(colours, corners, floats, Attribute::Colour, at, d, q);
+    write_place(positions, quad, Attribute::Position, q);
+    write_place(normals, quad, Attribute::Normal, q);
+    write_place(uvs, quad, Attribute::Uv, q);
+    if quad.coloured {
+        write_place(colours, quad, Attribute::Colour, q);
     }
 }
 
@@ -91,10 +72,8 @@ pub fn write_patterns(triangles: &mut [u32], from: usize, to: usize)
     requires { (6 * to ≤ length triangles.old) × (4 * to ≤ NONE) }
     ensures { triangles.new ≡ put (6 * from) (each (to - from) from pattern) triangles.old }
 {
-    let mut q = from;
-    while q < to {
+    for q in from..to {
         write_pattern(triangles, q);
-        q += 1;
     }
 }
 
@@ -105,17 +84,16 @@ fn write_side(
     normals: &mut [u32],
     uvs: &mut [u32],
     colours: &mut [u32],
-    scene: Scene,
-    cubes: &[u32],
+    scene: Scene<'_>,
     row: Row,
     side: u32,
     q: usize,
 )
     requires { Within (size_of scene.dims) × Starts (size_of scene.dims) row.first row.y row.z
-        × Side (scene_of scene [] [] cubes.now) row.first side
-        × Long scene.coloured (q + 1) (vertices_of positions.old normals.old uvs.old colours.old) }
+        × Side (scene_of scene) row.first side
+        × Long scene.types.coloured (q + 1) (vertices_of positions.old normals.old uvs.old colours.old) }
     ensures { vertices_of positions.new normals.new uvs.new colours.new
-        ≡ quad_written scene.coloured q (side_words (scene_of scene [] [] cubes.now) row.first side)
+        ≡ quad_written scene.entry.types.coloured q (side_words (scene_of scene.entry) row.first side)
         (vertices_of positions.old normals.old uvs.old colours.old) }
 {
     let at = Coordinates {
@@ -123,36 +101,29 @@ fn write_side(
         y: row.y,
         z: row.z,
     };
+    let d = scene.d;
     let face = (side / 1024) as usize;
-    if scene.coloured {
+    if scene.types.coloured {
         let start = 48 * face;
         let end = start + 48;
-        write_places(
-            positions,
-            normals,
-            uvs,
-            colours,
-            &cubes[start..end],
-            true,
+        let quad = Quad {
+            corners: &scene.types.cubes[start..end],
+            coloured: true,
             at,
-            scene.d,
-            q,
-        );
+            d,
+        };
+        write_places(positions, normals, uvs, colours, quad, q);
         return;
     }
     let start = 32 * face;
     let end = start + 32;
-    write_places(
-        positions,
-        normals,
-        uvs,
-        colours,
-        &cubes[start..end],
-        false,
+    let quad = Quad {
+        corners: &scene.types.cubes[start..end],
+        coloured: false,
         at,
-        scene.d,
-        q,
-    );
+        d,
+    };
+    write_places(positions, normals, uvs, colours, quad, q);
 }
 
 // Writes the quads of faces of a row at the places from `base` on.
@@ -161,33 +132,28 @@ pub fn vertex_row(
     normals: &mut [u32],
     uvs: &mut [u32],
     colours: &mut [u32],
-    scene: Scene,
-    cubes: &[u32],
+    scene: Scene<'_>,
     row: Row,
     sides: &[u32],
     base: usize,
 )
     requires { Within (size_of scene.dims) × Starts (size_of scene.dims) row.first row.y row.z
-        × ((i : ℕ) → i < length sides.now → Side (scene_of scene [] [] cubes.now) row.first (get_or sides.now i 0))
-        × Long scene.coloured (base + length sides.now) (vertices_of positions.old normals.old uvs.old colours.old)
+        × ((i : ℕ) → i < length sides.now → Side (scene_of scene) row.first (get_or sides.now i 0))
+        × Long scene.types.coloured (base + length sides.now) (vertices_of positions.old normals.old uvs.old colours.old)
         × (4 * (base + length sides.now) ≤ NONE) }
     ensures { vertices_of positions.new normals.new uvs.new colours.new
-        ≡ rows_written (scene_of scene [] [] cubes.now) row.first sides.now base
-        (vertices_of positions.old normals.old uvs.old colours.old) }
+        ≡ rows_written (scene_of scene.entry) row.first sides.now base (vertices_of positions.old normals.old uvs.old colours.old) }
 {
-    let mut i: usize = 0;
-    while i < sides.len() {
+    for (i, side) in sides.iter().enumerate() {
         write_side(
             positions,
             normals,
             uvs,
             colours,
             scene,
-            cubes,
             row,
-            sides[i],
+            *side,
             base + i,
         );
-        i += 1;
     }
 }

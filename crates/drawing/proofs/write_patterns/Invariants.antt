@@ -4,6 +4,3 @@ use Rattle.drawing.proofs.write_patterns.Given as goal
 
 abbrev pub invariant-loop-q : goal.invariant-loop-q
 invariant-loop-q l = (l.q - l.from ≤ l.to - l.from) × Patterned l.from l.q l.initial.triangles l.triangles
-
-abbrev pub decreases-loop-q : goal.decreases-loop-q
-decreases-loop-q l = l.to - l.q
