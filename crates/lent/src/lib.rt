@@ -3,16 +3,17 @@
 
 ghost use Rattle.std.specs.Prelude.{◌≡◌, ℕ, ◌<◌, ◌≤◌, length, slice_index};
 ghost use Rattle.rules.specs.Types.{Types};
-ghost use Rattle.rules.specs.Mesh.{Lists};
+ghost use Rattle.rules.specs.Mesh as mesh;
 ghost use Rattle.rules.specs.Answers.{◌then◌, BAD_SIZE, BAD_GRID, BAD_OUTER, BAD_CELL, SHORT_SLOTS, room_of, BAD_COUNT};
 ghost use Rattle.rules.specs.Calls.{open_verdict, input_verdict};
 ghost use Rattle.answers.specs.Verdicts.{verdict_of};
 ghost use Rattle.util.specs.Grid.{size_of, Within};
+ghost use Rattle.terms.specs.Loans.{lists_in};
 ghost use Rattle.terms.specs.Scenes.{scene_of};
 ghost use Rattle.lent.specs.Scenes.{Long};
 
 use answers::{Refusal, Verdict, refuse_if, refuse_lowest};
-use terms::{Lengths, Scene};
+use terms::{Lengths, Lists, Scene};
 use types::types_verdict;
 use util::Dimensions;
 
@@ -64,7 +65,7 @@ pub fn cell_verdict(types: usize, grid: &[u8]) -> Verdict
 
 pub fn slots_verdict(dims: Dimensions, slots: usize) -> Verdict
     requires { Within (size_of dims) }
-    ensures { (B : Lists) → length B.slots ≡ slots → verdict_of result ≡ SHORT_SLOTS (size_of dims) B }
+    ensures { (B : mesh.Lists) → length B.slots ≡ slots → verdict_of result ≡ SHORT_SLOTS (size_of dims) B }
 {
     refuse_if(
         slots < 6 * dims.cell_count() as usize,
@@ -73,9 +74,24 @@ pub fn slots_verdict(dims: Dimensions, slots: usize) -> Verdict
     )
 }
 
+// How long the lists of a mesh are.
+pub fn lengths_of(mesh: Lists<'_>) -> Lengths
+    ensures { Long (lists_in mesh.entry) result }
+{
+    Lengths {
+        positions: mesh.positions.len(),
+        normals: mesh.normals.len(),
+        uvs: mesh.uvs.len(),
+        colours: mesh.colours.len(),
+        triangles: mesh.triangles.len(),
+        links: mesh.links.len(),
+        slots: mesh.slots.len(),
+    }
+}
+
 // Room in quads: the least over all lists, the colour list counted only with colour.
 pub fn room_of(coloured: bool, lengths: Lengths) -> usize
-    ensures { (B : Lists) → Long B lengths → result ≡ room_of coloured B }
+    ensures { (B : mesh.Lists) → Long B lengths → result ≡ room_of coloured B }
 {
     let indexed = (lengths.triangles / 6).min(lengths.links);
     let faced = (lengths.normals / 12).min((lengths.uvs / 8).min(indexed));
@@ -87,14 +103,14 @@ pub fn room_of(coloured: bool, lengths: Lengths) -> usize
 }
 
 pub fn count_verdict(coloured: bool, lengths: Lengths, count: usize) -> Verdict
-    ensures { (B : Lists) → Long B lengths → verdict_of result ≡ BAD_COUNT (room_of coloured B) count }
+    ensures { (B : mesh.Lists) → Long B lengths → verdict_of result ≡ BAD_COUNT (room_of coloured B) count }
 {
     refuse_if(room_of(coloured, lengths) < count, Refusal::BadCount, 0)
 }
 
 // BAD_SIZE to SHORT_ROOM: what mesh and check ask before the mesh is looked at.
 pub fn input_verdict(scene: Scene<'_>, outer: &[u8], grid: &[u8], slots: usize) -> Verdict
-    ensures { (B : Lists) → length B.slots ≡ slots → verdict_of result ≡ input_verdict (scene_of scene.entry) outer.now grid.now B }
+    ensures { (B : mesh.Lists) → length B.slots ≡ slots → verdict_of result ≡ input_verdict (scene_of scene.entry) outer.now grid.now B }
 {
     size_verdict(scene.dims)?;
     grid_verdict(scene.dims, grid)?;
@@ -112,7 +128,7 @@ pub fn open_verdict(
     lengths: Lengths,
     count: usize,
 ) -> Verdict
-    ensures { (B : Lists) → Long B lengths → verdict_of result ≡ open_verdict (scene_of scene.entry) outer.now grid.now B count }
+    ensures { (B : mesh.Lists) → Long B lengths → verdict_of result ≡ open_verdict (scene_of scene.entry) outer.now grid.now B count }
 {
     input_verdict(scene, outer, grid, lengths.slots)?;
     count_verdict(scene.types.coloured, lengths, count)
@@ -121,7 +137,7 @@ pub fn open_verdict(
 // SHORT_ROOM and BAD_COUNT: what the update asks before the mesh is looked at.
 pub fn lent_verdict(scene: Scene<'_>, lengths: Lengths, count: usize) -> Verdict
     requires { Within (size_of scene.dims) }
-    ensures { (B : Lists) → Long B lengths → verdict_of result ≡ (SHORT_SLOTS (size_of scene.entry.dims) B then BAD_COUNT (room_of scene.entry.types.coloured B) count) }
+    ensures { (B : mesh.Lists) → Long B lengths → verdict_of result ≡ (SHORT_SLOTS (size_of scene.entry.dims) B then BAD_COUNT (room_of scene.entry.types.coloured B) count) }
 {
     slots_verdict(scene.dims, lengths.slots)?;
     count_verdict(scene.types.coloured, lengths, count)
