@@ -1,14 +1,12 @@
 // Runs faces and the grid beside plain counts of its own, and says how many are right.
 #![tactic(auto)]
 
-ghost use Rattle.std.proofs.Math.Option.{get_or};
 ghost use Rattle.std.specs.Prelude.{◌≡◌, ◌≤◌, ◌<◌};
-ghost use Rattle.rules.specs.Cells.{cells, neighbour};
-ghost use Rattle.face.specs.Face.{number};
+ghost use Rattle.rules.specs.Cells.{cells};
 ghost use Rattle.util.specs.Grid.{size_of, Within};
 
 use check::expect;
-use face::{Cell, Face, NONE, face_at};
+use face::{Cell, Face, face_at};
 use std::io;
 use util::Dimensions;
 use vectors::{Count, say};
@@ -59,33 +57,27 @@ fn try_sets() -> Count {
 
 // ---- the neighbours of all cells of a grid of 3 by 3 by 3
 
-fn expected(cell: u32, face: Face) -> u32
+fn expected(cell: u32, face: Face) -> Option<Cell>
     requires { cell < 27 }
 {
     let x = cell % 3;
     let z = cell / 3 % 3;
     let y = cell / 9;
     match face {
-        Face::Top => if y == 2 { NONE } else { cell + 9 },
-        Face::Bottom => if y == 0 { NONE } else { cell - 9 },
-        Face::Right => if x == 2 { NONE } else { cell + 1 },
-        Face::Left => if x == 0 { NONE } else { cell - 1 },
-        Face::Back => if z == 2 { NONE } else { cell + 3 },
-        Face::Forward => if z == 0 { NONE } else { cell - 3 },
+        Face::Top if y < 2 => Some(Cell(cell + 9)),
+        Face::Bottom if 0 < y => Some(Cell(cell - 9)),
+        Face::Right if x < 2 => Some(Cell(cell + 1)),
+        Face::Left if 0 < x => Some(Cell(cell - 1)),
+        Face::Back if z < 2 => Some(Cell(cell + 3)),
+        Face::Forward if 0 < z => Some(Cell(cell - 3)),
+        _ => None,
     }
 }
 
-fn found(cell: u32, face: Face, dims: Dimensions) -> u32
-    requires { Within (size_of dims) × (cell < cells (size_of dims)) }
-    ensures { result ≡ get_or (neighbour (size_of dims) cell (number face)) 4294967295 }
-{
-    util::get_neighbor(Cell(cell), face, dims).map_or(NONE, |neighbor| neighbor.0)
-}
-
-fn is_neighbor(cell: u32, face: Face, n: u32) -> bool
+fn is_neighbor(cell: u32, face: Face, neighbor: Option<Cell>) -> bool
     requires { cell < 27 }
 {
-    found(cell, face, size(3, 3, 3)) == n
+    util::get_neighbor(Cell(cell), face, size(3, 3, 3)) == neighbor
 }
 
 // Whether a cell's coordinates are those of the cell n.
@@ -134,7 +126,7 @@ fn try_links(tried: Count, cell: u32) -> Count
 fn examples() {
     expect(!size(1_024, 32, 32).bad_limits());
     expect(size(1_024, 32, 33).bad_limits());
-    expect(found(0, Face::Top, size(2, 2, 2)) == 4);
+    expect(util::get_neighbor(Cell(0), Face::Top, size(2, 2, 2)) == Some(Cell(4)));
     expect(face::link(Cell(5), Face::Top) == 2_684_354_565);
 }
 
@@ -144,8 +136,8 @@ fn try_wrong(tried: Count) -> Count {
     let mut count = tried;
     count = count.and(is_rank(63, Face::Forward, 4));
     count = count.and(is_size(63, 5));
-    count = count.and(is_neighbor(0, Face::Top, 3));
-    count = count.and(is_neighbor(0, Face::Left, 0));
+    count = count.and(is_neighbor(0, Face::Top, Some(Cell(3))));
+    count = count.and(is_neighbor(0, Face::Left, Some(Cell(0))));
     count = count.and(is_cell(13, 12));
     count = count.and(is_link(2_684_354_565, 4, Face::Top));
     count = count.and(is_link(2_684_354_565, 5, Face::Bottom));

@@ -1,7 +1,9 @@
-use Rattle.std.proofs.Common.{not, ap, ◌∙◌, eq-eqb}
-use Rattle.std.proofs.Math.Option.{get_or}
+use Rattle.std.proofs.Common.{ℕ, ◌≡◌, not, refl, ap, ◌∙◌, Option, Some, None}
+use Rattle.std.proofs.Math.Option.{some}
 use Rattle.rules.specs.Cells.{Size, neighbour}
 use Rattle.rules.specs.Answers.{bad_limits}
+use Rattle.face.specs.declared.Cell.{Cell}
+use Rattle.util.specs.Grid.{cell_in}
 use Rattle.ground_run.proofs.examples.Goals as goal
 
 pub expect-requires : goal.expect-requires
@@ -12,8 +14,12 @@ pub expect-requires-2 : goal.expect-requires-2
 unfolding bad_limits
 expect-requires-2 c = c.bad_limits-2.ensures ∙ ap bad_limits c.size-2.ensures
 
+-- an option that holds a cell's number holds the cell
+held : (o : Option Cell) (n : ℕ) → cell_in o ≡ some n → o ≡ Some (record { 0 = n })
+held (Some cell) n e = let k : cell.0 ≡ n = cc in ap {B = Option Cell} (λ (m : ℕ). Some (record { 0 = m })) k
+held None n e = cc
+
 pub expect-requires-3 : goal.expect-requires-3
 unfolding neighbour
 expect-requires-3 c =
-    eq-eqb c.found.result 4
-    (c.found.ensures ∙ ap (λ (s : Size). get_or (neighbour s 0 0) 4294967295) c.size-3.ensures)
+    rw (c.eq.ensures, held c.get_neighbor.result 4 (c.get_neighbor.ensures ∙ ap (λ (s : Size). neighbour s 0 0) c.size-3.ensures)) refl
