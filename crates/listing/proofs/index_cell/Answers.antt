@@ -16,9 +16,6 @@ use Rattle.listing.proofs.index_cell.Reads
 abbrev In-loop-rest : Type 0
 In-loop-rest = Lts.In-loop Tie.the-claims Reads.Pre Reads.Post goal.the-invariant-loop-rest goal.the-decreases-loop-rest
 
-abbrev Start : Type 0
-Start = Lts.Start Tie.the-claims Reads.Pre Reads.Post goal.the-invariant-loop-rest goal.the-decreases-loop-rest
-
 abbrev After-rank : Type 0
 After-rank = Lts.After-rank Tie.the-claims Reads.Pre Reads.Post goal.the-invariant-loop-rest goal.the-decreases-loop-rest
 
@@ -28,15 +25,12 @@ After-slice_known-in-loop-rest-2-1 = Lts.After-slice_known5 Tie.the-claims Reads
 abbrev After-insert : Type 0
 After-insert = Lts.After-insert Tie.the-claims Reads.Pre Reads.Post goal.the-invariant-loop-rest goal.the-decreases-loop-rest
 
-abbrev start : In-loop-rest → Start
-start i = i.before.before.before.before.before
-
 -- the lowest face that is left
 abbrev low : In-loop-rest → ℕ
 low i = count_trailing_zeros 8 i.loop-rest.rest
 
 below : (i : In-loop-rest) → low i < 6
-below i = index_below _ _ _ _ _ _ _ _ (start i).requires.2 i.loop-rest.invariant i.loop-rest-test.true refl
+below i = index_below _ _ _ _ _ _ _ _ i.requires.2 i.loop-rest.invariant i.loop-rest-test.true refl
 
 abbrev turn : After-rank → In-loop-rest
 turn c = c.before.before.before
@@ -45,23 +39,23 @@ found-low : (c : After-rank) → number c.face_at-face.result ≡ low (turn c)
 found-low c = c.face_at-face.ensures ∙ c.lowest_side-f.ensures
 
 -- its rank
-ranked : (c : After-rank) → c.rank.result ≡ rank (start (turn c)).args.set (low (turn c))
-ranked c = c.rank.ensures ∙ ap (rank (start (turn c)).args.set) (found-low c)
+ranked : (c : After-rank) → c.rank.result ≡ rank (turn c).args.set (low (turn c))
+ranked c = c.rank.ensures ∙ ap (rank (turn c).args.set) (found-low c)
 
 -- is the next place
-placed : (c : After-rank) → (start (turn c)).args.n + c.rank.result ≡ (turn c).loop-rest.next
+placed : (c : After-rank) → (turn c).args.n + c.rank.result ≡ (turn c).loop-rest.next
 placed c =
     let i = turn c in
-    omega (arith, ranked c, index_place _ _ _ _ _ _ _ _ (start i).requires.2 i.loop-rest.invariant i.loop-rest-test.true refl)
+    omega (arith, ranked c, index_place _ _ _ _ _ _ _ _ i.requires.2 i.loop-rest.invariant i.loop-rest-test.true refl)
 
 within : (c : After-rank) →
-    let a = (start (turn c)).args in
+    let a = (turn c).args in
     let l = (turn c).loop-rest in
     (a.n + c.rank.result < length l.sides) × (a.base + (a.n + c.rank.result) < length l.links) × (a.base + (a.n + c.rank.result) < 6291456)
     × (key_of a.cell.0 (low (turn c)) < length l.slots)
 within c =
     let i = turn c in
-    let s = start i in
+    let s = i in
     let l = i.loop-rest in
     let k = index_kept _ _ _ _ _ _ _ _ s.requires.2 l.invariant in
     let r = index_room _ _ _ _ _ _ _ _ s.requires.2 l.invariant i.loop-rest-test.true refl in (
@@ -75,7 +69,7 @@ pub insert-requires : goal.insert-requires
 insert-requires c =
     let r = c.before.before in
     let w = within r in
-    (omega (arith, (start (turn r)).requires.0), omega (arith, w.2), omega (arith, w.1), omega (arith, w.3, found-low r))
+    (omega (arith, (turn r).requires.0), omega (arith, w.2), omega (arith, w.1), omega (arith, w.3, found-low r))
 
 abbrev wrote : After-slice_known-in-loop-rest-2-1 → After-insert
 wrote c = c.before.before.before.before
@@ -98,7 +92,7 @@ pub loop-rest-preserved : goal.loop-rest-preserved
 loop-rest-preserved c =
     let r = found c.before in
     let i = turn r in
-    let s = start i in
+    let s = i in
     let l = i.loop-rest in
     let w = within r in
     let f = found-low r in
@@ -109,7 +103,7 @@ loop-rest-preserved c =
     (ap (λ (k : ℕ). set l.sides (s.args.n + r.rank.result) (s.args.side + 1024 * k)) r.lowest_side-f.ensures)
 
 pub loop-rest-init : goal.loop-rest-init
-loop-rest-init c = begin _ _ _ _ _ _ _ _ c.requires.5
+loop-rest-init c = rw c.from-rest.ensures (begin _ _ _ _ _ _ _ _ c.requires.5)
 
 pub lowest_side-f-requires : goal.lowest_side-f-requires
 lowest_side-f-requires c = (c.loop-rest.invariant.left.few, c.loop-rest-test.true)
@@ -118,7 +112,7 @@ pub face_at-face-requires : goal.face_at-face-requires
 face_at-face-requires c = omega (arith, below c.before, c.lowest_side-f.ensures)
 
 pub rank-requires : goal.rank-requires
-rank-requires c = let s = start c.before.before in (s.requires.5, s.requires.7)
+rank-requires c = let s = c in (s.requires.5, s.requires.7)
 
 pub overflow_add-at : goal.overflow_add-at
 overflow_add-at c = omega (arith, (within c).2)
@@ -133,7 +127,7 @@ pub overflow_mul-sides : goal.overflow_mul-sides
 overflow_mul-sides c = omega (arith, below (turn (found c.before)))
 
 pub overflow_add-sides : goal.overflow_add-sides
-overflow_add-sides c = omega (arith, below (turn (found c.before)), (start (turn (found c.before))).requires.6)
+overflow_add-sides c = omega (arith, below (turn (found c.before)), c.requires.6)
 
 pub offset_bounds-sides-at : goal.offset_bounds-sides-at
 offset_bounds-sides-at c = omega (arith, (within (found c.before)).0)

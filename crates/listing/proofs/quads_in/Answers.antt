@@ -63,7 +63,7 @@ overflow_add-n c =
     let list = c.args.sets.now in
     let l = c.loop-x in
     let t = c.few_to-to in
-    omega (arith, l.invariant.1, asked_few (sets_from 0 list) l.x 0, asked_few (sets_from 0 list) (t.result - l.x) l.x, counted c.before, t.ensures.2, t.ensures.0, c.requires.0)
+    omega (arith, l.invariant.1, asked_few (sets_from 0 list) l.x 0, asked_few (sets_from 0 list) (t.result - l.x) l.x, c.from-n.ensures, counted c.before.before, t.ensures.2, t.ensures.0, c.requires.0)
 
 pub loop-x-smaller : goal.loop-x-smaller
 loop-x-smaller c = let t = c.few_to-to in omega (arith, t.ensures.0, t.ensures.2)
@@ -74,7 +74,7 @@ loop-x-preserved c =
     let l = c.loop-x in
     let t = c.few_to-to in
     let e : l.x + (t.result - l.x) ≡ t.result = omega (arith, t.ensures.0) in
-    (t.ensures.2, omega (arith, l.invariant.1, counted c.before, asked_on (sets_from 0 list) l.x (t.result - l.x), ap (asked (sets_from 0 list) 0) e))
+    (t.ensures.2, omega (arith, l.invariant.1, c.from-n.ensures, counted c.before.before, asked_on (sets_from 0 list) l.x (t.result - l.x), ap (asked (sets_from 0 list) 0) e))
 
 pub returns : goal.returns
 returns c =
