@@ -13,21 +13,18 @@ use lib.Seq.{ext_get_or}
 use Rattle.rules.specs.Lists.{part, row, lowest, same}
 use Rattle.rules.specs.Cells.{Triple, coordinates, code, code_in, cell_in}
 use Rattle.rules.specs.Floats.{finite3}
-use Rattle.rules.specs.Cube.{floats_of}
-use Rattle.rules.specs.Types.{quad_word, quad_words}
-use Rattle.rules.specs.Mesh.{Attribute, position, normal, uv, colour, attribute_in, type_at, Vertices, HasList, of_positions, of_normals, of_uvs, of_colours}
+use Rattle.rules.specs.Types.{floats, cube_of, quad_words}
+use Rattle.rules.specs.Mesh.{Attribute, position, normal, uv, colour, type_at, Vertices, HasList, of_positions, of_normals, of_uvs, of_colours}
 use Rattle.rules.proofs.ListLaws.{split, both_ways, or_false, lowest_bad, same_true, same_refl, within}
 use Rattle.rules.proofs.Searches.{Searched, searched, passed}
-use Rattle.util.specs.Grid.{size_of}
 use Rattle.rules.proofs.Neighbours.{inside_of}
-use Rattle.floats.specs.Triples.{triple_of}
-use Rattle.voxel_mesh.proofs.Shapes.{row_within}
+use Rattle.voxel_mesh.proofs.Shapes.{few, row_within}
 use Rattle.rules.proofs.Attributes.{length_part}
 use Rattle.rules.proofs.Rows.{length_lent}
-use Rattle.terms.specs.declared.Scene.{Scene}
-use Rattle.quads.specs.Quads.{corners_of, Has, Corners}
-use Rattle.quads.proofs.Writing.{word_at, length_row_of, quad_of_corners, corners_end, corners_lent, drawable_corners}
-use Rattle.comparing.specs.Quads.{Linking, cube_at, quad_words_at, other_row, other_quad, IsQuad}
+use Rattle.rules.specs.Calls.{Scene}
+use Rattle.quads.specs.Quads.{corners_of, Corners}
+use Rattle.quads.proofs.Writing.{quad_of_corners, corners_end, corners_lent, drawable_corners}
+use Rattle.comparing.specs.Quads.{Linking, quad_words_at, other_row, other_quad, IsQuad}
 
 -- ---- two lists that agree up to a place
 
@@ -63,59 +60,47 @@ row_next n v = rw add-one (mul-suc n v)
 
 -- ---- the quad that a link names
 
-module _ (scene : Scene) (n : ℕ) (g cubes : List ℕ) (link : ℕ) where
+module _ (S : Scene) (g : List ℕ) (link : ℕ) where
   -- what was read of it: the number of its face, and the coordinates
   pub record Named (m : ℕ) (a : Triple) : Type 0 where
     pub face : m ≡ 6 * type_at g (cell_in link) + code (code_in link)
-    pub at : a ≡ coordinates (size_of scene.dims) (cell_in link)
+    pub at : a ≡ coordinates S.size (cell_in link)
 
-  -- the part of the registry that is lent for a face
-  abbrev pub corners_at : ℕ → List ℕ
-  corners_at m = take (4 * n * m + 4 * n - 4 * n * m) (drop (4 * n * m) cubes)
+  -- the part of the registry that is lent for a face, n floats a vertex
+  abbrev pub corners_at : ℕ → ℕ → List ℕ
+  corners_at n m = take (4 * n * m + 4 * n - 4 * n * m) (drop (4 * n * m) S.types.cubes)
 
   pub side_below : code (code_in link) < 6
   side_below = omega arith
 
-  pub named_corners : {m : ℕ} {a : Triple} → Named m a → corners_at m ≡ corners_of (cube_at n g cubes (cell_in link)) n (code (code_in link))
-  named_corners r = ap corners_at r.face ∙ corners_lent cubes n (type_at g (cell_in link)) (code (code_in link)) side_below
+  pub named_corners : {m : ℕ} {a : Triple} → Named m a → corners_at (floats S.types) m ≡ corners_of (cube_of S.types (type_at g (cell_in link))) (floats S.types) (code (code_in link))
+  named_corners r = ap (corners_at (floats S.types)) r.face ∙ corners_lent S.types.cubes (floats S.types) (type_at g (cell_in link)) (code (code_in link)) side_below
 
-  pub named_words : {m : ℕ} {a : Triple} → Named m a → quad_words (corners_at m) n (triple_of scene.d) 0 a ≡ quad_words_at scene n g cubes link
-  named_words r =
-      (λ i. quad_words (named_corners r i) n (triple_of scene.d) 0 (r.at i))
-      ∙ quad_of_corners (cube_at n g cubes (cell_in link)) n (triple_of scene.d) (code (code_in link)) (coordinates (size_of scene.dims) (cell_in link))
+  pub named_words : {n m : ℕ} {a : Triple} → n ≡ floats S.types → Named m a → quad_words (corners_at n m) (floats S.types) S.d 0 a ≡ quad_words_at S g link
+  named_words {m = m} {a = a} e r =
+      ap (λ (k : ℕ). quad_words (corners_at k m) (floats S.types) S.d 0 a) e
+      ∙ (λ i. quad_words (named_corners r i) (floats S.types) S.d 0 (r.at i))
+      ∙ quad_of_corners (cube_of S.types (type_at g (cell_in link))) (floats S.types) S.d (code (code_in link)) (coordinates S.size (cell_in link))
 
-  module _ (b : Attribute) (has : Has n b) where
-    -- the attribute's floats of the quad that the link names
-    abbrev pub words_of : List ℕ
-    words_of = attribute_in n b 4 (quad_words_at scene n g cubes link)
-
-    pub named_word : {m : ℕ} {a : Triple} → Named m a → (i k : ℕ) → i < 4 → k < b.width
-        → quad_word (corners_at m) n (triple_of scene.d) 0 a i (b.start + k) ≡ get_or words_of (b.width * i + k) 0
-    named_word {m} {a} r i k I K =
-        sym (word_at (corners_at m) n (triple_of scene.d) 0 a b has i k I K) ∙ ap (λ (ws : List ℕ). get_or (attribute_in n b 4 ws) (b.width * i + k) 0) (named_words r)
-
-    pub length-words : length words_of ≡ 4 * b.width
-    length-words =
-        length_row_of (cube_at n g cubes (cell_in link)) n (triple_of scene.d) (code (code_in link)) (coordinates (size_of scene.dims) (cell_in link)) b has
-
-module _ (scene : Scene) (n : ℕ) (few : (8 ≤ n) × (n ≤ 12)) (g cubes links : List ℕ) (count : ℕ) (ok : Linking (size_of scene.dims) n g cubes links count) (q : ℕ) (h : q < count) where
+module _ (S : Scene) (g links : List ℕ) (count : ℕ) (ok : Linking S g links count) (q : ℕ) (h : q < count) where
   abbrev link : ℕ
   link = get_or links q 0
 
-  cube_within : 24 * n * type_at g (cell_in link) + 24 * n ≤ length cubes
+  cube_within : 24 * floats S.types * type_at g (cell_in link) + 24 * floats S.types ≤ length S.types.cubes
   cube_within =
       let c : cell_in link < length g = omega (arith, ok.inside q h, ok.whole) in
       rw (within g (cell_in link) 255 0 c) (ok.stretch (cell_in link) c)
 
-  pub corners_within : {m : ℕ} {a : Triple} → Named scene n g cubes link m a → 4 * n * m + 4 * n ≤ length cubes
-  corners_within r = rw r.face (corners_end cubes n (type_at g (cell_in link)) (code (code_in link)) (side_below scene n g cubes link) cube_within)
+  pub corners_within : {n m : ℕ} {a : Triple} → n ≡ floats S.types → Named S g link m a → 4 * n * m + 4 * n ≤ length S.types.cubes
+  corners_within e r = rw (e, r.face) (corners_end S.types.cubes (floats S.types) (type_at g (cell_in link)) (code (code_in link)) (side_below S g link) cube_within)
 
-  pub drawable : T (finite3 (triple_of scene.d)) → {m : ℕ} {a : Triple} → Named scene n g cubes link m a → Corners (corners_at scene n g cubes link m) n a (triple_of scene.d)
-  drawable fin r =
+  pub drawable : T (finite3 S.d) → {n m : ℕ} {a : Triple} → n ≡ floats S.types → Named S g link m a → Corners (corners_at S g link n m) (floats S.types) a S.d
+  drawable fin e r =
+      let few = few S.types.coloured in
       let sides = ok.within.sides in
-      let i = inside_of (size_of scene.dims) (cell_in link) sides.wide sides.long (ok.inside q h) in
-      let all = length_part (24 * n * type_at g (cell_in link)) (24 * n) cubes cube_within in
-      rw (named_corners scene n g cubes link r, r.at) (drawable_corners (code (code_in link)) (side_below scene n g cubes link) (record {
+      let i = inside_of S.size (cell_in link) sides.wide sides.long (ok.inside q h) in
+      let all = length_part (24 * floats S.types * type_at g (cell_in link)) (24 * floats S.types) S.types.cubes cube_within in
+      rw (e, named_corners S g link r, r.at) (drawable_corners (code (code_in link)) (side_below S g link) (record {
         words = record { least = few.0; most = few.1; whole = omega arith };
         placed = ok.placed q h;
         finite = fin;
@@ -140,29 +125,29 @@ each_list_lem coloured vs P p n u c a xs of_uvs = u
 each_list_lem coloured vs P p n u c a xs (of_colours e) = c e
 
 -- a quad differs where any of its rows does
-module _ (scene : Scene) (g cubes : List ℕ) (vs : Vertices) (links : List ℕ) (q : ℕ) where
+module _ (S : Scene) (g : List ℕ) (vs : Vertices) (links : List ℕ) (q : ℕ) where
   abbrev other : Attribute → List ℕ → Bool
-  other a xs = other_row scene (floats_of scene.coloured) a g cubes xs links q
+  other a xs = other_row S a g xs links q
 
   abbrev others : Bool
   others = other position vs.positions || other normal vs.normals || other uv vs.uvs
 
-  pub right_quad : IsQuad scene.coloured vs q (quad_words_at scene (floats_of scene.coloured) g cubes (get_or links q 0)) → other_quad scene g cubes vs links q ≡ false
+  pub right_quad : IsQuad S.types.coloured vs q (quad_words_at S g (get_or links q 0)) → other_quad S g vs links q ≡ false
   right_quad is =
       let p = ap not (is position vs.positions of_positions) in
       let n = ap not (is normal vs.normals of_normals) in
       let u = ap not (is uv vs.uvs of_uvs) in
-      split (λ b. cond b (others || other colour vs.colours) others ≡ false) scene.coloured
+      split (λ b. cond b (others || other colour vs.colours) others ≡ false) S.types.coloured
       (λ e. let c = ap not (is colour vs.colours (of_colours e)) in λ i. p i || n i || u i || c i)
       (λ e i. p i || n i || u i)
 
-  right_plain : other_quad scene g cubes vs links q ≡ false → others ≡ false
-  right_plain = split (λ b. cond b (others || other colour vs.colours) others ≡ false → others ≡ false) scene.coloured
+  right_plain : other_quad S g vs links q ≡ false → others ≡ false
+  right_plain = split (λ b. cond b (others || other colour vs.colours) others ≡ false → others ≡ false) S.types.coloured
       (λ _ e. (or_false others (other colour vs.colours) e).0) (λ _ e. e)
 
-  pub right_rows : other_quad scene g cubes vs links q ≡ false → (a : Attribute) (xs : List ℕ) → HasList scene.coloured vs a xs → other a xs ≡ false
+  pub right_rows : other_quad S g vs links q ≡ false → (a : Attribute) (xs : List ℕ) → HasList S.types.coloured vs a xs → other a xs ≡ false
   right_rows e =
       let three = or_false _ _ (right_plain e) in
       let two = or_false _ _ three.0 in
-      each_list_lem scene.coloured vs (λ a xs. other a xs ≡ false) two.0 two.1 three.1
+      each_list_lem S.types.coloured vs (λ a xs. other a xs ≡ false) two.0 two.1 three.1
       (λ t. (or_false others (other colour vs.colours) (subst (λ b. cond b (others || other colour vs.colours) others ≡ false) t e)).1)

@@ -1,153 +1,112 @@
 -- `comparing::first_wrong_quad` meets its contract: the lowest over the lists. Assumes nothing.
 use mathlib.Core.Path.{◌≡◌, sym, ap, ◌∙◌}
-use mathlib.Core.Bool.{Bool, false, cond, ◌||◌}
+use mathlib.Core.Bool.{Bool, true, false, cond, ◌||◌}
 use mathlib.Core.List.{List}
 use Prim.Native.Nat.{ℕ, ◌*◌, ◌≤◌, ◌<◌}
 use native.Mathlib.Nat.{mul-le-mul_left}
 use native.Mathlib.Omega.{arith}
+use lib.ListN.{length}
 use Rattle.rules.specs.Lists.{lowest}
-use Rattle.rules.specs.Cells.{Size}
 use Rattle.rules.specs.Cube.{floats_of}
-use Rattle.rules.specs.Mesh.{Attribute, position, normal, uv, colour, Vertices, vertices_of, HasList, of_positions, of_normals, of_uvs, of_colours}
+use Rattle.rules.specs.Mesh.{Attribute, position, normal, uv, colour, Vertices, HasList, of_positions, of_normals, of_uvs, of_colours}
+use Rattle.rules.specs.Calls.{Scene}
 use Rattle.rules.proofs.ListLaws.{lowest_le, lowest_either}
 use Rattle.rules.proofs.Attributes.{inside_of}
-use Rattle.util.specs.Grid.{size_of}
-use Rattle.comparing.specs.Quads.{other_row, Comparable, ComparableAll}
+use Rattle.quads.specs.Quads.{Has}
+use Rattle.terms.specs.Scenes.{scene_of}
+use Rattle.terms.specs.Loans.{vertices_in}
+use Rattle.comparing.specs.Quads.{other_row, other_quad, ComparableAll}
 use Rattle.comparing.proofs.Compared.{lowest_past, right_rows}
 use Rattle.comparing.proofs.first_wrong_quad.Goals as goal
-use Rattle.comparing.proofs.first_wrong_quad.Lts
-use Rattle.comparing.proofs.first_wrong_quad.Tie
-use Rattle.comparing.proofs.first_wrong_quad.Reads
 
-abbrev Start : Type 0
-Start = Lts.Start Tie.the-claims Reads.Pre Reads.Post
+-- the quads below `sure` are right, and the lists are searched one after the other, each up to the lowest so far
+module _ (S : Scene) (g : List ℕ) (vs : Vertices) (links : List ℕ) (count : ℕ) (ok : ComparableAll S g vs links count)
+    (sure : ℕ) (right : (q : ℕ) → q < sure → other_quad S g vs links q ≡ false) where
+  abbrev other : Attribute → List ℕ → ℕ → Bool
+  other a xs = other_row S a g xs links
 
-abbrev After-sure_quads-sure : Type 0
-After-sure_quads-sure = Lts.After-sure_quads Tie.the-claims Reads.Pre Reads.Post
+  -- what is asked of a list
+  abbrev Asked : ℕ → Attribute → List ℕ → Type 0
+  Asked to a xs = (sure ≤ to) × (to ≤ count) × Has (floats_of S.types.coloured) a × (4 * a.width * to ≤ length xs) × ((q : ℕ) → q < sure → other a xs q ≡ false)
 
-abbrev After-first_wrong_row-first : Type 0
-After-first_wrong_row-first = Lts.After-first_wrong_row Tie.the-claims Reads.Pre Reads.Post
+  asked : (to : ℕ) (a : Attribute) (xs : List ℕ) → HasList S.types.coloured vs a xs → sure ≤ to → to ≤ count → Asked to a xs
+  asked to a xs h l u = (l, u, inside_of S.types.coloured vs a xs h, omega (arith, ok.room a xs h, mul-le-mul_left (4 * a.width) u), λ q k. right_rows S g vs links q (right q k) a xs h)
 
-abbrev After-first_wrong_row-second : Type 0
-After-first_wrong_row-second = Lts.After-first_wrong_row2 Tie.the-claims Reads.Pre Reads.Post
+  -- the lowest of a list is none of the sure ones
+  past : {to r : ℕ} (a : Attribute) (xs : List ℕ) → Asked to a xs → r ≡ lowest to (other a xs) → (sure ≤ r) × (r ≤ to)
+  past {to} {r} a xs p e = (omega (arith, e, lowest_past to (other a xs) sure p.0 p.4), omega (arith, e, lowest_le to (other a xs)))
 
-abbrev After-first_wrong_row-third : Type 0
-After-first_wrong_row-third = Lts.After-first_wrong_row3 Tie.the-claims Reads.Pre Reads.Post
+  abbrev two : ℕ → Bool
+  two q = other position vs.positions q || other normal vs.normals q
 
-abbrev vertices : Start → Vertices
-vertices t = vertices_of t.args.positions.now t.args.normals.now t.args.uvs.now t.args.colours.now
+  abbrev three : ℕ → Bool
+  three q = two q || other uv vs.uvs q
 
--- what is asked of all lists is asked of one, for as many quads or fewer
-one : (size : Size) (tint : Bool) (g cubes : List ℕ) (vs : Vertices) (links : List ℕ) (count m : ℕ) → ComparableAll size tint g cubes vs links count → m ≤ count
-    → (a : Attribute) (xs : List ℕ) → HasList tint vs a xs → Comparable size (floats_of tint) a g cubes xs links m
-one size tint g cubes vs links count m p l a xs h =
-    let k = p.linking in
-    record {
-      linking = record {
-        within = k.within;
-        whole = k.whole;
-        stretch = k.stretch;
-        linked = omega (arith, k.linked);
-        code = λ q b. k.code q (omega arith);
-        inside = λ q b. k.inside q (omega arith);
-        placed = λ q b. k.placed q (omega arith);
-      };
-      has = inside_of tint vs a xs h;
-      room = omega (arith, p.room a xs h, mul-le-mul_left (4 * a.width) l);
-    }
+  -- ---- list by list, the lowest so far
+  module _ (below : sure ≤ count) {first : ℕ} (e1 : first ≡ lowest count (other position vs.positions)) where
+    first_asked : Asked count position vs.positions
+    first_asked = asked count position vs.positions of_positions below (omega arith)
 
--- a quad that differs in an attribute
-abbrev other : Start → Attribute → List ℕ → ℕ → Bool
-other t a xs = other_row t.args.scene (floats_of t.args.scene.coloured) a t.args.grid.now t.args.cubes.now xs t.args.links.now
+    second_asked : Asked first normal vs.normals
+    second_asked = let p = past position vs.positions first_asked e1 in asked first normal vs.normals of_normals p.0 p.1
 
-abbrev asked : (t : Start) (m : ℕ) → m ≤ t.args.count → (a : Attribute) (xs : List ℕ) → HasList t.args.scene.coloured (vertices t) a xs
-    → Comparable (size_of t.args.scene.dims) (floats_of t.args.scene.coloured) a t.args.grid.now t.args.cubes.now xs t.args.links.now m
-asked t m l = one (size_of t.args.scene.dims) t.args.scene.coloured t.args.grid.now t.args.cubes.now (vertices t) t.args.links.now t.args.count m t.requires.0 l
+    module _ {second : ℕ} (e2 : second ≡ lowest first (other normal vs.normals)) where
+      second_is : second ≡ lowest count two
+      second_is = e2 ∙ ap (λ (m : ℕ). lowest m (other normal vs.normals)) e1 ∙ lowest_either count (other position vs.positions) (other normal vs.normals)
 
--- ---- the quads that are right without a doubt
-abbrev start : After-sure_quads-sure → Start
-start c = c.before.before.before.before.before.before.before.before
+      third_asked : Asked second uv vs.uvs
+      third_asked = let p = past normal vs.normals second_asked e2 in asked second uv vs.uvs of_uvs p.0 (omega (arith, p.1, second_asked.1))
 
-abbrev sure : After-sure_quads-sure → ℕ
-sure c = c.sure_quads-sure.result
+      module _ {third : ℕ} (e3 : third ≡ lowest second (other uv vs.uvs)) where
+        third_is : third ≡ lowest count three
+        third_is = e3 ∙ ap (λ (m : ℕ). lowest m (other uv vs.uvs)) second_is ∙ lowest_either count two (other uv vs.uvs)
 
-right : (c : After-sure_quads-sure) (a : Attribute) (xs : List ℕ) → HasList (start c).args.scene.coloured (vertices (start c)) a xs → (q : ℕ) → q < sure c → other (start c) a xs q ≡ false
-right c a xs h q l =
-    let t = start c in
-    right_rows t.args.scene t.args.grid.now t.args.cubes.now (vertices t) t.args.links.now q (c.sure_quads-sure.ensures.1 q l) a xs h
+        fourth_asked : S.types.coloured ≡ true → Asked third colour vs.colours
+        fourth_asked tint = let p = past uv vs.uvs third_asked e3 in asked third colour vs.colours (of_colours tint) p.0 (omega (arith, p.1, third_asked.1))
 
--- a list's lowest is none of them
-past : (c : After-sure_quads-sure) (a : Attribute) (xs : List ℕ) → HasList (start c).args.scene.coloured (vertices (start c)) a xs
-    → (m r : ℕ) → r ≡ lowest m (other (start c) a xs) → sure c ≤ m → sure c ≤ r
-past c a xs h m r e l = omega (arith, lowest_past m (other (start c) a xs) (sure c) l (right c a xs h))
+        plain : S.types.coloured ≡ false → third ≡ lowest count (other_quad S g vs links)
+        plain tint = third_is ∙ ap (λ (b : Bool). lowest count (λ q. cond b (three q || other colour vs.colours q) (three q))) (sym tint)
 
--- ---- list by list, the lowest so far
-abbrev start1 : After-first_wrong_row-first → Start
-start1 c = start c.before
-
-first-le : (c : After-first_wrong_row-first) → c.first_wrong_row-first.result ≤ (start1 c).args.count
-first-le c = omega (arith, c.first_wrong_row-first.ensures, lowest_le (start1 c).args.count (other (start1 c) position (start1 c).args.positions.now))
-
-first_past : (c : After-first_wrong_row-first) → sure c.before ≤ c.first_wrong_row-first.result
-first_past c = past c.before position _ of_positions _ _ c.first_wrong_row-first.ensures c.sure_quads-sure.ensures.0
-
-second_past : (c : After-first_wrong_row-second) → sure c.before.before ≤ c.first_wrong_row-second.result
-second_past c = past c.before.before normal _ of_normals _ _ c.first_wrong_row-second.ensures (first_past c.before)
-
-third-past : (c : After-first_wrong_row-third) → sure c.before.before.before ≤ c.first_wrong_row-third.result
-third-past c = past c.before.before.before uv _ of_uvs _ _ c.first_wrong_row-third.ensures (second_past c.before)
-
-abbrev two : Start → ℕ → Bool
-two t q = other t position t.args.positions.now q || other t normal t.args.normals.now q
-
-second : (c : After-first_wrong_row-second) → let t = start1 c.before in c.first_wrong_row-second.result ≡ lowest t.args.count (two t)
-second c =
-    let t = start1 c.before in
-    c.first_wrong_row-second.ensures ∙ ap (λ (m : ℕ). lowest m (other t normal t.args.normals.now)) c.first_wrong_row-first.ensures
-    ∙ lowest_either t.args.count (other t position t.args.positions.now) (other t normal t.args.normals.now)
-
-abbrev three : Start → ℕ → Bool
-three t q = two t q || other t uv t.args.uvs.now q
-
-third : (c : After-first_wrong_row-third) → let t = start1 c.before.before in c.first_wrong_row-third.result ≡ lowest t.args.count (three t)
-third c =
-    let t = start1 c.before.before in
-    c.first_wrong_row-third.ensures ∙ ap (λ (m : ℕ). lowest m (other t uv t.args.uvs.now)) (second c.before)
-    ∙ lowest_either t.args.count (two t) (other t uv t.args.uvs.now)
-
-pub sure_quads-sure-requires : goal.sure_quads-sure-requires
-sure_quads-sure-requires c = c.requires
+        tinted : {r : ℕ} → S.types.coloured ≡ true → r ≡ lowest third (other colour vs.colours) → r ≡ lowest count (other_quad S g vs links)
+        tinted tint e =
+            e ∙ ap (λ (m : ℕ). lowest m (other colour vs.colours)) third_is ∙ lowest_either count three (other colour vs.colours)
+            ∙ ap (λ (b : Bool). lowest count (λ q. cond b (three q || other colour vs.colours q) (three q))) (sym tint)
 
 pub first_wrong_row-first-requires : goal.first_wrong_row-first-requires
 first_wrong_row-first-requires c =
-    let t = start c.before in
-    (asked t t.args.count (omega arith) position _ of_positions, t.requires.1, c.sure_quads-sure.ensures.0, right c.before position _ of_positions)
+    let a = c.args in
+    let r = c.sure_quads-sure.ensures in
+    asked (scene_of a.scene) a.grid.now (vertices_in a.lists) a.lists.links.now a.count c.requires.0 c.sure_quads-sure.result r.1 a.count position a.lists.positions.now of_positions r.0 (omega arith)
 
 pub first_wrong_row-second-requires : goal.first_wrong_row-second-requires
 first_wrong_row-second-requires c =
-    let t = start1 c.before in
-    (asked t c.first_wrong_row-first.result (first-le c.before) normal _ of_normals, t.requires.1, first_past c.before, right c.before.before normal _ of_normals)
+    let a = c.args in
+    let r = c.sure_quads-sure.ensures in
+    second_asked (scene_of a.scene) a.grid.now (vertices_in a.lists) a.lists.links.now a.count c.requires.0 c.sure_quads-sure.result r.1 r.0 c.first_wrong_row-first.ensures
 
 pub first_wrong_row-third-requires : goal.first_wrong_row-third-requires
 first_wrong_row-third-requires c =
-    let t = start1 c.before.before in
-    (asked t c.first_wrong_row-second.result (omega (arith, second c.before, lowest_le t.args.count (two t))) uv _ of_uvs, t.requires.1, second_past c.before, right c.before.before.before uv _ of_uvs)
+    let a = c.args in
+    let r = c.sure_quads-sure.ensures in
+    third_asked (scene_of a.scene) a.grid.now (vertices_in a.lists) a.lists.links.now a.count c.requires.0 c.sure_quads-sure.result r.1 r.0 c.first_wrong_row-first.ensures c.first_wrong_row-second.ensures
 
 pub first_wrong_row-requires : goal.first_wrong_row-requires
 first_wrong_row-requires c =
-    let t = start1 c.before.before.before.before in
-    let has = of_colours c.if-scene.true in
-    (asked t c.first_wrong_row-third.result (omega (arith, third c.before.before, lowest_le t.args.count (three t))) colour _ has, t.requires.1, third-past c.before.before, right c.before.before.before.before.before colour _ has)
+    let a = c.args in
+    let r = c.sure_quads-sure.ensures in
+    fourth_asked (scene_of a.scene) a.grid.now (vertices_in a.lists) a.lists.links.now a.count c.requires.0 c.sure_quads-sure.result r.1 r.0 c.first_wrong_row-first.ensures c.first_wrong_row-second.ensures
+    c.first_wrong_row-third.ensures c.if-scene.true
 
 pub returns-then-scene : goal.returns-then-scene
 returns-then-scene c =
-    let s = c.before.before.before in
-    let t = start1 s.before.before in
-    c.first_wrong_row.ensures ∙ ap (λ (m : ℕ). lowest m (other t colour t.args.colours.now)) (third s)
-    ∙ lowest_either t.args.count (three t) (other t colour t.args.colours.now)
-    ∙ ap (λ (b : Bool). lowest t.args.count (λ q. cond b (three t q || other t colour t.args.colours.now q) (three t q))) (sym c.if-scene.true)
+    let a = c.args in
+    let r = c.sure_quads-sure.ensures in
+    tinted (scene_of a.scene) a.grid.now (vertices_in a.lists) a.lists.links.now a.count c.requires.0 c.sure_quads-sure.result r.1 r.0 c.first_wrong_row-first.ensures c.first_wrong_row-second.ensures
+    c.first_wrong_row-third.ensures c.if-scene.true c.first_wrong_row.ensures
 
 pub returns : goal.returns
 returns c =
-    let t = start1 c.before.before.before.before in
-    third c.before.before ∙ ap (λ (b : Bool). lowest t.args.count (λ q. cond b (three t q || other t colour t.args.colours.now q) (three t q))) (sym c.if-scene.false)
+    let a = c.args in
+    let r = c.sure_quads-sure.ensures in
+    plain (scene_of a.scene) a.grid.now (vertices_in a.lists) a.lists.links.now a.count c.requires.0 c.sure_quads-sure.result r.1 r.0 c.first_wrong_row-first.ensures c.first_wrong_row-second.ensures
+    c.first_wrong_row-third.ensures c.if-scene.false
