@@ -5,24 +5,23 @@ ghost use Rattle.std.specs.Prelude.{◌≡◌, Bool, true, cond, List, ℕ, ◌+
 ghost use Rattle.rules.specs.Lists.{lowest};
 ghost use Rattle.rules.specs.Cells.{cells, has, set_of};
 ghost use Rattle.util.specs.Grid.{size_of};
-ghost use Rattle.terms.specs.Loans.{lists_lent};
+ghost use Rattle.terms.specs.Loans.{lists_in};
 ghost use Rattle.terms.specs.Scenes.{scene_of};
-ghost use Rattle.culling.specs.Culling.{world_of, outer_set};
-ghost use Rattle.row_sets.specs.Rows.{Along};
+ghost use Rattle.culling.specs.Culling.{outer_set};
 ghost use Rattle.rules.specs.Answers.{is_filled, unlike};
-ghost use Rattle.checking.specs.Faces.{filled_set, bits, four_sets, wrong_slot, wrong_in_row, Gridded};
+ghost use Rattle.checking.specs.Faces.{filled_set, bits, four_sets, wrong_at, wrong_in_row};
 ghost use Rattle.checking.specs.Outcome.{Checks};
 
-use answers::{Refusal, Verdict, is_refusal, refuse_if};
+use answers::{Refusal, Verdict, refuse_if};
 use comparing::first_wrong_quad;
-use culling::outer_set;
+use culling::{Ground, outer_set};
 use face::{NONE, side_set};
 use lent::links::links_verdict;
-use lent::open_verdict;
 use lent::triangles::triangles_verdict;
-use row_sets::{drawn_row, look_of, sides_along};
-use terms::{Lengths, Scene};
-use util::{Dimensions, Row};
+use lent::{lengths_of, open_verdict};
+use row_sets::{Look, drawn_row, look_of, sides_along};
+use terms::{Lists, Scene};
+use util::Row;
 
 // The faces of a cell whose slots are filled.
 fn filled_set(slots: &[u32], cell: usize) -> u8
@@ -94,21 +93,11 @@ fn lowest_in_row(sets: &[u8], slots: &[u32], first: usize) -> usize
 }
 
 // Searches row by row; `sets` is room for a row.
-fn lowest_by_rows(
-    dims: Dimensions,
-    outer: u8,
-    along: &[u8],
-    grid: &[u8],
-    kinds: &[u8],
-    covers: &[u8],
-    slots: &[u32],
-    sets: &mut [u8],
-) -> usize
-    requires { Gridded (size_of dims) grid.now slots.now (length covers.now) × (length covers.now ≡ length kinds.now) × (length kinds.now ≤ 255)
-        × (outer < 64) × (dims.width ≤ length sets.old) × Along dims.width along.now }
-    ensures { (faces : List ℕ) → outer ≡ outer_set faces → result ≡ lowest (6 * cells (size_of dims)) (wrong_slot (world_of (size_of dims) kinds.now covers.now) faces grid.now slots.now) }
+fn lowest_by_rows(look: Look<'_>, slots: &[u32], sets: &mut [u8]) -> usize
+    requires { (6 * cells (size_of look.ground.dims) ≤ length slots.now) × (look.ground.dims.width ≤ length sets.old) }
+    ensures { (faces : List ℕ) → look.entry.outer ≡ outer_set faces → result ≡ lowest (6 * cells (size_of look.entry.ground.dims)) (wrong_at look.entry.ground faces slots.now) }
 {
-    let look = look_of(outer, kinds, covers);
+    let dims = look.ground.dims;
     let width = dims.width as usize;
     let end = dims.cell_count();
     let mut row = Row {
@@ -117,7 +106,7 @@ fn lowest_by_rows(
         z: 0,
     };
     while row.first < end {
-        drawn_row(sets, dims, look, along, grid, kinds, covers, row);
+        drawn_row(sets, look, row);
         let start = row.first as usize;
         let face = lowest_in_row(&sets[..width], slots, start);
         if face < 6 * width {
@@ -129,74 +118,32 @@ fn lowest_by_rows(
 }
 
 // The lowest face that is drawn and not there, or there and not drawn, or the number of faces.
-fn lowest_wrong_face(
-    dims: Dimensions,
-    outer: u8,
-    grid: &[u8],
-    kinds: &[u8],
-    covers: &[u8],
-    slots: &[u32],
-) -> usize
-    requires { Gridded (size_of dims) grid.now slots.now (length covers.now) × (length covers.now ≡ length kinds.now) × (length kinds.now ≤ 255)
-        × (outer < 64) }
-    ensures { (faces : List ℕ) → outer ≡ outer_set faces → result ≡ lowest (6 * cells (size_of dims)) (wrong_slot (world_of (size_of dims) kinds.now covers.now) faces grid.now slots.now) }
+fn lowest_wrong_face(ground: Ground<'_>, outer: u8, slots: &[u32]) -> usize
+    requires { (6 * cells (size_of ground.dims) ≤ length slots.now) × (length ground.kinds.now ≤ 255) × (outer < 64) }
+    ensures { (faces : List ℕ) → outer ≡ outer_set faces → result ≡ lowest (6 * cells (size_of ground.entry.dims)) (wrong_at ground.entry faces slots.now) }
 {
     let mut along: [u8; 1024] = [0; 1024];
-    sides_along(&mut along, dims.width);
+    sides_along(&mut along, ground.dims.width);
     let mut sets: [u8; 1024] = [0; 1024];
-    lowest_by_rows(dims, outer, &along, grid, kinds, covers, slots, &mut sets)
+    lowest_by_rows(look_of(ground, &along, outer), slots, &mut sets)
 }
 
 // Tries the refusals in their order; a mesh that passes is right.
-pub fn check_mesh(
-    scene: Scene,
-    outer: &[u8],
-    grid: &[u8],
-    kinds: &[u8],
-    covers: &[u8],
-    cubes: &[u32],
-    positions: &[u32],
-    normals: &[u32],
-    uvs: &[u32],
-    colours: &[u32],
-    triangles: &[u32],
-    links: &[u32],
-    slots: &[u32],
-    count: usize,
-) -> Verdict
-    ensures { Checks (scene_of scene kinds.now covers.now cubes.now) outer.now grid.now
-        (lists_lent positions.now normals.now uvs.now colours.now triangles.now links.now slots.now) count result }
+pub fn check_mesh(scene: Scene<'_>, outer: &[u8], grid: &[u8], mesh: Lists<'_>, count: usize) -> Verdict
+    ensures { Checks (scene_of scene.entry) outer.now grid.now (lists_in mesh.entry) count result }
 {
-    let lengths = Lengths {
-        positions: positions.len(),
-        normals: normals.len(),
-        uvs: uvs.len(),
-        colours: colours.len(),
-        triangles: triangles.len(),
-        links: links.len(),
-        slots: slots.len(),
+    open_verdict(scene, outer, grid, lengths_of(mesh), count)?;
+    let cells = scene.dims.cell_count();
+    links_verdict(cells, mesh.links, mesh.slots, count)?;
+    triangles_verdict(mesh.triangles, count)?;
+    let ground = Ground {
+        dims: scene.dims,
+        grid,
+        kinds: scene.types.kinds,
+        covers: scene.types.covers,
     };
-    let opened = open_verdict(scene, outer, grid, kinds, covers, cubes, lengths, count);
-    if is_refusal(opened) {
-        return opened;
-    }
-    let dims = scene.dims;
-    let cells = dims.cell_count();
-    let linked = links_verdict(cells, links, slots, count);
-    if is_refusal(linked) {
-        return linked;
-    }
-    let patterned = triangles_verdict(triangles, count);
-    if is_refusal(patterned) {
-        return patterned;
-    }
-    let face = lowest_wrong_face(dims, outer_set(outer), grid, kinds, covers, slots);
-    let faced = refuse_if(face < 6 * cells as usize, Refusal::WrongSet, face);
-    if is_refusal(faced) {
-        return faced;
-    }
-    let quad = first_wrong_quad(
-        scene, grid, cubes, positions, normals, uvs, colours, links, count,
-    );
+    let face = lowest_wrong_face(ground, outer_set(outer), mesh.slots);
+    refuse_if(face < 6 * cells as usize, Refusal::WrongSet, face)?;
+    let quad = first_wrong_quad(scene, grid, mesh, count);
     refuse_if(quad < count, Refusal::WrongVertex, quad)
 }

@@ -16,8 +16,6 @@ use Rattle.rules.proofs.ListLaws.{All, split}
 use Rattle.rules.proofs.Neighbours.{inside_of}
 use Rattle.voxel_mesh.proofs.Shapes.{few, row_within}
 use Rattle.types.proofs.Known.{cube_placed}
-use Rattle.terms.specs.declared.Scene as declared
-use Rattle.terms.specs.Scenes.{scene_of}
 use Rattle.lent.specs.Scenes.{Typed}
 use Rattle.culling.specs.Culling.{world_of}
 use Rattle.culling.specs.Culling.{Whole}
@@ -122,10 +120,6 @@ pub all_in_row : (S : Scene) (g : List ℕ) (c : ℕ) (keys : List ℕ) → All 
 all_in_row S g c [] h = tt
 all_in_row S g c (k ∷ keys) h = (h.0.0, all_in_row S g c keys h.1)
 
--- the words of faces are drawn from the cubes alone
-pub all_sides : (scene : declared.Scene) (kinds covers cubes g : List ℕ) (c : ℕ) (keys : List ℕ)
-    → All (λ k. InRow g c k × Side (scene_of scene kinds covers cubes) c (side_of g c k)) keys → All (Side (scene_of scene [] [] cubes) c) (map (side_of g c) keys)
-all_sides scene kinds covers cubes g c [] h = tt
-all_sides scene kinds covers cubes g c (k ∷ keys) h =
-    let s = h.0.1 in
-    (record { along = s.along; cube = s.cube; drawable = s.drawable }, all_sides scene kinds covers cubes g c keys h.1)
+pub all_sides : (S : Scene) (g : List ℕ) (c : ℕ) (keys : List ℕ) → All (λ k. InRow g c k × Side S c (side_of g c k)) keys → All (Side S c) (map (side_of g c) keys)
+all_sides S g c [] h = tt
+all_sides S g c (k ∷ keys) h = (h.0.1, all_sides S g c keys h.1)

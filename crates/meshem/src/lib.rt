@@ -6,33 +6,26 @@ ghost use Rattle.terms.specs.Modes.{is_culling};
 ghost use Rattle.terms.specs.Loans.{lists_lent};
 ghost use Rattle.terms.specs.Scenes.{scene_of};
 
-use answers::{Refusal, Verdict};
-use culling::outer_set;
+use answers::{Refusal, Refused, refuse_if};
+use culling::{Ground, outer_set};
 use drawing::{vertex_row, write_patterns};
 use face::ranks;
-use lent::{input_verdict, room_of};
+use lent::{input_verdict, lengths_of, room_of};
 use listing::{count_quads, index_row, side_row};
 use mesh_metadata::new;
 use row_sets::{look_of, sides_along};
-use terms::{Lengths, MeshingAlgorithm, Scene};
+use terms::{Lists, MeshingAlgorithm, Scene};
 use util::Row;
 
-// What the call answers.
-#[derive(Clone, Copy)]
-pub enum Meshed {
-    Done(usize),
-    Refused(Refusal, usize),
-}
+// What the call answers: how many quads there are, or the refusal.
+pub type Meshed = Result<usize, Refused>;
 
 // Meshes a grid into the lent lists, or refuses and writes nothing. A row's faces go into the index and a list of their own, and by that list into each attribute's.
 // The rows end with the last quad.
 pub fn mesh_grid(
-    scene: Scene,
+    scene: Scene<'_>,
     outer: &[u8],
     grid: &[u8],
-    kinds: &[u8],
-    covers: &[u8],
-    cubes: &[u32],
     algorithm: MeshingAlgorithm,
     positions: &mut [u32],
     normals: &mut [u32],
@@ -42,36 +35,36 @@ pub fn mesh_grid(
     links: &mut [u32],
     slots: &mut [u32],
 ) -> Meshed
-    ensures { Meshes (scene_of scene kinds.now covers.now cubes.now) outer.now grid.now (is_culling algorithm)
+    ensures { Meshes (scene_of scene.entry) outer.now grid.now (is_culling algorithm)
         (lists_lent positions.old normals.old uvs.old colours.old triangles.old links.old slots.old) result (lists_lent positions.new normals.new uvs.new colours.new triangles.new links.new slots.new) }
 {
-    let told = input_verdict(scene, outer, grid, kinds, covers, cubes, slots.len());
-    if let Verdict::Refuse(why, place) = told {
-        return Meshed::Refused(why, place);
-    }
+    input_verdict(scene, outer, grid, slots.len())?;
     let dims = scene.dims;
     let culling = algorithm.is_culling();
-    let look = look_of(outer_set(outer), kinds, covers);
     let mut along: [u8; 1024] = [0; 1024];
     sides_along(&mut along, dims.width);
-    let mut sets: [u8; 1024] = [0; 1024];
-    let quads = count_quads(dims, culling, look, &along, grid, kinds, covers, &mut sets);
-    let lengths = Lengths {
-        positions: positions.len(),
-        normals: normals.len(),
-        uvs: uvs.len(),
-        colours: colours.len(),
-        triangles: triangles.len(),
-        links: links.len(),
-        slots: slots.len(),
+    let ground = Ground {
+        dims,
+        grid,
+        kinds: scene.types.kinds,
+        covers: scene.types.covers,
     };
-    let room = room_of(scene.coloured, lengths);
-    if room < quads {
-        return Meshed::Refused(Refusal::NoRoom, 0);
-    }
+    let look = look_of(ground, &along, outer_set(outer));
+    let mut sets: [u8; 1024] = [0; 1024];
+    let quads = count_quads(look, culling, &mut sets);
+    let lengths = lengths_of(Lists {
+        positions,
+        normals,
+        uvs,
+        colours,
+        triangles,
+        links,
+        slots,
+    });
+    let room = room_of(scene.types.coloured, lengths);
+    refuse_if(room < quads, Refusal::NoRoom, 0)?;
     let width = dims.width as usize;
-    let end = dims.cell_count();
-    let six = 6 * end as usize;
+    let six = 6 * dims.cell_count() as usize;
     new(&mut slots[..six]);
     write_patterns(triangles, 0, quads);
     let ranks = ranks();
@@ -83,9 +76,7 @@ pub fn mesh_grid(
         z: 0,
     };
     while base < quads {
-        side_row(
-            &mut sets, dims, culling, look, &along, grid, kinds, covers, row,
-        );
+        side_row(&mut sets, look, culling, row);
         let n = index_row(
             links,
             slots,
@@ -102,7 +93,6 @@ pub fn mesh_grid(
             uvs,
             colours,
             scene,
-            cubes,
             row,
             &sides[..n],
             base,
@@ -110,5 +100,5 @@ pub fn mesh_grid(
         base += n;
         row = row.next(dims);
     }
-    Meshed::Done(quads)
+    Ok(quads)
 }

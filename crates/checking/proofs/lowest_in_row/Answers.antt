@@ -6,7 +6,7 @@ use lib.ListN.{length, get_or}
 use Rattle.rules.specs.Cells.{has, key_of}
 use Rattle.rules.proofs.ListLaws.{lowest_from_le}
 use Rattle.rules.proofs.Sets.{set_of_lt}
-use Rattle.rules.proofs.Searches.{searched, ended}
+use Rattle.rules.proofs.Searches.{ended}
 use Rattle.rules.specs.Answers.{is_filled, unlike}
 use Rattle.checking.specs.Faces.{filled_set, wrong_in_row}
 use Rattle.checking.proofs.Faces.{all_like, first_unlike, cells_like, four_same, same_side}
