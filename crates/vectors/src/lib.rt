@@ -46,7 +46,7 @@ pub fn read_record<R: Read>(
     words: &mut [u32],
 ) -> io::Result<Option<usize>>
     requires { length bytes.old ≡ 4 * length words.old }
-    ensures { IfOk result (λ found. IfSome found (λ n. n ≤ length words.old)) }
+    ensures { IfOk result (λ found. IfSome found (λ n. (0 < n) × (n ≤ length words.old))) }
 {
     let mut head = [0u8; 4];
     if read_full(file, &mut head)? != head.len() {
@@ -64,10 +64,6 @@ pub fn read_record<R: Read>(
 pub fn holds(room: &[u32], words: &[u32]) -> bool {
     let n = words.len();
     n <= room.len() && room[..n] == words[..] && room[n..].iter().all(|word| *word == SPARE)
-}
-
-pub fn empty(room: &mut [u32]) {
-    room.fill(SPARE);
 }
 
 // The lowest bytes of the words, as many as there is room for.
