@@ -19,7 +19,7 @@ use face::{NONE, side_set};
 use lent::links::links_verdict;
 use lent::triangles::triangles_verdict;
 use lent::{lengths_of, open_verdict};
-use row_sets::{Look, drawn_row, look_of, sides_along};
+use row_sets::{Look, drawn_row, sides_along};
 use terms::{Lists, Scene};
 use util::Row;
 
@@ -125,7 +125,7 @@ fn lowest_wrong_face(ground: Ground<'_>, outer: u8, slots: &[u32]) -> usize
     let mut along: [u8; 1024] = [0; 1024];
     sides_along(&mut along, ground.dims.width);
     let mut sets: [u8; 1024] = [0; 1024];
-    lowest_by_rows(look_of(ground, &along, outer), slots, &mut sets)
+    lowest_by_rows(Look::of(ground, &along, outer), slots, &mut sets)
 }
 
 // Tries the refusals in their order; a mesh that passes is right.

@@ -21,11 +21,6 @@ use Rattle.culling.specs.Culling.{world_of, outer_set}
 pub set_of_cong : (p q : ℕ → Bool) → ((f : ℕ) → f < 6 → p f ≡ q f) → set_of p ≡ set_of q
 set_of_cong p q e = rw (e 0 (omega arith), e 1 (omega arith), e 2 (omega arith), e 3 (omega arith), e 4 (omega arith), e 5 (omega arith))
 
--- a set told face by face
-pub six_sides : (p : ℕ → Bool) {a b c d e f : Bool} → a ≡ p 0 → b ≡ p 1 → c ≡ p 2 → d ≡ p 3 → e ≡ p 4 → f ≡ p 5
-    → cond a 1 0 + cond b 2 0 + cond c 4 0 + cond d 8 0 + cond e 16 0 + cond f 32 0 ≡ set_of p
-six_sides p a b c d e f = λ i. cond (a i) 1 0 + cond (b i) 2 0 + cond (c i) 4 0 + cond (d i) 8 0 + cond (e i) 16 0 + cond (f i) 32 0
-
 -- a set that is kept or dropped whole
 pub only_if : (b : Bool) (p : ℕ → Bool) → cond b (set_of p) 0 ≡ set_of (λ f. b && p f)
 only_if true p = refl

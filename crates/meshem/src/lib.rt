@@ -13,7 +13,7 @@ use face::ranks;
 use lent::{input_verdict, lengths_of, room_of};
 use listing::{count_quads, index_row, side_row};
 use mesh_metadata::new;
-use row_sets::{look_of, sides_along};
+use row_sets::{sides_along};
 use terms::{Lists, MeshingAlgorithm, Scene};
 use util::Row;
 
@@ -49,7 +49,7 @@ pub fn mesh_grid(
         kinds: scene.types.kinds,
         covers: scene.types.covers,
     };
-    let look = look_of(ground, &along, outer_set(outer));
+    let look = Look::of(ground, &along, outer_set(outer));
     let mut sets: [u8; 1024] = [0; 1024];
     let quads = count_quads(look, culling, &mut sets);
     let lengths = lengths_of(Lists {

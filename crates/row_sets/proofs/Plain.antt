@@ -8,11 +8,10 @@ use Prim.Native.Nat.{ℕ, zero, suc, ◌+◌, ◌-◌, ◌*◌, ◌≤◌, ◌<�
 use native.Mathlib.Omega.{arith}
 use lib.Bits.{bit_and, bit_or, and_lt, or_lt}
 use lib.Dec.{eqb, ltb, leb}
-use lib.ListN.{length, get_or, set, take, drop, length-set}
-use mir.Val.{bool_byte}
-use lib.Seq.{get_or-set_same, get_or-set_other, get_or-take, get_or-drop}
+use lib.ListN.{length, get_or, set, length-set}
+use lib.Seq.{get_or-set_same, get_or-set_other}
 use borrow.Author.Count.{below_more}
-use borrow.Author.Tests.{ltb-true, ltb-false, lt-ltb, leb-true, leb-false, eq-eqb, ne_eqb, eqb-true, eqb-false}
+use borrow.Author.Tests.{ltb-true, ltb-false, leb-true, leb-false, eq-eqb, ne_eqb}
 use Rattle.rules.specs.Lists.{member}
 use Rattle.rules.specs.Cells.{Size, Triple, cells, coordinates, opposite, only_if, neighbour, has, set_of}
 use Rattle.rules.specs.Mesh.{type_at, shown, drawn}
@@ -27,7 +26,7 @@ use Rattle.culling.proofs.Sides.{set_of_cong}
 use Rattle.culling.proofs.Passing.{Passed}
 use Rattle.row_sets.specs.declared.Codes.{Codes}
 use Rattle.row_sets.specs.declared.around.Around.{Around}
-use Rattle.row_sets.specs.Plainly.{ClearBelow, FullFrom, Plainly, Plain, Along}
+use Rattle.row_sets.specs.Plainly.{Plainly, Plain, Along}
 use Rattle.row_sets.specs.Around.{is_row_face, RowBeside, is_there, RowsOf}
 use Rattle.row_sets.specs.Rows.{code_of, plain_set, plain_shown, plain_at, Beside}
 
@@ -132,13 +131,6 @@ side : (full outer : ℕ) (g : List ℕ) (f code n : ℕ) (b keep : Bool) → ke
 side full outer g f code n true keep k to = ap (λ (t : Bool). cond t (ltb code full) (not (has outer f))) k ∙ ap (λ (m : ℕ). ltb m full) (to refl)
 side full outer g f code n false keep k to = ap (λ (t : Bool). cond t (ltb code full) (not (has outer f))) k
 
-pub step_back : (at x : ℕ) → bool_byte (ltb 0 x) ≤ at + x
-step_back at x = go (ltb 0 x) refl
-  where
-    go : (t : Bool) → ltb 0 x ≡ t → bool_byte t ≤ at + x
-    go true t = let l : 0 < x = ltb-true 0 x t in omega arith
-    go false t = omega arith
-
 is_there_lem : (b : Bool) (m n : ℕ) → only_if b m ≡ some n → (b ≡ true) × (m ≡ n)
 is_there_lem true m n e = (refl, cc)
 is_there_lem false m n e = absurd (let z : ◌≡◌ {A = ℕ} 0 1 = cc in omega arith)
@@ -191,24 +183,6 @@ module _ (size : Size) (in_limits : Within size) (rows : Around) (r : RowsOf siz
       read (suc (suc (suc zero))) h t = ap (λ (n : ℕ). get_or g n 0) (p.off (ltb-true _ _ t))
       read (suc (suc (suc (suc zero)))) h t = refl
       read (suc (suc (suc (suc (suc f))))) h t = refl
-
-  -- a neighbour that is not there is read as the cell itself
-  pub beside_lone : (x : ℕ) → x < size.w → Beside size rows x (rows.at + x + bool_byte (ltb (x + 1) size.w)) (rows.at + x - bool_byte (ltb 0 x))
-  beside_lone x h = record {
-    wide = h;
-    on = λ l. ap (λ (b : Bool). rows.at + x + bool_byte b) (lt-ltb _ _ l);
-    off = λ l. ap (λ (b : Bool). rows.at + x - bool_byte b) (lt-ltb _ _ l);
-    right_in = go (ltb (x + 1) size.w) refl;
-    left_in = omega (arith, r.fits);
-  }
-    where
-      go : (t : Bool) → ltb (x + 1) size.w ≡ t → rows.at + x + bool_byte t < cells size
-      go true t = let l : x + 1 < size.w = ltb-true _ _ t in omega (arith, r.fits)
-      go false t = omega (arith, r.fits)
-
-  -- or as the cell before or after it in the grid
-  pub beside_in_grid : (x : ℕ) → x < size.w → 0 < rows.at → rows.at + size.w < cells size → Beside size rows x (rows.at + x + 1) (rows.at + x - 1)
-  beside_in_grid x wide first last = record { wide = wide; on = λ h. refl; off = λ h. refl; right_in = omega arith; left_in = omega arith }
 
   -- ---- rows of plain codes
   module _ (clear full : ℕ) (g : List ℕ) where
@@ -293,41 +267,7 @@ module _ (s : Size) (kinds covers : List ℕ) (clear full : ℕ) (p : Plainly ki
 
 -- ---- no odd types, no odd codes
 
-pub all_plain : (clear full code : ℕ) → full ≤ clear → Plain clear full code
-all_plain clear full code h = go (ltb code full) refl
-  where
-    go : (t : Bool) → ltb code full ≡ t → Plain clear full code
-    go true t = inl (let l : code < full = ltb-true code full t in omega arith)
-    go false t = inr (ltb-false code full t)
-
 -- ---- types, one by one
-
-pub no_clear : (kinds covers : List ℕ) → ClearBelow kinds covers 0
-no_clear kinds covers = record { kind = λ t h. absurd (omega arith); cover = λ t h. absurd (omega arith) }
-
-pub one_clear : (kinds covers : List ℕ) (n : ℕ) → ClearBelow kinds covers n → (get_or kinds n 0 ≡ 1 → ⊥) → get_or covers n 0 ≡ 0
-    → ClearBelow kinds covers (n + 1)
-one_clear kinds covers n p k c = record {
-  kind = below_more (λ t. get_or kinds t 0 ≡ 1 → ⊥) n p.kind k;
-  cover = below_more (λ t. get_or covers t 0 ≡ 0) n p.cover c;
-}
-
-pub no_full : (kinds covers : List ℕ) → FullFrom kinds covers (length kinds)
-no_full kinds covers = record { kind = λ t h l. absurd (omega arith); cover = λ t h l. absurd (omega arith) }
-
-pub one_full : (kinds covers : List ℕ) (n m : ℕ) → FullFrom kinds covers n → n ≡ m + 1 → get_or kinds m 0 ≡ 1 → get_or covers m 0 ≡ 63
-    → FullFrom kinds covers m
-one_full kinds covers n m p e k c = record {
-  kind = λ t h l. at (λ t. t < length kinds → get_or kinds t 0 ≡ 1) (λ t h. p.kind t h) (λ l. k) t h l;
-  cover = λ t h l. at (λ t. t < length kinds → get_or covers t 0 ≡ 63) (λ t h. p.cover t h) (λ l. c) t h l;
-}
-  where
-    at : (P : ℕ → Type 0) → ((t : ℕ) → n ≤ t → P t) → P m → (t : ℕ) → m ≤ t → P t
-    at P more here t h = go (eqb t m) refl
-      where
-        go : (b : Bool) → eqb t m ≡ b → P t
-        go true b = subst (λ (t : ℕ). P t) (sym (eqb-true t m b)) here
-        go false b = more t (let d = eqb-false t m b in omega arith)
 
 -- the first n of a block lie at x and on
 pub record Stored (old : List ℕ) (x : ℕ) (block sets : List ℕ) (n : ℕ) : Type 0 where
@@ -374,22 +314,3 @@ row_is_drawn s rows clear full outer g kinds covers r w both known plain faces e
     ∙ plain_is_drawn s kinds covers clear full known g (λ k l. omega (arith, w.typed k l, both)) faces (rows.at + x)
     (omega (arith, w.whole)) (plain x h).0
     (λ f n l q. (omega (arith, w.whole, (beside s w.within.sides.wide w.within.sides.long (rows.at + x) c f n q).inside), (plain x h).1 f n l q))
-
--- codes tested one by one
-pub test_plain : (plain : Bool) (clear full code : ℕ) → (plain && (ltb code clear || leb full code)) ≡ true → (plain ≡ true) × Plain clear full code
-test_plain true clear full code e = (refl, go (ltb code clear) refl e)
-  where
-    go : (t : Bool) → ltb code clear ≡ t → (t || leb full code) ≡ true → Plain clear full code
-    go true t e = inl (ltb-true code clear t)
-    go false t e = inr (leb-true full code e)
-test_plain false clear full code e = absurd (let z : ◌≡◌ {A = ℕ} 0 1 = cc in omega arith)
-
-pub clear_to : (kinds covers : List ℕ) (n m : ℕ) → n ≡ m → ClearBelow kinds covers n → ClearBelow kinds covers m
-clear_to kinds covers n m e p = subst (λ (n : ℕ). ClearBelow kinds covers n) e p
-
-pub full_to : (kinds covers : List ℕ) (n m : ℕ) → n ≡ m → FullFrom kinds covers n → FullFrom kinds covers m
-full_to kinds covers n m e p = subst (λ (n : ℕ). FullFrom kinds covers n) e p
-
--- a code of a stretch, read in the whole
-pub stretch_code : (g : List ℕ) (at n k : ℕ) → k < n → get_or (take (at + n - at) (drop at g)) k 0 ≡ get_or g (at + k) 0
-stretch_code g at n k h = get_or-take (at + n - at) (drop at g) k 0 (omega arith) ∙ get_or-drop at g k 0

@@ -12,7 +12,7 @@ ghost use Rattle.row_sets.specs.Rows.{PlainAround, code_of, plain_set, plain_in,
 use around::{Around, rows_around};
 use culling::row_by_cells;
 use face::{Face, bit_if, side_set};
-pub use look::{Look, look_of, sides_along};
+pub use look::{Look, clear_types, full_from, sides_along};
 use util::Row;
 
 mod around; // around.rt: a row and the rows beside it

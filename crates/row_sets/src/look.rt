@@ -6,7 +6,7 @@ use culling::Ground;
 use face::bit_if;
 
 // How many of the first types are no NormalCubes and cover nothing.
-fn clear_types(kinds: &[u8], covers: &[u8]) -> u8
+pub fn clear_types(kinds: &[u8], covers: &[u8]) -> u8
     requires { (length covers.now ≡ length kinds.now) × (length kinds.now ≤ 255) }
     ensures { ClearBelow kinds.now covers.now result }
 {
@@ -22,7 +22,7 @@ fn clear_types(kinds: &[u8], covers: &[u8]) -> u8
 }
 
 // From this type on all are NormalCubes that cover every side.
-fn full_from(kinds: &[u8], covers: &[u8]) -> u8
+pub fn full_from(kinds: &[u8], covers: &[u8]) -> u8
     requires { (length covers.now ≡ length kinds.now) × (length kinds.now ≤ 255) }
     ensures { FullFrom kinds.now covers.now result }
 {
@@ -51,18 +51,20 @@ pub struct Look<'a> {
     ghost faces: { outer < 64 },
 }
 
-pub fn look_of<'a>(ground: Ground<'a>, along: &'a [u8], outer: u8) -> Look<'a>
-    requires { (length ground.kinds.now ≤ 255) × Along ground.dims.width along.now × (outer < 64) }
-    ensures { (result.ground ≡ ground.entry) × (result.outer ≡ outer) }
-{
-    let clear = clear_types(ground.kinds, ground.covers);
-    let full = full_from(ground.kinds, ground.covers);
-    Look {
-        ground,
-        along,
-        outer,
-        clear,
-        full,
+impl<'a> Look<'a> {
+    pub fn of(ground: Ground<'a>, along: &'a [u8], outer: u8) -> Look<'a>
+        requires { (length ground.kinds.now ≤ 255) × Along ground.dims.width along.now × (outer < 64) }
+        ensures { (result.ground ≡ ground.entry) × (result.outer ≡ outer) }
+    {
+        let clear = clear_types(ground.kinds, ground.covers);
+        let full = full_from(ground.kinds, ground.covers);
+        Look {
+            ground,
+            along,
+            outer,
+            clear,
+            full,
+        }
     }
 }
 

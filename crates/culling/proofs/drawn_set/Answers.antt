@@ -1,14 +1,14 @@
 -- `culling::drawn_set` meets its contract: the sides that show, of a NormalCube alone. Assumes nothing.
 use Rattle.std.proofs.Common.{rules}
-use mathlib.Core.Path.{◌≡◌, refl, sym, ap, ◌∙◌}
-use mathlib.Core.Bool.{Bool, cond, ◌&&◌}
+use mathlib.Core.Path.{refl, sym, ap, ◌∙◌}
+use mathlib.Core.Bool.{Bool, ◌&&◌}
 use mathlib.Core.List.{[]}
 use Prim.Native.Nat.{ℕ}
 use lib.Dec.{eqb}
 use lib.ListN.{get_or}
 use native.Mathlib.Omega.{arith}
 use Rattle.rules.specs.Cells.{neighbour}
-use Rattle.rules.specs.Mesh.{type_at, drawn}
+use Rattle.rules.specs.Mesh.{drawn}
 use Rattle.util.specs.Grid.{size_of}
 use Rattle.culling.specs.Culling.{world_of, shown_at}
 use Rattle.rules.proofs.ListLaws.{within}
