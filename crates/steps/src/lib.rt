@@ -11,6 +11,7 @@ ghost use Rattle.steps.specs.Rows.{quad_freed, run_all, shelves, ran_all, Replay
 
 use drawing::write_places;
 use face::Cell;
+use quads::Quad;
 use terms::Scene;
 use util::{Inverse, cords_of};
 use vav::free_row;
@@ -47,47 +48,37 @@ fn replay_one(
     normals: &mut [u32],
     uvs: &mut [u32],
     colours: &mut [u32],
-    scene: Scene,
-    cubes: &[u32],
+    scene: Scene<'_>,
     inverse: Inverse,
     step: &[u32],
     count: usize,
 ) -> usize
     requires { (2 ≤ length step.now)
-        × ReplayingAll (scene_of scene [] [] cubes.now) (step_at step.now 0 ∷ []) (vertices_of positions.old normals.old uvs.old colours.old) count
+        × ReplayingAll (scene_of scene) (step_at step.now 0 ∷ []) (vertices_of positions.old normals.old uvs.old colours.old) count
         × Inverts (size_of scene.dims) inverse }
     ensures { shelves (vertices_of positions.new normals.new uvs.new colours.new) result
-        ≡ ran_all (scene_of scene [] [] cubes.now) (step_at step.now 0 ∷ [])
+        ≡ ran_all (scene_of scene.entry) (step_at step.now 0 ∷ [])
         (shelves (vertices_of positions.old normals.old uvs.old colours.old) count) }
 {
     let a = step[0];
     let b = step[1];
+    let coloured = scene.types.coloured;
     if b >= CUT {
         free_places(
-            positions,
-            normals,
-            uvs,
-            colours,
-            scene.coloured,
-            a as usize,
-            count,
+            positions, normals, uvs, colours, coloured, a as usize, count,
         );
         return count - 1;
     }
-    let words = 4 * floats_of(scene.coloured);
+    let words = 4 * floats_of(coloured);
     let start = words * (6 * b + a % 6) as usize;
     let end = start + words;
-    write_places(
-        positions,
-        normals,
-        uvs,
-        colours,
-        &cubes[start..end],
-        scene.coloured,
-        cords_of(Cell(a / 6), scene.dims, inverse),
-        scene.d,
-        count,
-    );
+    let quad = Quad {
+        corners: &scene.types.cubes[start..end],
+        coloured,
+        at: cords_of(Cell(a / 6), scene.dims, inverse),
+        d: scene.d,
+    };
+    write_places(positions, normals, uvs, colours, quad, count);
     count + 1
 }
 
@@ -97,22 +88,20 @@ pub fn replay_steps(
     normals: &mut [u32],
     uvs: &mut [u32],
     colours: &mut [u32],
-    scene: Scene,
-    cubes: &[u32],
+    scene: Scene<'_>,
     inverse: Inverse,
     steps: &[u32],
     count: usize,
 )
-    requires { ReplayingAll (scene_of scene [] [] cubes.now) (steps_in (length steps.now / 2) steps.now) (vertices_of positions.old normals.old uvs.old colours.old) count
+    requires { ReplayingAll (scene_of scene) (steps_in (length steps.now / 2) steps.now) (vertices_of positions.old normals.old uvs.old colours.old) count
         × Inverts (size_of scene.dims) inverse }
     ensures { vertices_of positions.new normals.new uvs.new colours.new
-        ≡ run_all (scene_of scene [] [] cubes.now) (steps_in (length steps.now / 2) steps.now) count
+        ≡ run_all (scene_of scene.entry) (steps_in (length steps.now / 2) steps.now) count
         (vertices_of positions.old normals.old uvs.old colours.old) }
 {
     let n = steps.len() / 2;
     let mut left = count;
-    let mut i = 0;
-    while i < n {
+    for i in 0..n {
         let at = 2 * i;
         left = replay_one(
             positions,
@@ -120,11 +109,9 @@ pub fn replay_steps(
             uvs,
             colours,
             scene,
-            cubes,
             inverse,
             &steps[at..at + 2],
             left,
         );
-        i += 1;
     }
 }

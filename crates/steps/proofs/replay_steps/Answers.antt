@@ -11,18 +11,12 @@ use Rattle.rules.proofs.Rows.{length_lent}
 use Rattle.rules.proofs.Attributes.{each_list_lem, each_again, each_stays}
 use Rattle.vav.proofs.Laws.{part_at, part_lent}
 use Rattle.terms.specs.Scenes.{scene_of}
-use Rattle.drawing.proofs.Lengths.{alike_long}
+use Rattle.drawing.proofs.Lengths.{Alike, alike_long}
 use Rattle.steps.specs.Steps.{Step, gone, came, step_in, step_at, Shelf, shelf, left, Can}
 use Rattle.steps.specs.Rows.{run_of, Shelves, shelves, ran_all, Drawn, ReplayingAll}
 use Rattle.steps.proofs.Turning.{Piecewise, start, this, turn, done}
 use Rattle.steps.proofs.replay_steps.Invariants.{Ready}
 use Rattle.steps.proofs.replay_steps.Goals as goal
-use Rattle.steps.proofs.replay_steps.Lts
-use Rattle.steps.proofs.replay_steps.Tie
-use Rattle.steps.proofs.replay_steps.Reads
-
-abbrev Start : Type 0
-Start = Lts.Start Tie.the-claims Reads.Pre Reads.Post goal.the-invariant-loop-i goal.the-decreases-loop-i
 
 -- what is asked of other steps, with quads that the room holds
 other : {S : Scene} {vs : Vertices} {xs ys : List Step} {Q R : ℕ} (p : ReplayingAll S xs vs Q) → R ≤ p.room → Can (Drawn S) p.room ys R → ReplayingAll S ys vs R
@@ -79,58 +73,30 @@ lent-step i xs =
     let b = part_at (2 * i) 2 xs 1 (omega arith) in
     ap (λ (ys : List ℕ). step_at ys 0) e ∙ (λ j. step_in (a j) (b j))
 
-abbrev scene : Start → Scene
-scene t = scene_of t.args.scene [] [] t.args.cubes.now
-
-abbrev vertices : Start → Vertices
-vertices t = vertices_of t.args.positions.now t.args.normals.now t.args.uvs.now t.args.colours.now
-
 pub replay_one-left-requires : goal.replay_one-left-requires
 replay_one-left-requires c =
+    let a = c.args in
     let l = c.loop-i in
-    let t = c.before.before.before.before.before.before.before.before.before.before.before.before.before.before in
-    let p = this l.invariant.0 (piecewise (scene t) (vertices t)) c.loop-i-test.true in
-    let i = c.loop-i-test.true in
-    let x = lent-step l.i t.args.steps.now in (
-      omega (arith, length_lent (2 * l.i) 2 t.args.steps.now (omega arith)),
-      rw x (record { room = p.room; within = p.within; fits = alike_long t.args.scene.coloured _ _ _ l.invariant.1 p.fits; here = p.here; can = p.can }),
-      t.requires.1,
+    let k = l.auto in
+    let vs = vertices_of a.positions.now a.normals.now a.uvs.now a.colours.now in
+    let alike : Alike (vertices_of l.positions l.normals l.uvs l.colours) vs =
+    record { positions = k.positions; normals = k.normals; uvs = k.uvs; colours = k.colours } in
+    let p = this l.invariant (piecewise (scene_of a.scene) vs) c.loop-i-test.true in
+    let x = lent-step l.i a.steps.now in (
+      omega (arith, length_lent (2 * l.i) 2 a.steps.now (omega (arith, c.loop-i-test.true))),
+      rw x (record { room = p.room; within = p.within; fits = alike_long a.scene.types.coloured _ _ _ alike p.fits; here = p.here; can = p.can }),
+      c.requires.1,
     )
-
-pub overflow_add-i : goal.overflow_add-i
-overflow_add-i c =
-    let i = c.loop-i-test.true in
-    omega arith
 
 pub loop-i-preserved : goal.loop-i-preserved
 loop-i-preserved c =
-    let l = c.loop-i in
-    let t = c.before.before.before.before.before.before.before.before.before.before.before.before.before.before.before.before.before.before.before.before.before.before.before in
-    let k = c.replay_one-left.auto in
-    let x = lent-step l.i t.args.steps.now in (
-      turn l.invariant.0 (piecewise (scene t) (vertices t)) c.loop-i-test.true (rw x at c.replay_one-left.ensures),
-      record { positions = k.positions ∙ l.invariant.1.positions; normals = k.normals ∙ l.invariant.1.normals; uvs = k.uvs ∙ l.invariant.1.uvs; colours = k.colours ∙ l.invariant.1.colours },
-    )
+    let a = c.args in
+    let vs = vertices_of a.positions.now a.normals.now a.uvs.now a.colours.now in
+    let x = lent-step c.loop-i.i a.steps.now in
+    turn c.loop-i.invariant (piecewise (scene_of a.scene) vs) c.loop-i-test.true (rw x at c.replay_one-left.ensures)
 
 pub returns : goal.returns
-returns c =
-    let t = c.before.before.before.before.before.before.before.before.before in
-    ap (λ (v : Shelves). v.vertices) (done c.loop-i.invariant.0 (idle (scene t)) c.loop-i-test.false)
+returns c = ap (λ (v : Shelves). v.vertices) (done c.loop-i.invariant (idle (scene_of c.args.scene)) c.loop-i-test.false)
 
 pub loop-i-init : goal.loop-i-init
-loop-i-init c = (start c.requires.0, record { positions = refl; normals = refl; uvs = refl; colours = refl })
-
-pub loop-i-smaller : goal.loop-i-smaller
-loop-i-smaller c = let i = c.loop-i-test.true in omega arith
-
-pub shape_of-positions : goal.shape_of-positions
-shape_of-positions c = c.loop-i.invariant.1.positions
-
-pub shape_of-normals : goal.shape_of-normals
-shape_of-normals c = c.loop-i.invariant.1.normals
-
-pub shape_of-uvs : goal.shape_of-uvs
-shape_of-uvs c = c.loop-i.invariant.1.uvs
-
-pub shape_of-colours : goal.shape_of-colours
-shape_of-colours c = c.loop-i.invariant.1.colours
+loop-i-init c = start c.requires.0
