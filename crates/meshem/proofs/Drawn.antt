@@ -84,23 +84,6 @@ module _ (S : Scene) (g : List ℕ) (sets : ℕ → ℕ) where
           slots_are = t.slots ∙ (λ i. named ((on ∙ at) i) keys (d.slots_are i)) ∙ named_then 0 before keys ss₀ ∙ ap (λ (r : List ℕ). named 0 r ss₀) all;
         }
 
-    -- the lists keep their lengths
-    module _ {c base : ℕ} {vs : Vertices} {ls ss : List ℕ} (d : Drawn c base vs ls ss) where
-      kept_one : (b : Attribute) (xs : List ℕ) → HasList tint vs₀ b xs → 4 * b.width * asked sets 0 c ≤ length xs → length (rows_drawn c b xs) ≡ length xs
-      kept_one b xs l h =
-          kept_rows (4 * b.width) (word_row S b g) (words_wide b (inside_of tint vs₀ b xs l)) 0 (keys_of sets 0 c) xs
-          (let e : 0 + length (keys_of sets 0 c) ≡ asked sets 0 c = omega (arith, length_keys sets c 0) in rw e h)
-
-      pub kept_vertices : Long tint (asked sets 0 c) vs₀ → Alike vs vs₀
-      kept_vertices long = rw d.vertices_are (each_alike tint vs₀ (rows_drawn c) (λ b xs l. kept_one b xs l (long b xs l)))
-
-      pub kept_links : asked sets 0 c ≤ length ls₀ → length ls ≡ length ls₀
-      kept_links h =
-          ap length d.links_are ∙ kept_rows 1 link_row (λ i. refl) 0 (keys_of sets 0 c) ls₀ (omega (arith, length_keys sets c 0))
-
-      pub kept_slots : length ss ≡ length ss₀
-      kept_slots = ap length d.slots_are ∙ kept_named 0 (keys_of sets 0 c) ss₀
-
 -- ---- the sets that the code finds are those of the fresh mesh
 module _ (S : Scene) (outer g : List ℕ) (culling by : Bool) (set : ℕ) (mode : by ≡ culling) (named_by : set ≡ outer_set outer) where
   abbrev pub found : ℕ → ℕ
