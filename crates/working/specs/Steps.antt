@@ -5,10 +5,7 @@ use Rattle.rules.specs.Calls as rules
 use Rattle.rules.specs.Calls.{Answer, Outcome, mesh_grid}
 use Rattle.rules.specs.Program.{word, grid_in, log_in, update_after, Built, stopped, built}
 use Rattle.voxel_mesh.specs.declared.Shape.{Shape}
-use Rattle.terms.specs.declared.Scene.{Scene}
-use Rattle.terms.specs.Scenes.{scene_of}
 use Rattle.workfile.specs.declared.Work.{Work}
-use Rattle.workfile.specs.Work.{work_in}
 
 -- what the trailer says of a cube, and of the grid
 abbrev pub shape_by : Work → Shape
@@ -23,13 +20,6 @@ shape_by w =
       colour = w.colour;
       alpha = w.alpha;
     }
-
-abbrev pub scene_by : Work → Scene
-scene_by w = record { dims = w.dims; coloured = w.coloured; d = w.d; centre = w.centre }
-
--- with types as they are lent
-abbrev pub scene_with : List ℕ → List ℕ → List ℕ → List ℕ → rules.Scene
-scene_with file kinds covers cubes = scene_of (scene_by (work_in file)) kinds covers cubes
 
 -- the cubes, unless a type was refused
 abbrev pub built_by : ℕ → Answer → List ℕ → Built
