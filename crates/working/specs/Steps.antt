@@ -3,7 +3,7 @@ use Rattle.std.specs.Prelude.{ℕ, zero, suc, List, eqb}
 use Rattle.rules.specs.Mesh.{Lists}
 use Rattle.rules.specs.Calls as rules
 use Rattle.rules.specs.Calls.{Answer, Outcome, mesh_grid}
-use Rattle.rules.specs.Program.{word, grid_in, log_in, update_after, Built, stopped, built}
+use Rattle.rules.specs.Program.{word, size_in, triple_in, coloured_in, grid_in, log_in, update_after, Built, stopped, built}
 use Rattle.voxel_mesh.specs.declared.Shape.{Shape}
 use Rattle.workfile.specs.declared.Work.{Work}
 
@@ -19,6 +19,16 @@ shape_by w =
       coloured = w.coloured;
       colour = w.colour;
       alpha = w.alpha;
+    }
+
+-- the scene that the trailer tells, with types as they are lent
+abbrev pub scene_with : List ℕ → List ℕ → List ℕ → List ℕ → rules.Scene
+scene_with file kinds covers cubes =
+    record {
+      size = size_in file;
+      types = record { coloured = coloured_in file; kinds = kinds; covers = covers; cubes = cubes };
+      d = triple_in file 10;
+      centre = triple_in file 13;
     }
 
 -- the cubes, unless a type was refused

@@ -7,9 +7,16 @@ ghost use Rattle.rules.specs.Calls.{check_by};
 ghost use Rattle.rules.specs.Program.{type_count, coloured_in, shape_in, build_from};
 ghost use Rattle.answers.specs.Verdicts.{verdict_of};
 ghost use Rattle.voxel_mesh.specs.Outcome.{Cubes};
-ghost use Rattle.working.specs.Steps.{shape_by, built_of};
+ghost use Rattle.terms.specs.Loans.{lists_lent};
+ghost use Rattle.update.specs.Outcome.{outcome_of};
+ghost use Rattle.working.specs.Steps.{shape_by, scene_with, built_of, worked_on};
 
 use answers::Verdict;
+use meshem::mesh_grid;
+use telling::algorithm_of;
+use terms::{Scene, Tested};
+use types::Types;
+use update::{Updated, update_mesh};
 use voxel_mesh::{Shape, floats_of, generate_voxel_mesh};
 use workfile::{Work, WorkFile};
 
@@ -63,4 +70,63 @@ pub fn build_cubes(file: WorkFile<'_>, registry: &mut [u32]) -> Verdict
         build_cube(file, t, &mut registry[start..end])?;
     }
     Ok(())
+}
+
+// The update follows unless the mesh is refused. The file has no place for its mode, so it is the source's.
+pub fn work_lists(
+    file: WorkFile<'_>,
+    outer: &[u8],
+    kinds: &[u8],
+    covers: &[u8],
+    cubes: &[u32],
+    positions: &mut [u32],
+    normals: &mut [u32],
+    uvs: &mut [u32],
+    colours: &mut [u32],
+    triangles: &mut [u32],
+    links: &mut [u32],
+    slots: &mut [u32],
+) -> Updated
+    ensures { outcome_of result (lists_lent positions.new normals.new uvs.new colours.new triangles.new links.new slots.new)
+        ≡ worked_on file.entry.bytes.now (scene_with file.entry.bytes.now kinds.now covers.now cubes.now)
+        outer.now (lists_lent positions.old normals.old uvs.old colours.old triangles.old links.old slots.old) }
+{
+    let work = file.read_work();
+    let scene = Scene {
+        dims: work.dims,
+        types: Types {
+            kinds,
+            covers,
+            cubes,
+            coloured: work.coloured,
+        },
+        d: work.d,
+        centre: work.centre,
+    };
+    let quads = mesh_grid(
+        scene,
+        outer,
+        file.grid_of(),
+        algorithm_of(work.culling),
+        positions,
+        normals,
+        uvs,
+        colours,
+        triangles,
+        links,
+        slots,
+    )?;
+    update_mesh(
+        scene,
+        Tested::Opposite,
+        file.log_of(),
+        positions,
+        normals,
+        uvs,
+        colours,
+        triangles,
+        links,
+        slots,
+        quads,
+    )
 }
