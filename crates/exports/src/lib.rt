@@ -11,9 +11,9 @@ use checking::check_mesh;
 use floats::Triple;
 use meshem::mesh_grid;
 use telling::{
-    algorithm_of, is_yes, scene_of, tested_of, told_by_cube, told_by_mesh, told_by_update,
-    told_by_verdict,
+    algorithm_of, is_yes, scene_of, tested_of, told_by_mesh, told_by_update, told_by_verdict,
 };
+use terms::Lists;
 use update::update_mesh;
 use voxel_mesh::{Shape, generate_voxel_mesh};
 
@@ -64,7 +64,7 @@ pub extern "C" fn meshem_generate_voxel_mesh(
         colour,
         alpha,
     };
-    let cubed = told_by_cube(generate_voxel_mesh(shape, texture, out));
+    let cubed = told_by_verdict(generate_voxel_mesh(shape, texture, out));
     *place = cubed.place as u64;
     cubed.number
 }
@@ -101,11 +101,12 @@ pub extern "C" fn meshem_mesh_grid(
         outer.now grid.now (is_yes algorithm) (lists_lent positions.old normals.old uvs.old colours.old triangles.old links.old slots.old)
         (answer result place.new quads.new 0) (lists_lent positions.new normals.new uvs.new colours.new triangles.new links.new slots.new) }
 {
-    let scene = scene_of(width, height, length, coloured, dx, dy, dz, cx, cy, cz);
+    let scene = scene_of(
+        width, height, length, kinds, covers, cubes, coloured, dx, dy, dz, cx, cy, cz,
+    );
     let by = algorithm_of(is_yes(algorithm));
     let meshed = told_by_mesh(mesh_grid(
-        scene, outer, grid, kinds, covers, cubes, by, positions, normals, uvs, colours, triangles,
-        links, slots,
+        scene, outer, grid, by, positions, normals, uvs, colours, triangles, links, slots,
     ));
     *place = meshed.place as u64;
     *quads = meshed.quads as u64;
@@ -145,13 +146,12 @@ pub extern "C" fn meshem_update_mesh(
         log.now (lists_lent positions.old normals.old uvs.old colours.old triangles.old links.old slots.old) count
         (answer result place.new quads.new moved.new) (lists_lent positions.new normals.new uvs.new colours.new triangles.new links.new slots.new) }
 {
-    let scene = scene_of(width, height, length, coloured, dx, dy, dz, cx, cy, cz);
+    let scene = scene_of(
+        width, height, length, kinds, covers, cubes, coloured, dx, dy, dz, cx, cy, cz,
+    );
     let side = tested_of(is_yes(tested));
     let mended = told_by_update(update_mesh(
         scene,
-        kinds,
-        covers,
-        cubes,
         side,
         log,
         positions,
@@ -199,14 +199,10 @@ pub extern "C" fn meshem_check_mesh(
     ensures { TellsCheck (scene_from width height length kinds.now covers.now cubes.now coloured dx dy dz cx cy cz)
         outer.now grid.now (lists_lent positions.now normals.now uvs.now colours.now triangles.now links.now slots.now) count result place.new }
 {
-    let scene = scene_of(width, height, length, coloured, dx, dy, dz, cx, cy, cz);
-    let checked = told_by_verdict(check_mesh(
-        scene,
-        outer,
-        grid,
-        kinds,
-        covers,
-        cubes,
+    let scene = scene_of(
+        width, height, length, kinds, covers, cubes, coloured, dx, dy, dz, cx, cy, cz,
+    );
+    let mesh = Lists {
         positions,
         normals,
         uvs,
@@ -214,8 +210,8 @@ pub extern "C" fn meshem_check_mesh(
         triangles,
         links,
         slots,
-        count as usize,
-    ));
+    };
+    let checked = told_by_verdict(check_mesh(scene, outer, grid, mesh, count as usize));
     *place = checked.place as u64;
     checked.number
 }

@@ -1,23 +1,22 @@
 // What a call is asked and what it answers, by number.
 #![tactic(auto)]
 
-ghost use Rattle.std.specs.Prelude.{◌≡◌, List, ℕ};
+ghost use Rattle.std.specs.Prelude.{◌≡◌};
 ghost use Rattle.rules.specs.Calls as rules;
-ghost use Rattle.answers.specs.Verdicts.{verdict_of};
-ghost use Rattle.voxel_mesh.specs.Outcome as cube;
+ghost use Rattle.answers.specs.Verdicts.{number_of, verdict_of};
 ghost use Rattle.meshem.specs.Outcome as mesh;
 ghost use Rattle.terms.specs.Modes.{is_culling, tested_by};
 ghost use Rattle.terms.specs.Scenes.{scene_of};
 ghost use Rattle.update.specs.Outcome as update;
-ghost use Rattle.telling.specs.Numbers.{is_yes, tested_if, told_of, scene_from};
+ghost use Rattle.telling.specs.Numbers.{is_yes, tested_if, answer, told_of, scene_from};
 
-use answers::Verdict;
+use answers::{Refused, Verdict};
 use floats::Triple;
 use meshem::Meshed;
-use terms::{MeshingAlgorithm, Scene, Tested};
+use terms::{Count, MeshingAlgorithm, Scene, Tested};
+use types::Types;
 use update::Updated;
 use util::Dimensions;
-use voxel_mesh::Cubed;
 
 // An answer's number and place, the quads, and how many of them moved: 0 where an answer has none.
 #[derive(Clone, Copy)]
@@ -34,17 +33,6 @@ pub fn is_yes(n: u32) -> bool
     n != 0
 }
 
-fn refused(number: u32, place: usize) -> Told
-    ensures { told_of result ≡ rules.refused number place }
-{
-    Told {
-        number,
-        place,
-        quads: 0,
-        moved: 0,
-    }
-}
-
 fn done(quads: usize, moved: u64) -> Told
     ensures { told_of result ≡ rules.answered quads moved }
 {
@@ -56,15 +44,24 @@ fn done(quads: usize, moved: u64) -> Told
     }
 }
 
-pub fn told_by_cube(cubed: Cubed) -> Told
-    ensures { told_of result ≡ rules.check_by (cube.verdict_of cubed) }
+// A refusal, and what stood in the mesh when it came.
+fn stopped(refused: Refused, count: Count) -> Told
+    ensures { told_of result ≡ answer (number_of refused.why) refused.place count.quads count.moved }
 {
-    match cubed {
-        Cubed::Done => done(0, 0),
-        Cubed::BadNumber => refused(4, 0),
-        Cubed::BadAtlas => refused(5, 0),
-        Cubed::BadFace(place) => refused(7, place),
-        Cubed::ShortRoom => refused(9, 0),
+    Told {
+        number: u32::from(refused.why),
+        place: refused.place,
+        quads: count.quads,
+        moved: count.moved,
+    }
+}
+
+impl From<Refused> for Told {
+    ghost from_gives = { λ refused told. told_of told ≡ rules.refused (number_of refused.why) refused.place };
+
+    fn from(refused: Refused) -> Self {
+        let none = Count { quads: 0, moved: 0 };
+        stopped(refused, none)
     }
 }
 
@@ -72,8 +69,8 @@ pub fn told_by_verdict(verdict: Verdict) -> Told
     ensures { told_of result ≡ rules.check_by (verdict_of verdict) }
 {
     match verdict {
-        Verdict::Fine => done(0, 0),
-        Verdict::Refuse(why, place) => refused(why.number(), place),
+        Ok(()) => done(0, 0),
+        Err(refused) => Told::from(refused),
     }
 }
 
@@ -81,8 +78,8 @@ pub fn told_by_mesh(meshed: Meshed) -> Told
     ensures { told_of result ≡ mesh.answer_of meshed }
 {
     match meshed {
-        Meshed::Done(quads) => done(quads, 0),
-        Meshed::Refused(why, place) => refused(why.number(), place),
+        Ok(quads) => done(quads, 0),
+        Err(refused) => Told::from(refused),
     }
 }
 
@@ -90,13 +87,8 @@ pub fn told_by_update(updated: Updated) -> Told
     ensures { told_of result ≡ update.answer_of updated }
 {
     match updated {
-        Updated::Done(count) => done(count.quads, count.moved),
-        Updated::Refused(why, place, count) => Told {
-            number: why.number(),
-            place,
-            quads: count.quads,
-            moved: count.moved,
-        },
+        Ok(count) => done(count.quads, count.moved),
+        Err(end) => stopped(end.refused, end.count),
     }
 }
 
@@ -120,10 +112,13 @@ pub fn tested_of(new: bool) -> Tested
     }
 }
 
-pub fn scene_of(
+pub fn scene_of<'a>(
     width: u32,
     height: u32,
     length: u32,
+    kinds: &'a [u8],
+    covers: &'a [u8],
+    cubes: &'a [u32],
     coloured: u32,
     dx: u32,
     dy: u32,
@@ -131,8 +126,8 @@ pub fn scene_of(
     cx: u32,
     cy: u32,
     cz: u32,
-) -> Scene
-    ensures { (kinds covers cubes : List ℕ) → scene_of result kinds covers cubes ≡ scene_from width height length kinds covers cubes coloured dx dy dz cx cy cz }
+) -> Scene<'a>
+    ensures { scene_of result ≡ scene_from width height length kinds.now covers.now cubes.now coloured dx dy dz cx cy cz }
 {
     Scene {
         dims: Dimensions {
@@ -140,7 +135,12 @@ pub fn scene_of(
             height,
             length,
         },
-        coloured: is_yes(coloured),
+        types: Types {
+            kinds,
+            covers,
+            cubes,
+            coloured: is_yes(coloured),
+        },
         d: Triple {
             x: dx,
             y: dy,

@@ -26,11 +26,12 @@ use std::fs::File;
 use std::io;
 use std::io::Read;
 use std::rt::Files;
-use telling::{Told, algorithm_of, tested_of, told_by_mesh, told_by_update, told_by_verdict};
-use terms::Scene;
+use telling::{Told, told_by_mesh, told_by_update, told_by_verdict};
+use terms::{Lists, MeshingAlgorithm, Scene, Tested};
+use types::Types;
 use update::update_mesh;
 use util::Dimensions;
-use vectors::{Count, holds, least, narrow, read_record, say, size};
+use vectors::{Count, holds, narrow, read_record, say};
 
 // How many words come before the lists, in a base as in a trial.
 const HEAD: usize = 22;
@@ -40,29 +41,52 @@ const LENGTHS: usize = 11;
 
 const LENT: usize = 4;
 
-// A record's words and bytes: the cubes of 255 types are 48,960 words.
-type Words = [u32; 65536];
+// The words that a record has at most, and the bytes: the cubes of 255 types are 48,960 words.
+const WORDS: usize = 65536;
 
-type Bytes = [u8; 262144];
+const BYTES: usize = 262144;
 
-#[derive(Clone, Copy)]
+#[derive(Clone, Copy, Default)]
 struct Tally {
     kept: usize,
     count: Count,
 }
 
+// What a trial calls.
+#[derive(Clone, Copy)]
+enum Call {
+    Mesh(MeshingAlgorithm),
+    Update(Tested),
+    Check,
+}
+
+#[derive(Clone, Copy)]
+struct UnknownCall;
+
+impl TryFrom<u32> for Call {
+    type Error = UnknownCall;
+
+    fn try_from(number: u32) -> Result<Self, UnknownCall> {
+        match number {
+            0 => Ok(Call::Mesh(MeshingAlgorithm::Naive)),
+            1 => Ok(Call::Mesh(MeshingAlgorithm::Culling)),
+            2 => Ok(Call::Update(Tested::Opposite)),
+            3 => Ok(Call::Check),
+            4 => Ok(Call::Update(Tested::Itself)),
+            _ => Err(UnknownCall),
+        }
+    }
+}
+
 // A word of a list, 0 past its end.
 fn word(list: &[u32], at: usize) -> u32 {
-    if at < list.len() {
-        return list[at];
-    }
-    0
+    if at < list.len() { list[at] } else { 0 }
 }
 
 fn count(list: &[u32], at: usize) -> usize
     ensures { result < 4294967296 }
 {
-    size(word(list, at))
+    word(list, at) as usize
 }
 
 // How many words hold so many bytes.
@@ -70,20 +94,15 @@ fn words_for(bytes: usize) -> usize
     requires { bytes < 4294967296 }
     ensures { result < 4294967296 }
 {
-    (bytes + 3) / 4
+    bytes.div_ceil(4)
 }
 
 // What is there of a part of a list.
-fn part<'a>(list: &'a [u32], start: usize, n: usize) -> &'a [u32] {
-    let from = least(start, list.len());
-    let to = from + least(n, list.len() - from);
-    &list[from..to]
-}
-
-fn bytes_part<'a>(list: &'a [u8], start: usize, n: usize) -> &'a [u8] {
-    let from = least(start, list.len());
-    let to = from + least(n, list.len() - from);
-    &list[from..to]
+fn part<T>(list: &[T], start: usize, n: usize) -> &[T] {
+    let from = start.min(list.len());
+    let rest = &list[from..];
+    let most = n.min(rest.len());
+    &rest[..most]
 }
 
 // Where a list of a base starts; the eleven are numbered from 0, and 11 is where they end.
@@ -91,15 +110,13 @@ fn start_of(base: &[u32], list: usize) -> usize
     requires { list ≤ 11 }
 {
     let mut start = HEAD;
-    let mut k: usize = 0;
-    while k < list {
+    for k in 0..list {
         start += count(base, LENGTHS + k);
-        k += 1;
     }
     start
 }
 
-fn list_of<'a>(base: &'a [u32], list: usize) -> &'a [u32]
+fn list_of(base: &[u32], list: usize) -> &[u32]
     requires { list < 11 }
 {
     part(base, start_of(base, list), count(base, LENGTHS + list))
@@ -132,27 +149,10 @@ fn triple_at(r: &[u32], at: usize) -> Triple
     }
 }
 
-fn scene_of(base: &[u32]) -> Scene {
-    Scene {
-        dims: Dimensions {
-            width: word(base, 1),
-            height: word(base, 2),
-            length: word(base, 3),
-        },
-        coloured: word(base, 4) == 1,
-        d: triple_at(base, 5),
-        centre: triple_at(base, 8),
-    }
-}
-
 // Copies as many words as both have.
 fn copy(from: &[u32], to: &mut [u32]) {
-    let n = least(from.len(), to.len());
-    let mut i: usize = 0;
-    while i < n {
-        to[i] = from[i];
-        i += 1;
-    }
+    let n = from.len().min(to.len());
+    to[..n].copy_from_slice(&from[..n]);
 }
 
 // Whether as many words as a patch says are there, and lie within what it patches, in the scene or the lists.
@@ -160,7 +160,7 @@ fn is_whole_patch(place: usize, n: usize, there: usize, room: usize) -> bool
     requires { (place < 4294967296) × (n < 4294967296) }
 {
     let end = place + n;
-    (n == there) & (end <= room) & (0 < place) & ((end <= LENGTHS) | (HEAD <= place))
+    n == there && end <= room && 0 < place && (end <= LENGTHS || HEAD <= place)
 }
 
 // Makes the patches, up to one that does not fit, and answers whether all do.
@@ -173,45 +173,33 @@ fn patch(patches: &[u32], image: &mut [u32]) -> bool {
         if !is_whole_patch(place, n, words.len(), image.len()) {
             return false;
         }
-        let from = least(place, image.len());
+        let from = place.min(image.len());
         copy(words, &mut image[from..]);
         at += 2 + n;
     }
     at == patches.len()
 }
 
+// Whether no more is lent of a list than the base has of it.
 fn is_lent_whole(trial: &[u32], base: &[u32]) -> bool {
-    let mut list: usize = 0;
-    while list < 11 {
-        if word(base, LENGTHS + list) < word(trial, LENT + list) {
-            return false;
-        }
-        list += 1;
-    }
-    true
+    (0..11).all(|list| word(trial, LENT + list) <= word(base, LENGTHS + list))
 }
 
-// Whether a trial and its base keep the form that stands at the head of this file, but for the patches.
+// Whether a trial and its base keep the form that stands at the head of this file, but for the call and the patches.
 fn is_formed(trial: &[u32], base: &[u32]) -> bool {
-    (word(trial, 0) == 1)
-        & (word(trial, 1) < 5)
-        & (word(trial, 2) < 2)
-        & (after_at(trial) <= trial.len())
-        & (start_of(base, 11) == base.len())
-        & (start_of(base, 3) <= 4096)
-        & is_lent_whole(trial, base)
-}
-
-fn start(goes_on: bool, base: &[u32], image: &mut [u32]) {
-    if goes_on {
-        return;
-    }
-    copy(base, image);
+    word(trial, 0) == 1
+        && word(trial, 2) < 2
+        && after_at(trial) <= trial.len()
+        && start_of(base, 11) == base.len()
+        && start_of(base, 3) <= 4096
+        && is_lent_whole(trial, base)
 }
 
 // Makes what the call starts from.
 fn prepare(trial: &[u32], base: &[u32], image: &mut [u32]) -> bool {
-    start(word(trial, 2) == 1, base, image);
+    if word(trial, 2) == 0 {
+        copy(base, image);
+    }
     patch(part(trial, before_at(trial), count(trial, 21)), image)
 }
 
@@ -220,11 +208,25 @@ fn conclude(trial: &[u32], image: &mut [u32]) -> bool {
     patch(part(trial, after_at(trial), trial.len()), image)
 }
 
-// Lays a list of a base into room of its own.
-fn fill(base: &[u32], list: usize, room: &mut [u32])
+// Room for a list of a base, with the list laid into it.
+fn filled(base: &[u32], list: usize) -> [u32; 8192]
     requires { list < 11 }
 {
-    copy(list_of(base, list), room);
+    let mut room = [0; 8192];
+    copy(list_of(base, list), &mut room);
+    room
+}
+
+// Room for each list of a mesh.
+#[derive(Drop)]
+struct Rooms {
+    positions: [u32; 8192],
+    normals: [u32; 8192],
+    uvs: [u32; 8192],
+    colours: [u32; 8192],
+    triangles: [u32; 8192],
+    links: [u32; 8192],
+    slots: [u32; 8192],
 }
 
 fn is_left(base: &[u32], list: usize, room: &[u32]) -> bool
@@ -235,25 +237,17 @@ fn is_left(base: &[u32], list: usize, room: &[u32]) -> bool
 }
 
 // The lowest byte of each of the first words, in which the lists of bytes lie.
-fn low_of(base: &[u32]) -> [u8; 4096]
-    ensures { 4096 ≡ length result }
-{
+fn low_of(base: &[u32]) -> [u8; 4096] {
     let mut low = [0; 4096];
     narrow(base, &mut low);
     low
 }
 
-// The part of a list that is lent.
-fn lent_words<'a>(trial: &[u32], base: &'a [u32], list: usize) -> &'a [u32]
+// The part that is lent of a list, in an image or in the lowest bytes of its words.
+fn lent<'a, T>(trial: &[u32], image: &[u32], list: usize, words: &'a [T]) -> &'a [T]
     requires { list < 11 }
 {
-    part(base, start_of(base, list), count(trial, LENT + list))
-}
-
-fn lent_bytes<'a>(trial: &[u32], base: &[u32], low: &'a [u8], list: usize) -> &'a [u8]
-    requires { list < 11 }
-{
-    bytes_part(low, start_of(base, list), count(trial, LENT + list))
+    part(words, start_of(image, list), count(trial, LENT + list))
 }
 
 // How much is lent of the room for a list.
@@ -261,20 +255,41 @@ fn lent_of(trial: &[u32], list: usize) -> usize
     requires { list < 11 }
     ensures { result ≤ 8192 }
 {
-    least(count(trial, LENT + list), 8192)
+    count(trial, LENT + list).min(8192)
 }
 
 // `bytes` are those of the trial, here and below.
 fn outer_of<'a>(trial: &[u32], bytes: &'a [u8]) -> &'a [u8] {
-    bytes_part(bytes, 4 * HEAD, count(trial, 15))
+    part(bytes, 4 * HEAD, count(trial, 15))
 }
 
 fn log_of<'a>(trial: &[u32], bytes: &'a [u8]) -> &'a [u8] {
-    bytes_part(bytes, 4 * log_at(trial), count(trial, 16))
+    part(bytes, 4 * log_at(trial), count(trial, 16))
 }
 
-// Does the call that the trial names. `low` has the lowest byte of each word of the image.
+// `low` has the lowest byte of each word of the image, here and below.
+fn scene_of<'a>(trial: &[u32], image: &'a [u32], low: &'a [u8]) -> Scene<'a> {
+    let types = Types {
+        kinds: lent(trial, image, 1, low),
+        covers: lent(trial, image, 2, low),
+        cubes: lent(trial, image, 3, image),
+        coloured: word(image, 4) == 1,
+    };
+    Scene {
+        dims: Dimensions {
+            width: word(image, 1),
+            height: word(image, 2),
+            length: word(image, 3),
+        },
+        types,
+        d: triple_at(image, 5),
+        centre: triple_at(image, 8),
+    }
+}
+
+// Does the call that the trial names.
 fn answer(
+    call: Call,
     trial: &[u32],
     bytes: &[u8],
     image: &[u32],
@@ -287,24 +302,19 @@ fn answer(
     links: &mut [u32],
     slots: &mut [u32],
 ) -> Told {
-    let call = word(trial, 1);
     let quads = count(trial, 3);
-    let scene = scene_of(image);
+    let scene = scene_of(trial, image, low);
     let outer = outer_of(trial, bytes);
-    let log = log_of(trial, bytes);
-    let grid = lent_bytes(trial, image, low, 0);
-    let kinds = lent_bytes(trial, image, low, 1);
-    let covers = lent_bytes(trial, image, low, 2);
-    let registry = lent_words(trial, image, 3);
-    if call < 2 {
-        return told_by_mesh(mesh_grid(
+    let grid = lent(trial, image, 0, low);
+    match call {
+        Call::Mesh(algorithm) => told_by_mesh(mesh_grid(
+            scene, outer, grid, algorithm, positions, normals, uvs, colours, triangles, links,
+            slots,
+        )),
+        Call::Update(tested) => told_by_update(update_mesh(
             scene,
-            outer,
-            grid,
-            kinds,
-            covers,
-            registry,
-            algorithm_of(call == 1),
+            tested,
+            log_of(trial, bytes),
             positions,
             normals,
             uvs,
@@ -312,78 +322,54 @@ fn answer(
             triangles,
             links,
             slots,
-        ));
+            quads,
+        )),
+        Call::Check => {
+            let lists = Lists {
+                positions,
+                normals,
+                uvs,
+                colours,
+                triangles,
+                links,
+                slots,
+            };
+            told_by_verdict(check_mesh(scene, outer, grid, lists, quads))
+        }
     }
-    if call == 3 {
-        return told_by_verdict(check_mesh(
-            scene, outer, grid, kinds, covers, registry, positions, normals, uvs, colours,
-            triangles, links, slots, quads,
-        ));
-    }
-    told_by_update(update_mesh(
-        scene,
-        kinds,
-        covers,
-        registry,
-        tested_of(call == 4),
-        log,
-        positions,
-        normals,
-        uvs,
-        colours,
-        triangles,
-        links,
-        slots,
-        quads,
-    ))
 }
 
 fn is_told(told: Told, trial: &[u32]) -> bool {
-    (told.number == word(trial, 17))
-        & (told.place == count(trial, 18))
-        & (told.quads == count(trial, 19))
-        & (told.moved == word(trial, 20) as u64)
+    told.number == word(trial, 17)
+        && told.place == count(trial, 18)
+        && told.quads == count(trial, 19)
+        && told.moved == u64::from(word(trial, 20))
 }
 
 // Whether what must be there after the call is there. The image becomes that.
-fn are_left(
-    trial: &[u32],
-    image: &mut [u32],
-    positions: &[u32],
-    normals: &[u32],
-    uvs: &[u32],
-    colours: &[u32],
-    triangles: &[u32],
-    links: &[u32],
-    slots: &[u32],
-) -> bool {
+fn are_left(trial: &[u32], image: &mut [u32], rooms: &Rooms) -> bool {
     conclude(trial, image)
-        & is_left(image, 4, positions)
-        & is_left(image, 5, normals)
-        & is_left(image, 6, uvs)
-        & is_left(image, 7, colours)
-        & is_left(image, 8, triangles)
-        & is_left(image, 9, links)
-        & is_left(image, 10, slots)
+        && is_left(image, 4, &rooms.positions)
+        && is_left(image, 5, &rooms.normals)
+        && is_left(image, 6, &rooms.uvs)
+        && is_left(image, 7, &rooms.colours)
+        && is_left(image, 8, &rooms.triangles)
+        && is_left(image, 9, &rooms.links)
+        && is_left(image, 10, &rooms.slots)
 }
 
-fn is_right_on(trial: &[u32], bytes: &[u8], image: &mut [u32]) -> bool {
+fn is_right_on(call: Call, trial: &[u32], bytes: &[u8], image: &mut [u32]) -> bool {
     let seen = &image[..];
     let low = low_of(seen);
-    let mut positions = [0; 8192];
-    let mut normals = [0; 8192];
-    let mut uvs = [0; 8192];
-    let mut colours = [0; 8192];
-    let mut triangles = [0; 8192];
-    let mut links = [0; 8192];
-    let mut slots = [0; 8192];
-    fill(seen, 4, &mut positions);
-    fill(seen, 5, &mut normals);
-    fill(seen, 6, &mut uvs);
-    fill(seen, 7, &mut colours);
-    fill(seen, 8, &mut triangles);
-    fill(seen, 9, &mut links);
-    fill(seen, 10, &mut slots);
+    let mut rooms = Rooms {
+        positions: filled(seen, 4),
+        normals: filled(seen, 5),
+        uvs: filled(seen, 6),
+        colours: filled(seen, 7),
+        triangles: filled(seen, 8),
+        links: filled(seen, 9),
+        slots: filled(seen, 10),
+    };
     let p = lent_of(trial, 4);
     let n = lent_of(trial, 5);
     let u = lent_of(trial, 6);
@@ -392,32 +378,31 @@ fn is_right_on(trial: &[u32], bytes: &[u8], image: &mut [u32]) -> bool {
     let l = lent_of(trial, 9);
     let s = lent_of(trial, 10);
     let told = answer(
+        call,
         trial,
         bytes,
         seen,
         &low,
-        &mut positions[..p],
-        &mut normals[..n],
-        &mut uvs[..u],
-        &mut colours[..c],
-        &mut triangles[..t],
-        &mut links[..l],
-        &mut slots[..s],
+        &mut rooms.positions[..p],
+        &mut rooms.normals[..n],
+        &mut rooms.uvs[..u],
+        &mut rooms.colours[..c],
+        &mut rooms.triangles[..t],
+        &mut rooms.links[..l],
+        &mut rooms.slots[..s],
     );
-    is_told(told, trial)
-        & are_left(
-            trial, image, &positions, &normals, &uvs, &colours, &triangles, &links, &slots,
-        )
+    are_left(trial, image, &rooms) && is_told(told, trial)
 }
 
 fn is_right(trial: &[u32], bytes: &[u8], base: &[u32], image: &mut [u32]) -> bool {
-    if !is_formed(trial, base) {
-        return false;
+    match Call::try_from(word(trial, 1)) {
+        Ok(call) => {
+            is_formed(trial, base)
+                && prepare(trial, base, image)
+                && is_right_on(call, trial, bytes, image)
+        }
+        Err(_) => false,
     }
-    if !prepare(trial, base, image) {
-        return false;
-    }
-    is_right_on(trial, bytes, image)
 }
 
 // Keeps a base, or tries a trial.
@@ -428,42 +413,33 @@ fn take_record(
     image: &mut [u32],
     tally: Tally,
 ) -> Tally {
-    let count = tally.count;
     if word(given, 0) == 0 {
         copy(given, base);
         copy(given, image);
         return Tally {
             kept: given.len(),
-            count,
+            ..tally
         };
     }
-    let kept = least(tally.kept, image.len());
+    let kept = tally.kept.min(image.len());
     let ok = is_right(given, bytes, part(base, 0, kept), &mut image[..kept]);
     Tally {
         kept,
-        count: count.and(ok),
+        count: tally.count.and(ok),
     }
 }
 
-fn run<R: Read>(
-    file: &mut R,
-    bytes: &mut Bytes,
-    words: &mut Words,
-    base: &mut Words,
-    image: &mut Words,
-) -> io::Result<Count> {
-    let mut tally = Tally {
-        kept: 0,
-        count: Count::none(),
-    };
-    let mut turn: usize = 0;
-    while turn < 65536 {
-        let n = read_record(file, bytes, words)?;
-        if n == 0 {
-            return Ok(tally.count);
-        }
-        tally = take_record(part(words, 0, n), bytes, base, image, tally);
-        turn += 1;
+fn run<R: Read>(file: &mut R) -> io::Result<Count> {
+    let mut bytes = [0; BYTES];
+    let mut words = [0; WORDS];
+    let mut base = [0; WORDS];
+    let mut image = [0; WORDS];
+    let mut tally = Tally::default();
+    for _ in 0..65536 {
+        let Some(n) = read_record(file, &mut bytes, &mut words)? else {
+            break;
+        };
+        tally = take_record(&words[..n], &bytes, &mut base, &mut image, tally);
     }
     Ok(tally.count)
 }
@@ -471,12 +447,7 @@ fn run<R: Read>(
 // Replays the trials of a file, and prints under a name how many were right.
 fn replay(rt: &(impl Files + Print), path: &str, name: &str) -> io::Result<()> {
     let mut file = File::open(rt, path)?;
-    let mut bytes = [0; 262144];
-    let mut words = [0; 65536];
-    let mut base = [0; 65536];
-    let mut image = [0; 65536];
-    let count = run(&mut file, &mut bytes, &mut words, &mut base, &mut image)?;
-    say(rt, name, count)
+    say(rt, name, run(&mut file)?)
 }
 
 fn main(rt: HostRuntime) -> io::Result<()> {

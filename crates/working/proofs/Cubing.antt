@@ -10,11 +10,15 @@ use lib.Seq.{drop-length, take_at, take_all, length-take-le}
 use borrow.Rule.Slice.PartMut.{mid_of, post_of, put_mid, same_len_mid}
 use Rattle.rules.specs.Cube.{Shape, floats_of, cube_words}
 use Rattle.rules.specs.Answers.{Verdict, fine, refuse}
-use Rattle.rules.specs.Calls.{Answer, refused, CubeOutcome, cube_verdict, cube_by, generate_voxel_mesh}
+use Rattle.rules.specs.Calls.{Answer, refused, CubeOutcome, cube_verdict, cube_by, generate_voxel_mesh, check_by}
 use Rattle.rules.specs.Program.{type_count, coloured_in, shape_in, cube_room, cube_in, Built, stopped, built, build_one, build_from, scene_in, worked, refused_line, lines_of, built_lines}
 use Rattle.rules.proofs.Refusals.{Within, CUBE, cube_numbers, zero_fine}
+use Rattle.std.specs.Prelude.{Result, Ok, Err}
+use Rattle.answers.specs.declared.Refusal.{Refusal}
+use Rattle.answers.specs.declared.Refusal.TheVariants.{BadFile, BadSize, BadTypes, BadNumber, BadAtlas, NotACube, BadFace, BadCell, ShortRoom, BadCount, BadLinks, BadTriangles, BadEntry, NoRoom, WrongSet, WrongVertex}
+use Rattle.answers.specs.declared.Refused.{Refused}
+use Rattle.answers.specs.Verdicts.{number_of, verdict_of}
 use Rattle.voxel_mesh.specs.Outcome.{verdict_in}
-use Rattle.telling.specs.Numbers.{cube_out}
 use Rattle.working.specs.Steps.{built_by, built_of}
 
 drop-whole : (n : ℕ) (xs : List ℕ) → length xs ≡ n → drop n xs ≡ []
@@ -42,7 +46,7 @@ module _ (q : Shape) (X Y : List ℕ) (long : length X ≡ 24 * floats_of q.colo
 
 -- one type: what the call left, and the rule's next step
 module _ (file : List ℕ) (t : ℕ) (a : Answer) (X out : List ℕ) (long : length X ≡ 24 * floats_of (coloured_in file))
-    (told : cube_out a out ≡ generate_voxel_mesh (shape_in file t) X) where
+    (told : record { answer = a; out = out } ≡ generate_voxel_mesh (shape_in file t) X) where
   whole : length X ≡ length (cube_room file)
   whole = long ∙ sym (length-replicate (24 * floats_of (coloured_in file)) 0)
 
@@ -113,7 +117,7 @@ module _ (file : List ℕ) (t : ℕ) (registry : List ℕ) (b : Building file t 
       none t n e = omega arith
 
   module _ (h : t < type_count file) (a : Answer) (X out : List ℕ) (long : length X ≡ words file)
-      (told : cube_out a out ≡ generate_voxel_mesh (shape_in file t) X) where
+      (told : record { answer = a; out = out } ≡ generate_voxel_mesh (shape_in file t) X) where
     left : type_count file - t ≡ suc (type_count file - suc t)
     left = omega arith
 
@@ -162,7 +166,7 @@ module _ (file : List ℕ) (t : ℕ) (registry : List ℕ) (b : Building file t 
 
   -- what the call told, and how much came back
   abbrev Turn : ℕ → Type 0
-  Turn w = (cube_out a out ≡ generate_voxel_mesh (shape_in file t) (stretch w)) × (length out ≡ length (stretch w))
+  Turn w = (record { answer = a; out = out } ≡ generate_voxel_mesh (shape_in file t) (stretch w)) × (length out ≡ length (stretch w))
 
   lent_long : length (stretch (words file)) ≡ words file
   lent_long = stretch_long (words file * t) (words file) registry (stretch_inside file t registry b h)
@@ -181,6 +185,33 @@ module _ (file : List ℕ) (t : ℕ) (registry : List ℕ) (b : Building file t 
           building_more file t registry b h a (stretch (words file)) out lent_long u.0
           (post_of (words file * t) (words file * t + words file - words file * t) registry) (u.1 ∙ lent_long)
           (same_len_mid (words file * t) (words file * t + words file - words file * t) registry out u.1) n
+
+-- ---- what a cube call answers by its number
+
+-- no refusal's number is 0
+some_number : (why : Refusal) → number_of why ≡ 0 → ⊥
+some_number BadFile e = omega arith
+some_number BadSize e = omega arith
+some_number BadTypes e = omega arith
+some_number BadNumber e = omega arith
+some_number BadAtlas e = omega arith
+some_number NotACube e = omega arith
+some_number BadFace e = omega arith
+some_number BadCell e = omega arith
+some_number ShortRoom e = omega arith
+some_number BadCount e = omega arith
+some_number BadLinks e = omega arith
+some_number BadTriangles e = omega arith
+some_number BadEntry e = omega arith
+some_number NoRoom e = omega arith
+some_number WrongSet e = omega arith
+some_number WrongVertex e = omega arith
+
+pub refused_number : (x : Result Unit Refused) {e : Refused} → x ≡ Err e → (check_by (verdict_of x)).number ≢ 0
+refused_number x {e} was z = some_number e.why (rw was at z)
+
+pub done_number : (x : Result Unit Refused) {u : Unit {0}} → x ≡ Ok u → (check_by (verdict_of x)).number ≡ 0
+done_number x was = rw was refl
 
 -- ---- what is printed of them
 

@@ -3,12 +3,9 @@ use Rattle.std.specs.Prelude.{ℕ, zero, suc, List, eqb}
 use Rattle.rules.specs.Mesh.{Lists}
 use Rattle.rules.specs.Calls as rules
 use Rattle.rules.specs.Calls.{Answer, Outcome, mesh_grid}
-use Rattle.rules.specs.Program.{word, grid_in, log_in, update_after, Built, stopped, built}
+use Rattle.rules.specs.Program.{word, size_in, triple_in, coloured_in, grid_in, log_in, update_after, Built, stopped, built}
 use Rattle.voxel_mesh.specs.declared.Shape.{Shape}
-use Rattle.terms.specs.declared.Scene.{Scene}
-use Rattle.terms.specs.Scenes.{scene_of}
 use Rattle.workfile.specs.declared.Work.{Work}
-use Rattle.workfile.specs.Work.{work_in}
 
 -- what the trailer says of a cube, and of the grid
 abbrev pub shape_by : Work → Shape
@@ -24,12 +21,15 @@ shape_by w =
       alpha = w.alpha;
     }
 
-abbrev pub scene_by : Work → Scene
-scene_by w = record { dims = w.dims; coloured = w.coloured; d = w.d; centre = w.centre }
-
--- with types as they are lent
+-- the scene that the trailer tells, with types as they are lent
 abbrev pub scene_with : List ℕ → List ℕ → List ℕ → List ℕ → rules.Scene
-scene_with file kinds covers cubes = scene_of (scene_by (work_in file)) kinds covers cubes
+scene_with file kinds covers cubes =
+    record {
+      size = size_in file;
+      types = record { coloured = coloured_in file; kinds = kinds; covers = covers; cubes = cubes };
+      d = triple_in file 10;
+      centre = triple_in file 13;
+    }
 
 -- the cubes, unless a type was refused
 abbrev pub built_by : ℕ → Answer → List ℕ → Built

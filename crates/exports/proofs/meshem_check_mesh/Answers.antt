@@ -13,4 +13,4 @@ returns c =
     ∙ ap check_by c.check_mesh.ensures
     ∙ ap (λ (S : Scene). check_mesh S a.outer.now a.grid.now
     (lists_of (vertices_of a.positions.now a.normals.now a.uvs.now a.colours.now) a.triangles.now a.links.now a.slots.now) a.count)
-    (c.scene_of-scene.ensures a.kinds.now a.covers.now a.cubes.now)
+    c.scene_of-scene.ensures

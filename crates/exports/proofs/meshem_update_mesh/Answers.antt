@@ -9,7 +9,7 @@ use Rattle.exports.proofs.meshem_update_mesh.Goals as goal
 pub returns : goal.returns
 returns c =
     let a = c.args in
-    let scene = c.scene_of-scene.ensures a.kinds.now a.covers.now a.cubes.now in
+    let scene = c.scene_of-scene.ensures in
     let mode = c.tested_of-side.ensures ∙ ap tested_if c.is_yes.ensures in
     let lists = lists_of (vertices_of a.positions.now a.normals.now a.uvs.now a.colours.now) a.triangles.now a.links.now a.slots.now in
     mesh_told c.told_by_update-mended.ensures (c.update_mesh.ensures ∙ (λ i. update_mesh (mode i) (scene i) a.log.now lists a.count))
