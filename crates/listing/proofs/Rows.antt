@@ -1,10 +1,10 @@
 -- How many quads the side sets of cells ask for: some cells and then others, and a row. Assumes nothing.
-use mathlib.Core.Path.{◌≡◌, refl, ap, ◌∙◌}
-use mathlib.Core.List.{List}
+use mathlib.Core.Path.{◌≡◌, refl, ap, ap₂, subst, ◌∙◌}
+use mathlib.Core.List.{List, ◌++◌}
 use Prim.Native.Nat.{ℕ, zero, suc, ◌+◌, ◌-◌, ◌*◌, ◌≤◌, ◌<◌}
 use native.Mathlib.Omega.{arith}
-use lib.ListN.{length, get_or, take}
-use lib.Seq.{get_or-take, length-take-le}
+use lib.ListN.{length, get_or, take, length-append, get_or-append}
+use lib.Seq.{get_or-take, length-take-le, get_or-append-add}
 use Rattle.rules.specs.Cells.{quads_of}
 use Rattle.listing.specs.Fresh.{RowOf, sets_from, asked}
 use Rattle.listing.proofs.Sets.{quads_le}
@@ -55,3 +55,29 @@ asked_row sets c n list h r =
 -- the first cells, and a row more
 pub asked_on : (sets : ℕ → ℕ) (c n : ℕ) → asked sets 0 (c + n) ≡ asked sets 0 c + asked sets c n
 asked_on sets c n = asked_split sets c n 0 ∙ ap (λ (k : ℕ). asked sets 0 c + asked sets k n) (omega arith)
+
+-- the first sets and the rest
+pub asked_append : (xs ys : List ℕ) → asked (sets_from 0 (xs ++ ys)) 0 (length (xs ++ ys)) ≡ asked (sets_from 0 xs) 0 (length xs) + asked (sets_from 0 ys) 0 (length ys)
+asked_append xs ys =
+    ap (asked (sets_from 0 (xs ++ ys)) 0) (length-append xs ys)
+    ∙ asked_split (sets_from 0 (xs ++ ys)) (length xs) (length ys) 0
+    ∙ ap₂ (λ (a b : ℕ). a + b)
+    (asked_moved (sets_from 0 (xs ++ ys)) (sets_from 0 xs) (length xs) 0 0 (λ x h. get_or-append xs ys 0 (0 + x - 0) (omega arith) ∙ refl))
+    (asked_moved (sets_from 0 (xs ++ ys)) (sets_from 0 ys) (length ys) (0 + length xs) 0
+    (λ x h. ap (λ (i : ℕ). get_or (xs ++ ys) i 0) (omega arith) ∙ get_or-append-add xs ys x 0 ∙ ap (λ (i : ℕ). get_or ys i 0) (omega arith)))
+
+pub below_of : (xs ys : List ℕ) → ((x : ℕ) → x < length (xs ++ ys) → get_or (xs ++ ys) x 0 < 64) → (x : ℕ) → x < length xs → get_or xs x 0 < 64
+below_of xs ys b x h = subst (λ (n : ℕ). n < 64) (get_or-append xs ys 0 x h) (b x (omega (arith, length-append xs ys)))
+
+pub below_rest : (xs ys : List ℕ) → ((x : ℕ) → x < length (xs ++ ys) → get_or (xs ++ ys) x 0 < 64) → (y : ℕ) → y < length ys → get_or ys y 0 < 64
+below_rest xs ys b y h = subst (λ (n : ℕ). n < 64) (get_or-append-add xs ys y 0) (b (length xs + y) (omega (arith, length-append xs ys)))
+
+-- a part of what is left is counted
+pub part_counted : (rest xs ys : List ℕ) (n all k : ℕ) → rest ≡ xs ++ ys → k ≡ asked (sets_from 0 xs) 0 (length xs) → n + asked (sets_from 0 rest) 0 (length rest) ≡ all
+    → n + k + asked (sets_from 0 ys) 0 (length ys) ≡ all
+part_counted rest xs ys n all k e h i =
+    omega (arith, h, asked_append xs ys, subst (λ (l : List ℕ). n + asked (sets_from 0 l) 0 (length l) ≡ all) e i)
+
+pub nothing_left : (rest : List ℕ) (n all : ℕ) → length rest ≡ 0 → n + asked (sets_from 0 rest) 0 (length rest) ≡ all → n ≡ all
+unfolding asked
+nothing_left rest n all e i = omega (arith, rw e at i)

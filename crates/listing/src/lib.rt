@@ -51,25 +51,14 @@ fn quads_in_few(sets: &[u8]) -> u8
     n
 }
 
-// Where the few sets from x on end.
-fn few_to(x: usize, end: usize) -> usize
-    requires { (x < end) × (end ≤ 1024) }
-    ensures { (x < result) × (result ≤ x + 32) × (result ≤ end) }
-{
-    (x + 32).min(end)
-}
-
 // How many quads the sets of a row ask for.
 fn quads_in(sets: &[u8]) -> u32
     requires { (length sets.now ≤ 1024) × ((x : ℕ) → x < length sets.now → get_or sets.now x 0 < 64) }
     ensures { result ≡ asked (sets_from 0 sets.now) 0 (length sets.now) }
 {
     let mut n: u32 = 0;
-    let mut x: usize = 0;
-    while x < sets.len() {
-        let to = few_to(x, sets.len());
-        n += u32::from(quads_in_few(&sets[x..to]));
-        x = to;
+    for few in sets.chunks(32) {
+        n += u32::from(quads_in_few(few));
     }
     n
 }
@@ -88,6 +77,7 @@ pub fn count_quads(look: Look<'_>, culling: bool, sets: &mut [u8]) -> usize
         y: 0,
         z: 0,
     };
+    // A row's first cell, y and z go on together (Row::next), so no range counts the rows.
     while row.first < end {
         side_row(sets, look, culling, row);
         n += quads_in(&sets[..width]) as usize;
@@ -116,6 +106,7 @@ fn index_cell(
 {
     let mut next = n;
     let mut rest = u32::from(set);
+    // By the lowest side that is left: six turns with a test each took longer.
     while rest != 0 {
         let f = lowest_side(rest);
         let face = face_at(f);

@@ -145,7 +145,7 @@ fn has_blocks(at: usize, width: usize, cells: usize) -> bool
     (16 <= width) & (0 < at) & (at + width < cells)
 }
 
-// The side sets of a row, sixteen cells at a time. The last block goes over cells of the one before it, so the step is not one.
+// The side sets of a row, sixteen cells at a time. The last block goes over cells of the one before it, so no range or `chunks` steps as x does.
 fn block_row(sets: &mut [u8], rows: Rows<'_>)
     requires { (rows.look.ground.dims.width ≤ length sets.old)
         × (16 ≤ rows.look.ground.dims.width) × (0 < rows.around.at) × (rows.around.at + rows.look.ground.dims.width < length rows.look.ground.grid.now) }
