@@ -106,7 +106,7 @@ fn index_cell(
 {
     let mut next = n;
     let mut rest = u32::from(set);
-    // By the lowest side that is left: six turns with a test each took longer.
+    // By the lowest side that is left: a `for` over all six would test and guess each.
     while rest != 0 {
         let f = lowest_side(rest);
         let face = face_at(f);
