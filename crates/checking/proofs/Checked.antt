@@ -23,12 +23,10 @@ use Rattle.rules.proofs.Demands.{Room, words_sized}
 use Rattle.types.specs.Tests.{Placed}
 use Rattle.voxel_mesh.proofs.Shapes.{row_within}
 use Rattle.types.proofs.Known.{placed}
-use Rattle.terms.specs.declared.Scene.{Scene}
-use Rattle.terms.specs.Scenes.{scene_of}
 use Rattle.lent.specs.Scenes.{Admitted, Lent}
 use Rattle.culling.specs.Culling.{world_of}
 use Rattle.lent.proofs.Admitted.{admitted, lent}
-use Rattle.checking.specs.Faces.{wrong_slot, Gridded}
+use Rattle.checking.specs.Faces.{wrong_slot}
 use Rattle.comparing.specs.Quads.{other_quad, ComparableAll}
 use Rattle.checking.proofs.Faces.{alike, face_slot}
 
@@ -50,25 +48,16 @@ opened S outer g B Q fits e =
 
 -- ---- 11 and 12 have passed
 
-module _ (scene : Scene) (kinds covers cubes outer g : List ℕ) (B : Lists) (Q : ℕ)
-    (o : Opened (scene_of scene kinds covers cubes) outer g B Q) where
-  abbrev S : rules.Scene
-  S = scene_of scene kinds covers cubes
-
-  pub gridded : Gridded S.size g B.slots (length covers)
-  gridded =
-      let a = o.input in
-      record { within = a.within; whole = a.whole; typed = λ k h. omega (arith, a.type k h, a.typed.covered); slotted = a.slotted }
-
+module _ (S : rules.Scene) (outer g : List ℕ) (B : Lists) (Q : ℕ) (o : Opened S outer g B Q) where
   module _ (passed : book_verdict S B Q ≡ fine) where
     book : Book (cells S.size) B Q
     book = book_of_fine (cells S.size) B Q passed
 
     -- WRONG-SET by slots is WRONG-SET
-    pub faces_told : (r : ℕ) → r ≡ lowest (6 * cells S.size) (wrong_slot (world_of S.size kinds covers) outer g B.slots)
+    pub faces_told : (r : ℕ) → r ≡ lowest (6 * cells S.size) (wrong_slot (world_of S.size S.types.kinds S.types.covers) outer g B.slots)
         → refuse_if (ltb r (6 * cells S.size)) 15 r ≡ WRONG_SET (world S) outer g (decode S.types.coloured Q B)
     faces_told r e =
-        rw (e ∙ lowest_cong (6 * cells S.size) (wrong_slot (world_of S.size kinds covers) outer g B.slots) (wrong_face (world S) outer g (decode S.types.coloured Q B))
+        rw (e ∙ lowest_cong (6 * cells S.size) (wrong_slot (world_of S.size S.types.kinds S.types.covers) outer g B.slots) (wrong_face (world S) outer g (decode S.types.coloured Q B))
         (face_slot (cells S.size) S.types.coloured B Q o.input.slotted book (world S) outer g))
 
     -- the cell of a quad, and the stretch of its type
@@ -105,14 +94,14 @@ module _ (scene : Scene) (kinds covers cubes outer g : List ℕ) (B : Lists) (Q 
           placed (cube q) (floats S.types) (subst T (sym (and_true positions (every 6 (classed (cube q) (floats S.types) S.centre)) (is_cube_lem q h)).0) tt)
 
       -- LAW: a quad of a mesh with the right faces is linked to a cube
-      pub comparable : ComparableAll S.size S.types.coloured g cubes B.vertices B.links Q
+      pub comparable : ComparableAll S g B.vertices B.links Q
       comparable =
           let a = o.input in
           record {
             linking = record {
               within = a.within;
               whole = a.whole;
-              stretch = λ c h. rw a.typed.counted.whole (row_within (24 * floats S.types) (get_or g c 0) (length kinds) (a.type c h));
+              stretch = λ c h. rw a.typed.counted.whole (row_within (24 * floats S.types) (get_or g c 0) (length S.types.kinds) (a.type c h));
               linked = o.room.links;
               code = book.codes;
               inside = book.inside;
@@ -121,7 +110,7 @@ module _ (scene : Scene) (kinds covers cubes outer g : List ℕ) (B : Lists) (Q 
             room = o.room.vertices;
           }
 
-    quad_told : (q : ℕ) → q < Q → other_quad scene g cubes B.vertices B.links q ≡ wrong_vertex (world S) g (decoded S.types.coloured B q)
+    quad_told : (q : ℕ) → q < Q → other_quad S g B.vertices B.links q ≡ wrong_vertex (world S) g (decoded S.types.coloured B q)
     unfolding wrong_vertex
     quad_told q h =
         let x = book.codes q h in
@@ -132,7 +121,7 @@ module _ (scene : Scene) (kinds covers cubes outer g : List ℕ) (B : Lists) (Q 
         (words_in S (type_at g (cell q)) (code (code_in (get_or B.links q 0))) (cell q)) (words_sized S (type_at g (cell q)) (code (code_in (get_or B.links q 0))) (cell q)))
 
     -- the comparison of quads is WRONG-VERTEX
-    pub quads_told : (r : ℕ) → r ≡ lowest Q (other_quad scene g cubes B.vertices B.links)
+    pub quads_told : (r : ℕ) → r ≡ lowest Q (other_quad S g B.vertices B.links)
         → refuse_if (ltb r Q) 16 r ≡ WRONG_VERTEX (world S) g (decoded S.types.coloured B) Q
     quads_told r e =
-        rw (e ∙ lowest_cong Q (other_quad scene g cubes B.vertices B.links) (λ q. wrong_vertex (world S) g (decoded S.types.coloured B q)) quad_told)
+        rw (e ∙ lowest_cong Q (other_quad S g B.vertices B.links) (λ q. wrong_vertex (world S) g (decoded S.types.coloured B q)) quad_told)

@@ -1,5 +1,5 @@
 -- WRONG_SET, told by slots: after BAD_LINKS has passed, a face is there exactly if its slot is filled. Definitions only.
-use Rattle.std.specs.Prelude.{ℕ, zero, suc, ◌+◌, ◌*◌, ◌/◌, ◌%◌, ◌^◌, ◌≤◌, ◌<◌, ◌≡◌, Bool, cond, List, length, get_or}
+use Rattle.std.specs.Prelude.{ℕ, zero, suc, ◌+◌, ◌*◌, ◌/◌, ◌%◌, ◌^◌, Bool, cond, List}
 use Rattle.rules.specs.Cells.{key_of, set_of}
 use Rattle.rules.specs.Mesh.{World, drawn}
 use Rattle.rules.specs.Answers.{is_filled, unlike}

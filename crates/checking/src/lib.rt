@@ -129,7 +129,13 @@ fn lowest_wrong_face(ground: Ground<'_>, outer: u8, slots: &[u32]) -> usize
 }
 
 // Tries the refusals in their order; a mesh that passes is right.
-pub fn check_mesh(scene: Scene<'_>, outer: &[u8], grid: &[u8], mesh: Lists<'_>, count: usize) -> Verdict
+pub fn check_mesh(
+    scene: Scene<'_>,
+    outer: &[u8],
+    grid: &[u8],
+    mesh: Lists<'_>,
+    count: usize,
+) -> Verdict
     ensures { Checks (scene_of scene.entry) outer.now grid.now (lists_in mesh.entry) count result }
 {
     open_verdict(scene, outer, grid, lengths_of(mesh), count)?;

@@ -13,7 +13,7 @@ use face::ranks;
 use lent::{input_verdict, lengths_of, room_of};
 use listing::{count_quads, index_row, side_row};
 use mesh_metadata::new;
-use row_sets::{sides_along};
+use row_sets::{Look, sides_along};
 use terms::{Lists, MeshingAlgorithm, Scene};
 use util::Row;
 

@@ -98,8 +98,8 @@ invariant_of-ground c =
       both = k.typed.covered;
     }
 
-pub look_of-look-requires : goal.look_of-look-requires
-look_of-look-requires c =
+pub of-look-requires : goal.of-look-requires
+of-look-requires c =
     let a = c.args in
     let B = lists_lent a.positions.now a.normals.now a.uvs.now a.colours.now a.triangles.now a.links.now a.slots.now in
     let k = known B _ c.in_ok-input_verdict.was (c.input_verdict.ensures B refl) in
@@ -109,8 +109,8 @@ pub returns-in_err-refuse_if : goal.returns-in_err-refuse_if
 returns-in_err-refuse_if c =
     let a = c.args in
     let B = lists_lent a.positions.now a.normals.now a.uvs.now a.colours.now a.triangles.now a.links.now a.slots.now in
-    let Q = subst (counted _ _ _) c.look_of-look.ensures.0 c.count_quads-quads.ensures
-    ∙ found_asked (scene_of a.scene) a.outer.now a.grid.now (is_culling a.algorithm) _ _ c.is_culling-culling.ensures (c.look_of-look.ensures.1 ∙ c.outer_set.ensures) in
+    let Q = subst (counted _ _ _) c.of-look.ensures.0 c.count_quads-quads.ensures
+    ∙ found_asked (scene_of a.scene) a.outer.now a.grid.now (is_culling a.algorithm) _ _ c.is_culling-culling.ensures (c.of-look.ensures.1 ∙ c.outer_set.ensures) in
     refused_so _ _ _ _ B _ _ c.from_residual-in_err-refuse_if.ensures.1
     (goes _ _ c.in_ok-input_verdict.was (c.input_verdict.ensures B refl)
     (sym (ap verdict_of c.in_err-refuse_if.was) ∙ c.refuse_if.ensures ∙ (λ i. NO_ROOM (c.room_of-room.ensures B c.lengths_of-lengths.ensures i) (Q i))))
@@ -131,8 +131,8 @@ pub write_patterns-requires : goal.write_patterns-requires
 write_patterns-requires c =
     let a = c.args in
     let B = lists_lent a.positions.now a.normals.now a.uvs.now a.colours.now a.triangles.now a.links.now a.slots.now in
-    let b = begun_of B _ _ c.in_ok-input_verdict.was (c.input_verdict.ensures B refl) c.is_culling-culling.ensures (c.look_of-look.ensures.1 ∙ c.outer_set.ensures)
-    (subst (counted _ _ _) c.look_of-look.ensures.0 c.count_quads-quads.ensures) c.in_ok-refuse_if.was c.refuse_if.ensures (c.room_of-room.ensures B c.lengths_of-lengths.ensures) in
+    let b = begun_of B _ _ c.in_ok-input_verdict.was (c.input_verdict.ensures B refl) c.is_culling-culling.ensures (c.of-look.ensures.1 ∙ c.outer_set.ensures)
+    (subst (counted _ _ _) c.of-look.ensures.0 c.count_quads-quads.ensures) c.in_ok-refuse_if.was c.refuse_if.ensures (c.room_of-room.ensures B c.lengths_of-lengths.ensures) in
     ((room_for (scene_of a.scene) B _ b.fits).triangles, omega (arith, few b))
 
 pub loop-base-init : goal.loop-base-init
@@ -140,8 +140,8 @@ loop-base-init c =
     let a = c.args in
     let B = lists_lent a.positions.now a.normals.now a.uvs.now a.colours.now a.triangles.now a.links.now a.slots.now in
     record {
-      begun = begun_of B _ _ c.in_ok-input_verdict.was (c.input_verdict.ensures B refl) c.is_culling-culling.ensures (c.look_of-look.ensures.1 ∙ c.outer_set.ensures)
-          (subst (counted _ _ _) c.look_of-look.ensures.0 c.count_quads-quads.ensures) c.in_ok-refuse_if.was c.refuse_if.ensures (c.room_of-room.ensures B c.lengths_of-lengths.ensures);
+      begun = begun_of B _ _ c.in_ok-input_verdict.was (c.input_verdict.ensures B refl) c.is_culling-culling.ensures (c.of-look.ensures.1 ∙ c.outer_set.ensures)
+          (subst (counted _ _ _) c.of-look.ensures.0 c.count_quads-quads.ensures) c.in_ok-refuse_if.was c.refuse_if.ensures (c.room_of-room.ensures B c.lengths_of-lengths.ensures);
       within = omega arith;
       at = first (size_of a.scene.dims);
       drawn = begun _ _ _ _ _ _;
@@ -153,7 +153,7 @@ pub index_row-n-requires : goal.index_row-n-requires
 index_row-n-requires c =
     let l = c.loop-base in
     let i = l.invariant in
-    let t = turn_of i.begun i.within i.at i.drawn.count c.loop-base-test.true (c.side_row.auto.sets ∙ i.sets) (subst (shown _ _ _ _) c.look_of-look.ensures.0 c.side_row.ensures) in
+    let t = turn_of i.begun i.within i.at i.drawn.count c.loop-base-test.true (c.side_row.auto.sets ∙ i.sets) (subst (shown _ _ _ _) c.of-look.ensures.0 c.side_row.ensures) in
     let a = c.args in
     let B = lists_lent a.positions.now a.normals.now a.uvs.now a.colours.now a.triangles.now a.links.now a.slots.now in
     let slots = bare_long (scene_of a.scene) B _ _ c.cell_count.ensures i.begun.known.slotted c.new.ensures in
@@ -163,21 +163,21 @@ pub slice_bounds-sides-end : goal.slice_bounds-sides-end
 slice_bounds-sides-end c =
     let l = c.loop-base in
     let i = l.invariant in
-    let t = turn_of i.begun i.within i.at i.drawn.count c.loop-base-test.true (c.side_row.auto.sets ∙ i.sets) (subst (shown _ _ _ _) c.look_of-look.ensures.0 c.side_row.ensures) in
+    let t = turn_of i.begun i.within i.at i.drawn.count c.loop-base-test.true (c.side_row.auto.sets ∙ i.sets) (subst (shown _ _ _ _) c.of-look.ensures.0 c.side_row.ensures) in
     listed_in t c.index_row-n.ensures.0 i.sides c.index_row-n.ensures.1
 
 pub slice_bounds-vertex_row-end : goal.slice_bounds-vertex_row-end
 slice_bounds-vertex_row-end c =
     let l = c.loop-base in
     let i = l.invariant in
-    let t = turn_of i.begun i.within i.at i.drawn.count c.loop-base-test.true (c.side_row.auto.sets ∙ i.sets) (subst (shown _ _ _ _) c.look_of-look.ensures.0 c.side_row.ensures) in
+    let t = turn_of i.begun i.within i.at i.drawn.count c.loop-base-test.true (c.side_row.auto.sets ∙ i.sets) (subst (shown _ _ _ _) c.of-look.ensures.0 c.side_row.ensures) in
     sym (listed t c.index_row-n.ensures.0 i.sides c.index_row-n.ensures.1)
 
 pub vertex_row-requires : goal.vertex_row-requires
 vertex_row-requires c =
     let l = c.loop-base in
     let i = l.invariant in
-    let t = turn_of i.begun i.within i.at i.drawn.count c.loop-base-test.true (c.side_row.auto.sets ∙ i.sets) (subst (shown _ _ _ _) c.look_of-look.ensures.0 c.side_row.ensures) in
+    let t = turn_of i.begun i.within i.at i.drawn.count c.loop-base-test.true (c.side_row.auto.sets ∙ i.sets) (subst (shown _ _ _ _) c.of-look.ensures.0 c.side_row.ensures) in
     let n = c.index_row-n.ensures in (
       i.begun.known.within,
       t.starts,
@@ -190,7 +190,7 @@ pub overflow_add-base : goal.overflow_add-base
 overflow_add-base c =
     let l = c.loop-base in
     let i = l.invariant in
-    let t = turn_of i.begun i.within i.at i.drawn.count c.loop-base-test.true (c.side_row.auto.sets ∙ i.sets) (subst (shown _ _ _ _) c.look_of-look.ensures.0 c.side_row.ensures) in
+    let t = turn_of i.begun i.within i.at i.drawn.count c.loop-base-test.true (c.side_row.auto.sets ∙ i.sets) (subst (shown _ _ _ _) c.of-look.ensures.0 c.side_row.ensures) in
     let n = c.index_row-n.ensures in
     omega (arith, listed t n.0 i.sides n.1, listed_few t n.0 i.sides n.1)
 
@@ -198,7 +198,7 @@ pub loop-base-preserved : goal.loop-base-preserved
 loop-base-preserved c =
     let l = c.loop-base in
     let i = l.invariant in
-    let t = turn_of i.begun i.within i.at i.drawn.count c.loop-base-test.true (c.side_row.auto.sets ∙ i.sets) (subst (shown _ _ _ _) c.look_of-look.ensures.0 c.side_row.ensures) in
+    let t = turn_of i.begun i.within i.at i.drawn.count c.loop-base-test.true (c.side_row.auto.sets ∙ i.sets) (subst (shown _ _ _ _) c.of-look.ensures.0 c.side_row.ensures) in
     let n = c.index_row-n.ensures in
     let e = c.next-row.ensures.0 in
     record {
