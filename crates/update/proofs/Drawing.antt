@@ -27,23 +27,13 @@ use Rattle.works.specs.Sets.{set_in, packed, key_met, cutting, type_drawn, deed_
 use Rattle.rules.proofs.Courses.{Good}
 use Rattle.works.proofs.Works.{all_deeds}
 
--- the scene without its tables of types: what a list of vertices is drawn from
-abbrev pub bare : Scene → Scene
-bare S =
-    record {
-      size = S.size;
-      types = record { coloured = S.types.coloured; kinds = []; covers = []; cubes = S.types.cubes };
-      d = S.d;
-      centre = S.centre;
-    }
-
 -- only a type is a cube
 cube_listed : (kinds : List ℕ) (t : ℕ) → eqb (get_or kinds t 0) 1 ≡ true → t < length kinds
 cube_listed kinds t e =
     ⊎_elim (λ l. l) (λ l. absurd (omega (arith, get_or-eq_default kinds 0 l, eqb-true (get_or kinds t 0) 1 e))) (order t (length kinds))
 
 module _ (S : Scene) (k : Typed S) where
-  shaped : (t : ℕ) → eqb (get_or S.types.kinds t 0) 1 ≡ true → Shaped (bare S) t
+  shaped : (t : ℕ) → eqb (get_or S.types.kinds t 0) 1 ≡ true → Shaped S t
   unfolding is_cube
   shaped t e =
       let l = cube_listed S.types.kinds t e in
@@ -58,17 +48,17 @@ module _ (S : Scene) (k : Typed S) where
       }
 
   -- LAW: deeds that fit, of cubes, can be drawn
-  pub deeds_able : (keys : List ℕ) (e : Entry) (v : Work) → ((j : ℕ) → set_in v j < 64) → CubesDrawn S.types.kinds e v → All (Good (faces S) (span S)) (ops_of (quad_by (words_by (bare S))) (deeds keys e (packed v))) → All (Able (Drawn (bare S))) (deeds keys e (packed v))
-  deeds_able keys e v few c good = both (deeds keys e (packed v)) good (all_deeds keys e (Able (λ k t. Shaped (bare S) t)) v few made)
+  pub deeds_able : (keys : List ℕ) (e : Entry) (v : Work) → ((j : ℕ) → set_in v j < 64) → CubesDrawn S.types.kinds e v → All (Good (faces S) (span S)) (ops_of (quad_by (words_by S)) (deeds keys e (packed v))) → All (Able (Drawn S)) (deeds keys e (packed v))
+  deeds_able keys e v few c good = both (deeds keys e (packed v)) good (all_deeds keys e (Able (λ k t. Shaped S t)) v few made)
     where
-      made : (j f : ℕ) → j < 4 → f < 6 → has (set_in v j) f ≡ true → Able (λ k t. Shaped (bare S) t) (deed_by (cutting j) (type_drawn e j f) (key_met keys j f))
+      made : (j f : ℕ) → j < 4 → f < 6 → has (set_in v j) f ≡ true → Able (λ k t. Shaped S t) (deed_by (cutting j) (type_drawn e j f) (key_met keys j f))
       made zero f _ l on = tt
       made (suc zero) f _ l on = shaped (given_at e f) (c.shown f l on)
       made (suc (suc zero)) f _ l on = shaped e.type (c.drawn f l on)
       made (suc (suc (suc zero))) f _ l on = tt
       made (suc (suc (suc (suc j)))) f b l on = absurd (omega arith)
 
-      both : (ds : List Deed) → All (Good (faces S) (span S)) (ops_of (quad_by (words_by (bare S))) ds) → All (Able (λ k t. Shaped (bare S) t)) ds → All (Able (Drawn (bare S))) ds
+      both : (ds : List Deed) → All (Good (faces S) (span S)) (ops_of (quad_by (words_by S)) ds) → All (Able (λ k t. Shaped S t)) ds → All (Able (Drawn S)) ds
       both [] g a = tt
       both (show k t ∷ ds) g a = ((omega (arith, g.0.0), a.0), both ds g.1 a.1)
       both (hide k ∷ ds) g a = (tt, both ds g.1 a.1)

@@ -1,21 +1,22 @@
 -- A log on the index and the attributes, entry by entry: the lists stay the layout of the rule's mesh. Assumes nothing.
 use mathlib.Core.Path.{◌≡◌, refl, sym, ap, ◌∙◌, subst}
-use mathlib.Core.Bool.{true, not}
-use mathlib.Core.List.{List, []}
+use mathlib.Core.Bool.{Bool, true, false, not}
+use mathlib.Core.List.{List, [], ◌∷◌}
 use mathlib.Core.Option.{Option, none, some}
 use Prim.Native.Nat.{ℕ, suc, ◌+◌, ◌-◌, ◌*◌, ◌/◌, ◌%◌, ◌^◌, ◌≤◌, ◌<◌}
 use native.Mathlib.Nat.{mul-le-mul_left}
 use native.Mathlib.Omega.{arith}
 use lib.Dec.{leb}
-use lib.ListN.{length, get_or, get_or-eq_default}
-use borrow.Author.Tests.{eq-eqb, le-leb, lt-leb}
+use lib.ListN.{length, get_or, take, get_or-eq_default}
+use lib.Seq.{get_or-take, length-take-le}
+use borrow.Author.Tests.{eq-eqb, le-leb, lt-leb, leb-true, leb-false}
 use Rattle.rules.specs.Lists.{each}
 use Rattle.rules.specs.Cells.{cells, neighbour}
 use Rattle.rules.specs.Mesh.{Quad, Attribute, position, Vertices, HasList, of_positions, NONE, there, slot_of, row_of, attribute_laid}
 use Rattle.rules.specs.Update as rule
 use Rattle.rules.specs.Update.{ENTRY_BYTES, Tested, Entry, Op, run, moves, highest, ops, needed, work, entry_at, course_from}
 use Rattle.rules.specs.Calls.{Scene, world, span, faces}
-use Rattle.rules.proofs.ListLaws.{All, length-table}
+use Rattle.rules.proofs.ListLaws.{All, length-table, each_same}
 use Rattle.rules.proofs.Neighbours.{beside, opposite_lt}
 use Rattle.rules.proofs.Acting.{acting, Acts, after, acting_same, acting_acts, acting_all}
 use Rattle.rules.proofs.Attributes.{inside_of, each_list_lem, each_again}
@@ -26,19 +27,20 @@ use Rattle.rules.proofs.Demands.{words_sized}
 use Rattle.mesh_metadata.proofs.Meshes as meshes
 use Rattle.drawing.proofs.Sides.{row_wide}
 use Rattle.drawing.proofs.Lengths.{Alike, each_alike, alike_long}
-use Rattle.steps.specs.Steps.{Step, Deed, steps_in, Shelf, shelf, quad_by, ops_of, steps_of, Can, Able}
+use Rattle.steps.specs.Steps.{Step, Deed, step_in, step_at, steps_in, Shelf, shelf, quad_by, ops_of, steps_of, Can, Able}
 use Rattle.steps.proofs.Replaying.{replay_run}
 use Rattle.steps.specs.Rows.{words_by, run_of, run_all, Drawn, ReplayingAll}
 use Rattle.works.specs.declared.Work.{Work}
 use Rattle.works.specs.Sets.{meant, set_in, packed, key_or, keys_around, key_met, deeds, CubesDrawn}
 use Rattle.works.proofs.Works.{all_few, near_key}
 use Rattle.works.proofs.Meant.{Means, meant_work, meant_cubes}
-use Rattle.indexing.specs.Index.{Index, index_run, book_of, Ground, Ready}
+use Rattle.indexing.specs.declared.Tally.{Tally}
+use Rattle.indexing.specs.Index.{Index, index_of, index_run, book_of, Ground, Ready}
 use Rattle.indexing.specs.Due.{is_bare, due_of, fits_in, Gridded}
 use Rattle.indexing.proofs.Booking.{slot_none, length-steps, run_booked}
 use Rattle.indexing.proofs.Due.{due_few, due_cubes, due_ops, room_told}
 use Rattle.update.specs.Runs.{Ended, laid_out, mesh_in, course_on, Holds, Logging}
-use Rattle.update.proofs.Drawing.{bare, deeds_able}
+use Rattle.update.proofs.Drawing.{deeds_able}
 
 -- the index, before an entry
 abbrev pub index_at : List ℕ → List ℕ → ℕ → ℕ → ℕ → List ℕ → Index
@@ -59,6 +61,28 @@ pub record Found (tested : Tested) (S : Scene) (log ss : List ℕ) (k : ℕ) (e 
   pub sets : w ≡ meant tested (world S) e
   pub keys : ks ≡ keys_around S.size e.cell
   pub due : d ≡ due_of ss ks e.cell w
+
+pub found : {tested : Tested} {S : Scene} {room : ℕ} {log : List ℕ} {vs₀ : Vertices} {ls₀ : List ℕ} {Q k h : ℕ} {vs : Vertices} {ls ss : List ℕ} {q v : ℕ} {e : Entry} {w : Work} {ks : List ℕ} {d : Work}
+    → Running tested S room log vs₀ ls₀ Q k h vs ls ss q v → k < length log / ENTRY_BYTES → e ≡ entry_at log k → w ≡ meant tested (world S) e → ks ≡ keys_around S.size e.cell → d ≡ due_of ss ks e.cell w → Found tested S log ss k e w ks d
+found r next entry sets keys due = record { next = next; entry = entry; sets = sets; keys = keys; due = due }
+
+-- the steps that an entry took, of which the list has all: they can be replayed, and then the next entry is at hand
+pub record Turned (tested : Tested) (S : Scene) (room : ℕ) (log : List ℕ) (vs₀ : Vertices) (ls₀ : List ℕ) (Q k : ℕ) (vs : Vertices) (q : ℕ) (ls ss ys : List ℕ) (t : Tally) : Type 0 where
+  pub taken : 2 * t.steps ≤ length ys
+  pub lent : length (take (2 * t.steps) ys) ≡ 2 * t.steps
+  pub replaying : ReplayingAll S (steps_in (length (take (2 * t.steps) ys) / 2) (take (2 * t.steps) ys)) vs q
+  pub on : (vs' : Vertices) → vs' ≡ run_all S (steps_in (length (take (2 * t.steps) ys) / 2) (take (2 * t.steps) ys)) q vs → Running tested S room log vs₀ ls₀ Q (k + 1) t.top vs' ls ss t.quads t.moved
+
+-- as many as were taken are all that the lent part has
+module _ (list : List ℕ) (taken : ℕ) (few : 2 * taken ≤ length list) where
+  lent_length : length (take (2 * taken) list) ≡ 2 * taken
+  lent_length = length-take-le (2 * taken) list few
+
+  lent_steps : steps_in (length (take (2 * taken) list) / 2) (take (2 * taken) list) ≡ steps_in taken list
+  lent_steps =
+      let n : length (take (2 * taken) list) / 2 ≡ taken = ap (λ (k : ℕ). k / 2) lent_length ∙ omega arith in
+      rw n (each_same taken 0 (λ i. step_at (take (2 * taken) list) i ∷ []) (λ i. step_at list i ∷ [])
+      (λ i _ h. let a = get_or-take (2 * taken) list (2 * i) 0 (omega arith) in let b = get_or-take (2 * taken) list (2 * i + 1) 0 (omega arith) in λ j. step_in (a j) (b j) ∷ []))
 
 module _ (tested : Tested) {S : Scene} {room : ℕ} {log : List ℕ} {vs₀ : Vertices} {ls₀ ss₀ : List ℕ} {Q : ℕ} (g : Logging S room log vs₀ ls₀ ss₀ Q) where
   abbrev works : ℕ → rule.Work
@@ -85,7 +109,7 @@ module _ (tested : Tested) {S : Scene} {room : ℕ} {log : List ℕ} {vs₀ : Ve
   grid_small = let l = g.within.most in omega arith
 
   abbrev ground : Ground
-  ground = record { words = words_by (bare S); span = span S; room = room; faces = faces S; old = ls₀; long = g.words; small = grid_small }
+  ground = record { words = words_by S; span = span S; room = room; faces = faces S; old = ls₀; long = g.words; small = grid_small }
 
   module _ {k h q v : ℕ} {vs : Vertices} {ls ss : List ℕ} (r : Running tested S room log vs₀ ls₀ Q k h vs ls ss q v) where
     abbrev m : List Quad
@@ -169,16 +193,22 @@ module _ (tested : Tested) {S : Scene} {room : ℕ} {log : List ℕ} {vs₀ : Ve
       pub run_room : fits_in d q room ≡ leb (needed (works k) m) room
       run_room = let n = r.holds.count in (λ i. fits_in (around i) (n i) room) ∙ room_told (world S) e g.within inside m sane.once w ss told no_face means room
 
+      pub run_over : {b : Bool} → b ≡ fits_in d q room → b ≡ false → room < needed (works k) m
+      run_over a n = leb-false (needed (works k) m) room (sym run_room ∙ sym a ∙ n)
+
+      pub run_fits : {b : Bool} → b ≡ fits_in d q room → b ≡ true → needed (works k) m ≤ room
+      run_fits a y = leb-true (needed (works k) m) room (sym run_room ∙ sym a ∙ y)
+
       -- ---- an entry that finds its room
       module _ (fit : needed (works k) m ≤ room) (xs : List ℕ) (long : length xs ≡ 48) where
         abbrev ds : List Deed
         ds = deeds ks e (packed d)
 
         abbrev os : List Op
-        os = ops_of (quad_by (words_by (bare S))) ds
+        os = ops_of (quad_by (words_by S)) ds
 
         acting_now : os ≡ acting (ops (works k)) m
-        acting_now = (λ i. ops_of (quad_by (words_by (bare S))) (deeds (f.keys i) e (packed (around i)))) ∙ due_ops (world S) e g.within inside m sane.once w ss told no_face means
+        acting_now = (λ i. ops_of (quad_by (words_by S)) (deeds (f.keys i) e (packed (around i)))) ∙ due_ops (world S) e g.within inside m sane.once w ss told no_face means
 
         good : All (Good (faces S) (span S)) os
         good = subst (All (Good (faces S) (span S))) (sym acting_now) (acting_all (Good (faces S) (span S)) (ops (works k)) m (good_ops (faces S) (span S) (works k) fits))
@@ -186,7 +216,7 @@ module _ (tested : Tested) {S : Scene} {room : ℕ} {log : List ℕ} {vs₀ : Ve
         acts_now : Acts os m
         acts_now = subst (λ (x : List Op). Acts x m) (sym acting_now) (acting_acts (ops (works k)) m)
 
-        able : All (Able (Drawn (bare S))) ds
+        able : All (Able (Drawn S)) ds
         able =
             let c = subst (CubesDrawn S.types.kinds e) (sym f.sets) (meant_cubes (world S) e tested) in
             deeds_able S g.typed ks e d run_dues (subst (CubesDrawn S.types.kinds e) (sym f.due) (due_cubes S.types.kinds ss ks e.cell e w c)) good
@@ -200,7 +230,7 @@ module _ (tested : Tested) {S : Scene} {room : ℕ} {log : List ℕ} {vs₀ : Ve
         index : index_at ls ss q v h xs ≡ book_of (faces S) h m ls₀ v (steps_in 0 xs)
         index = let a = r.holds.links in let b = r.holds.slots in let c = r.holds.count in λ i. record { links = a i; slots = b i; quads = c i; moved = v; top = h; steps = steps_in 0 xs }
 
-        pub run_ready : Ready (length xs) ds (index_at ls ss q v h xs)
+        run_ready : Ready (length xs) ds (index_at ls ss q v h xs)
         unfolding each
         run_ready =
             let few = g.few in
@@ -219,11 +249,15 @@ module _ (tested : Tested) {S : Scene} {room : ℕ} {log : List ℕ} {vs₀ : Ve
               steps = omega arith;
             }
 
+        -- and so it is by the word of what is due
+        pub run_word : {n : ℕ} → n ≡ packed d → (n < 2 ^ 24) × Ready (length xs) (deeds ks e n) (index_at ls ss q v h xs)
+        run_word is = (omega (arith, is, run_dues 0, run_dues 1, run_dues 2, run_dues 3), subst (λ (n : ℕ). Ready (length xs) (deeds ks e n) (index_at ls ss q v h xs)) (sym is) run_ready)
+
         abbrev done : Index
         done = index_run ds (index_at ls ss q v h xs)
 
         abbrev steps : List Step
-        steps = steps_of (quad_by (words_by (bare S))) ds m
+        steps = steps_of (quad_by (words_by S)) ds m
 
         ran : done ≡ book_of (faces S) (highest h (ops (works k)) m) (run (ops (works k)) m) ls₀ (v + moves (ops (works k)) m) steps
         unfolding each
@@ -235,18 +269,18 @@ module _ (tested : Tested) {S : Scene} {room : ℕ} {log : List ℕ} {vs₀ : Ve
         steps_are : done.steps ≡ steps
         steps_are = ap (λ (I : Index). I.steps) ran
 
-        pub run_few : 2 * length done.steps ≤ length xs
+        run_few : 2 * length done.steps ≤ length xs
         run_few = let n = ap length steps_are ∙ length-steps ground ds m in omega (arith, n, all_few ks e (packed d))
 
         -- the steps on an attribute's list
-        replayed_now : (a : Attribute) (xs : List ℕ) → HasList S.types.coloured vs₀ a xs → Can (Drawn (bare S)) room steps (length m)
-            × (run_of (bare S) a steps (shelf (attribute_laid S.types.coloured h m a xs) (length m)) ≡ shelf (attribute_laid S.types.coloured (highest h os m) (run os m) a xs) (length (run os m)))
+        replayed_now : (a : Attribute) (xs : List ℕ) → HasList S.types.coloured vs₀ a xs → Can (Drawn S) room steps (length m)
+            × (run_of S a steps (shelf (attribute_laid S.types.coloured h m a xs) (length m)) ≡ shelf (attribute_laid S.types.coloured (highest h os m) (run os m) a xs) (length (run os m)))
         replayed_now a xs l =
             let has = inside_of S.types.coloured vs₀ a xs l in
-            replay_run (4 * a.width) (row_of S.types.coloured a) (words_by (bare S)) (Drawn (bare S)) (λ n t d. row_wide S a has t (n % 6) (n / 6)) room xs (g.rows a xs l) ds m h
+            replay_run (4 * a.width) (row_of S.types.coloured a) (words_by S) (Drawn S) (λ n t d. row_wide S a has t (n % 6) (n / 6)) room xs (g.rows a xs l) ds m h
             (sized a xs l) able sane.reached acts_now fits_deeds
 
-        pub run_replaying : ReplayingAll (bare S) done.steps vs q
+        run_replaying : ReplayingAll S done.steps vs q
         run_replaying =
             let c = r.holds.count in
             let l = sane.reached in
@@ -256,23 +290,23 @@ module _ (tested : Tested) {S : Scene} {room : ℕ} {log : List ℕ} {vs₀ : Ve
               within = g.within;
               fits = alike_long S.types.coloured vs₀ vs room run_lengths g.rows;
               here = omega arith;
-              can = subst (Can (Drawn (bare S)) room done.steps) (sym c)
-                  (subst (λ (ys : List Step). Can (Drawn (bare S)) room ys (length m)) (sym steps_are) (replayed_now position vs₀.positions of_positions).0);
+              can = subst (Can (Drawn S) room done.steps) (sym c)
+                  (subst (λ (ys : List Step). Can (Drawn S) room ys (length m)) (sym steps_are) (replayed_now position vs₀.positions of_positions).0);
             }
 
         -- what the entry leaves
-        pub run_on : {vs' : Vertices} {ls' ss' : List ℕ} {q' v' h' : ℕ} {ys : List Step}
+        run_on : {vs' : Vertices} {ls' ss' : List ℕ} {q' v' h' : ℕ} {ys : List Step}
             → record { links = ls'; slots = ss'; quads = q'; moved = v'; top = h'; steps = ys } ≡ done
-            → vs' ≡ run_all (bare S) done.steps q vs
+            → vs' ≡ run_all S done.steps q vs
             → Running tested S room log vs₀ ls₀ Q (k + 1) h' vs' ls' ss' q' v'
         run_on {vs'} i s =
             let after : List Quad = run (ops (works k)) m in
             let top = highest h (ops (works k)) m in
             let tint = S.types.coloured in
             let rows = s
-            ∙ (λ j. run_all (bare S) (steps_are j) (r.holds.count j) (r.holds.vertices j))
-            ∙ each_again tint vs₀ (λ a ws. (run_of (bare S) a steps (shelf ws (length m))).words) (attribute_laid tint h m)
-            ∙ each_list_lem tint vs₀ (λ a ws. (run_of (bare S) a steps (shelf (attribute_laid tint h m a ws) (length m))).words) (attribute_laid tint top after)
+            ∙ (λ j. run_all S (steps_are j) (r.holds.count j) (r.holds.vertices j))
+            ∙ each_again tint vs₀ (λ a ws. (run_of S a steps (shelf ws (length m))).words) (attribute_laid tint h m)
+            ∙ each_list_lem tint vs₀ (λ a ws. (run_of S a steps (shelf (attribute_laid tint h m a ws) (length m))).words) (attribute_laid tint top after)
             (λ a ws l. ap (λ (x : Shelf). x.words) (replayed_now a ws l).1 ∙ ap (λ (x : ℕ × ℕ × List Quad). attribute_laid tint x.0 x.2 a ws) same) in
             let few = entry_moves tested (world S) (entry_at log k) m in
             let old = r.moves in
@@ -290,6 +324,20 @@ module _ (tested : Tested) {S : Scene} {room : ℕ} {log : List ℕ} {vs₀ : Ve
               };
               moves = omega arith;
             })
+
+        pub run_turned : {n : ℕ} → n ≡ packed d → (ls' ss' ys : List ℕ) (t : Tally) → index_of ls' ss' ys t ≡ index_run (deeds ks e n) (index_at ls ss q v h xs) → length ys ≡ length xs
+            → Turned tested S room log vs₀ ls₀ Q k vs q ls' ss' ys t
+        run_turned is ls' ss' ys t worked all =
+            let went : index_of ls' ss' ys t ≡ done = worked ∙ ap (λ (n : ℕ). index_run (deeds ks e n) (index_at ls ss q v h xs)) is in
+            let these : steps_in t.steps ys ≡ done.steps = ap (λ (I : Index). I.steps) went in
+            let few : 2 * t.steps ≤ length ys = omega (arith, ap length these, run_few, length-table (step_at ys) t.steps) in
+            let same = lent_steps ys t.steps few ∙ these in
+            record {
+              taken = few;
+              lent = lent_length ys t.steps few;
+              replaying = subst (λ (x : List Step). ReplayingAll S x vs q) (sym same) run_replaying;
+              on = λ vs' after. run_on went (after ∙ ap (λ (x : List Step). run_all S x q vs) same);
+            }
 
     pub run_through : length log / ENTRY_BYTES ≤ k → record { full = none; quads = m; moved = v; highest = h } ≡ course_on tested S room log vs₀ ls₀ Q
     unfolding course_from

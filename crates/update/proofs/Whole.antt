@@ -4,7 +4,9 @@ use mathlib.Core.Logic.{⊎_elim}
 use mathlib.Core.Bool.{true≢false}
 use mathlib.Core.List.{List, [], ◌∷◌, ◌++◌, append_assoc}
 use mathlib.Core.Option.{Option}
-use Prim.Native.Nat.{ℕ, suc, ◌+◌, ◌-◌, ◌*◌, ◌/◌, ◌≤◌}
+use Prim.Native.Nat.{ℕ, suc, ◌+◌, ◌-◌, ◌*◌, ◌/◌, ◌^◌, ◌≤◌, ◌<◌}
+use Rattle.std.specs.Prelude.{Result, Ok, Err}
+use Rattle.std.specs.Result.{IsErrAnd}
 use native.Mathlib.Omega.{arith}
 use lib.ListN.{length, take, drop, length-append, length-replicate}
 use lib.Seq.{take_at, drop-append-add, drop-drop}
@@ -13,18 +15,26 @@ use Rattle.rules.specs.Lists.{each, table}
 use Rattle.rules.specs.Cells.{cells}
 use Rattle.rules.specs.Mesh.{Quad, Lists, NONE, pattern, rows, laid, lists_of, decode, layout, slotted, slot_of}
 use Rattle.rules.specs.Update.{ENTRY_BYTES, Tested, entry_at, work, Course}
-use Rattle.rules.specs.Answers.{fine, bad_entry, BAD_ENTRY}
+use Rattle.rules.specs.Answers.{Verdict, fine, ◌then◌, bad_entry, BAD_LINKS, BAD_TRIANGLES, BAD_ENTRY}
 use Rattle.rules.specs.Calls.{Scene, Answer, world, span, faces, room, update_verdict, course, course_answer, update_mesh}
 use Rattle.rules.proofs.ListLaws.{length-table, each_split, all_kept}
 use Rattle.rules.proofs.Checking.{then_fine, if_fine, lowest_fine, book_of_fine, length-decode}
 use Rattle.rules.proofs.Courses.{Sane, course_past}
-use Rattle.rules.proofs.Demands.{limits, room_for, lent_sane, entry_inside, Asked, asked_of, ran_sane}
+use Rattle.rules.proofs.Demands.{Room, limits, room_for, lent_sane, entry_inside, Asked, asked_of, ran_sane}
 use Rattle.rules.proofs.Idle.{layout_stands}
-use Rattle.lent.proofs.Admitted.{sized, typed}
+use Rattle.answers.specs.declared.Refused.{Refused}
+use Rattle.answers.specs.Verdicts.{verdict_of}
+use Rattle.answers.proofs.Chains.{passes, then_assoc}
+use Rattle.util.specs.Grid.{Within}
+use Rattle.terms.specs.declared.Count.{Count}
+use Rattle.lent.specs.Scenes.{Lent, Typed}
+use Rattle.lent.proofs.Admitted.{sized, typed, lent}
 use Rattle.mesh_metadata.proofs.Slots.{order}
 use Rattle.mesh_metadata.proofs.Meshes as meshes
 use Rattle.vav.specs.Rows.{put, zeros}
 use Rattle.drawing.proofs.Patterns.{length_patterns}
+use Rattle.update.specs.declared.Stopped.{Stopped}
+use Rattle.update.specs.Outcome.{told_verdict, stopped_by, outcome_of}
 use Rattle.update.specs.Runs.{Ended, laid_out, ran_by, Logging, patterns_mended}
 
 -- ---- the triangles by their counts
@@ -63,11 +73,55 @@ patterns_laid ts Q h m m' len is low up =
     let past = ap (λ (n : ℕ). drop n ((front ++ less) ++ rest)) e ∙ drop-append-add (front ++ less) rest k ∙ drop-drop k (6 * Q + length more) ts ∙ ap (λ (n : ℕ). drop n ts) f in
     ap (put (6 * a) zs) drawn ∙ (λ i. kept i ++ (zs ++ past i))
 
+-- ---- the tests, one after the other
+
+-- those of the call, in the order in which it makes them
+pub asked : (S : Scene) (log : List ℕ) (B : Lists) (Q : ℕ) → update_verdict S log B Q
+    ≡ (told_verdict S B Q then (BAD_LINKS (cells S.size) B Q then (BAD_TRIANGLES B Q then BAD_ENTRY (cells S.size) (length S.types.kinds) log)))
+asked S log B Q = simp then_assoc
+
+-- after a test that passes the others are left, and one that refuses is the verdict
+pub past : {w a b : Verdict} (x : Result Unit Refused) {u : Unit {0}} → w ≡ (a then b) → verdict_of x ≡ a → x ≡ Ok u → w ≡ b
+unfolding ◌then◌
+past x e is was = e ∙ rw (sym is, was)
+
+pub halt : (b : Verdict) {w a : Verdict} (x : Result Unit Refused) {e : Refused} → w ≡ (a then b) → verdict_of x ≡ a → x ≡ Err e → w ≡ verdict_of x
+unfolding ◌then◌
+halt b x e is was = e ∙ rw (sym is, was)
+
+-- LAW: what the call then answers is the rule's outcome
+pub stopped : (tested : Tested) (S : Scene) (log : List ℕ) (B : Lists) (Q : ℕ) (r : Result Count Stopped) (x : Result Unit Refused) {e : Refused}
+    → update_verdict S log B Q ≡ verdict_of x → x ≡ Err e → IsErrAnd r (λ y. y ≡ stopped_by e) → outcome_of r B ≡ update_mesh tested S log B Q
+stopped tested S log B Q (Ok count) x v was out = absurd out
+stopped tested S log B Q (Err s) x v was out = rw (v, was, out)
+
+-- what is known once the first of them have passed
+module _ (S : Scene) (B : Lists) (Q : ℕ) (passed : told_verdict S B Q ≡ fine) where
+  pub told_within : Within S.size
+  told_within = sized S (then_fine _ _ passed).0
+
+  pub told_typed : Typed S
+  told_typed = typed S (then_fine _ _ (then_fine _ _ passed).1).0
+
+  pub told_lent : length B.vertices.positions < 2 ^ 64 → Lent (cells S.size) B.links B.slots Q × Room S B Q
+  told_lent h = let l = then_fine _ _ (then_fine _ _ (then_fine _ _ passed).1).1 in lent S B Q told_within h l.0 l.1
+
 -- what an accepted update starts from, with n slots lent and the room found
 pub record Begun (tested : Tested) (S : Scene) (log : List ℕ) (B : Lists) (Q n R : ℕ) : Type 0 where
   pub accepted : update_verdict S log B Q ≡ fine
   pub lent : n ≡ faces S
   pub found : R ≡ room S B
+
+-- where each test has passed
+pub begun : (tested : Tested) (S : Scene) (log : List ℕ) (B : Lists) (Q : ℕ) {R N : ℕ} {t u v w : Unit {0}} {told linked patterned entered : Result Unit Refused}
+    → N ≡ cells S.size → R ≡ room S B → verdict_of told ≡ told_verdict S B Q → told ≡ Ok t → verdict_of linked ≡ BAD_LINKS N B Q → linked ≡ Ok u
+    → verdict_of patterned ≡ BAD_TRIANGLES B Q → patterned ≡ Ok v → verdict_of entered ≡ BAD_ENTRY N (length S.types.kinds) log → entered ≡ Ok w → Begun tested S log B Q (6 * N) R
+begun tested S log B Q {told = told} {linked} {patterned} {entered} cell found a t b u c v d w =
+    let one = past told (asked S log B Q) a t in
+    let two = past linked one (b ∙ ap (λ (n : ℕ). BAD_LINKS n B Q) cell) u in
+    let three = past patterned two c v in
+    let four = passes entered _ w (d ∙ ap (λ (n : ℕ). BAD_ENTRY n (length S.types.kinds) log) cell) in
+    record { accepted = three ∙ sym four; lent = ap (λ (n : ℕ). 6 * n) cell; found = found }
 
 module _ {tested : Tested} {S : Scene} {log : List ℕ} {B : Lists} {Q n R : ℕ} (b : Begun tested S log B Q n R) where
   a : Asked tested S log B Q b.accepted

@@ -1,5 +1,6 @@
 -- A log on the index and the vertices, and the triangles after it. Definitions only.
-use Rattle.std.specs.Prelude.{ℕ, ◌-◌, ◌*◌, ◌/◌, ◌≤◌, ◌<◌, ◌≡◌, List, [], ◌∷◌, length}
+use Rattle.std.specs.Prelude as std
+use Rattle.std.specs.Prelude.{Some, None, ℕ, ◌-◌, ◌*◌, ◌/◌, ◌≤◌, ◌<◌, ◌≡◌, List, [], ◌∷◌, length}
 use Rattle.std.proofs.Math.Option.{Option, none, some}
 use Rattle.rules.specs.Lists.{each, table}
 use Rattle.rules.specs.Cells.{cells, link_of}
@@ -11,8 +12,6 @@ use Rattle.util.specs.Grid.{Within}
 use Rattle.lent.specs.Scenes.{Typed}
 use Rattle.vav.specs.Rows.{put, zeros}
 use Rattle.drawing.specs.Written.{Long}
-use Rattle.update.specs.declared.End.{End}
-use Rattle.update.specs.declared.End.TheVariants.{Through, Full}
 use Rattle.update.specs.declared.Ran.{Ran}
 
 -- how a log has ended, and the lists that it went through
@@ -25,13 +24,14 @@ pub record Ended : Type 0 where
   pub links : List ℕ
   pub slots : List ℕ
 
-abbrev pub full_at : End → Option ℕ
-full_at Through = none
-full_at (Full k) = some k
+-- the entry that found no room, if one did
+abbrev pub full_at : std.Option ℕ → Option ℕ
+full_at None = none
+full_at (Some k) = some k
 
 abbrev pub ran_of : Ran → Vertices → List ℕ → List ℕ → Ended
 ran_of r vs ls ss =
-    record { full = full_at r.end; quads = r.count.quads; moved = r.count.moved; highest = r.highest; vertices = vs; links = ls; slots = ss }
+    record { full = full_at r.full; quads = r.count.quads; moved = r.count.moved; highest = r.highest; vertices = vs; links = ls; slots = ss }
 
 -- the rule's course, its mesh laid out over what the lists held
 abbrev pub laid_out : Scene → Vertices → List ℕ → Course → Ended

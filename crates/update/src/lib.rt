@@ -10,9 +10,9 @@ ghost use Rattle.terms.specs.Modes.{tested_by};
 ghost use Rattle.terms.specs.Loans.{lists_lent};
 ghost use Rattle.update.specs.Runs.{ran_of, ran_by, Logging, patterns_mended};
 ghost use Rattle.lent.specs.Scenes.{Long};
-ghost use Rattle.update.specs.Outcome.{Updates, told_verdict};
+ghost use Rattle.update.specs.Outcome.{Updates, told_verdict, stopped_by};
 
-use answers::{Refusal, Verdict, is_refusal, refuse_if};
+use answers::{Refusal, Refused, Verdict, refuse_if};
 use drawing::write_patterns;
 use entries::{Entry, first_bad_entry, read_entry};
 use indexing::{Tally, due_work, has_room, index_work};
@@ -23,29 +23,21 @@ use steps::replay_steps;
 use terms::{Count, Lengths, Scene, Tested};
 use types::types_verdict;
 use util::inverted;
-use vav::clear;
 use works::{keys_around, work_of};
 
 // What a log is run under: the scene, the side tested, the room and the quads that there are.
 #[derive(Clone, Copy)]
-pub struct Task {
-    pub scene: Scene,
+pub struct Task<'a> {
+    pub scene: Scene<'a>,
     pub tested: Tested,
     pub room: usize,
     pub quads: usize,
 }
 
-// How far a log has gone: through it, or to an entry that found no room.
-#[derive(Clone, Copy)]
-pub enum End {
-    Through,
-    Full(usize),
-}
-
-// What a log has come to, with the highest number of quads on the way.
-#[derive(Clone, Copy)]
+// What a log has come to: the entry that found no room, if one did, and the highest number of quads on the way.
+#[derive(Clone, Copy, Debug, PartialEq, Eq)]
 pub struct Ran {
-    pub end: End,
+    pub full: Option<usize>,
     pub count: Count,
     pub highest: usize,
 }
@@ -58,40 +50,33 @@ fn run_log(
     colours: &mut [u32],
     links: &mut [u32],
     slots: &mut [u32],
-    kinds: &[u8],
-    covers: &[u8],
-    cubes: &[u32],
     log: &[u8],
-    task: Task,
+    task: Task<'_>,
 ) -> Ran
-    requires { Logging (scene_of task.scene kinds.now covers.now cubes.now) task.room log.now
+    requires { Logging (scene_of task.scene) task.room log.now
         (vertices_of positions.old normals.old uvs.old colours.old) links.old slots.old task.quads }
     ensures { ran_of result (vertices_of positions.new normals.new uvs.new colours.new) links.new slots.new
-        ≡ ran_by (tested_by task.tested) (scene_of task.scene kinds.now covers.now cubes.now) task.room log.now
-        (vertices_of positions.old normals.old uvs.old colours.old) links.old task.quads }
+        ≡ ran_by (tested_by task.entry.tested) (scene_of task.entry.scene) task.entry.room log.now
+        (vertices_of positions.old normals.old uvs.old colours.old) links.old task.entry.quads }
 {
     let scene = task.scene;
-    let tested = task.tested;
+    let types = scene.types;
     let inverse = inverted(scene.dims);
     let entries = log.len() / Entry::BYTES;
     let mut steps: [u32; 48] = [0; 48];
     let mut quads = task.quads;
     let mut moved: u64 = 0;
     let mut highest = task.quads;
-    let mut k: usize = 0;
-    while k < entries {
+    for k in 0..entries {
         let entry = read_entry(log, k);
-        let work = work_of(kinds, covers, tested, entry);
+        let work = work_of(types.kinds, types.covers, task.tested, entry);
         let keys = keys_around(scene.dims, inverse, entry.cell);
         let due = due_work(slots, &keys, entry.cell, work);
         if !has_room(due, quads, task.room) {
             return Ran {
-                end: End::Full(k),
-                count: Count {
-                    quads: quads,
-                    moved: moved,
-                },
-                highest: highest,
+                full: Some(k),
+                count: Count { quads, moved },
+                highest,
             };
         }
         let tally = index_work(
@@ -102,8 +87,8 @@ fn run_log(
             entry,
             due.word(),
             Tally {
-                quads: quads,
-                moved: moved,
+                quads,
+                moved,
                 top: highest,
                 steps: 0,
             },
@@ -115,7 +100,6 @@ fn run_log(
             uvs,
             colours,
             scene,
-            cubes,
             inverse,
             &steps[..words],
             quads,
@@ -123,15 +107,11 @@ fn run_log(
         quads = tally.quads;
         moved = tally.moved;
         highest = tally.top;
-        k += 1;
     }
     Ran {
-        end: End::Through,
-        count: Count {
-            quads: quads,
-            moved: moved,
-        },
-        highest: highest,
+        full: None,
+        count: Count { quads, moved },
+        highest,
     }
 }
 
@@ -142,8 +122,8 @@ fn mend_patterns(triangles: &mut [u32], before: usize, after: usize, highest: us
 {
     write_patterns(triangles, before, after);
     let start = 6 * after;
-    let words = 6 * (highest - after);
-    clear(&mut triangles[start..start + words], words, 0);
+    let end = 6 * highest;
+    triangles[start..end].fill(0);
 }
 
 // BAD_ENTRY: the lowest bad entry, else a ragged end.
@@ -152,48 +132,43 @@ fn entry_verdict(log: &[u8], cells: u32, types: u32) -> Verdict
 {
     let entries = log.len() / Entry::BYTES;
     let bad = first_bad_entry(log, cells, types);
-    let lowest = refuse_if(bad < entries, Refusal::BadEntry, bad);
-    if is_refusal(lowest) {
-        return lowest;
-    }
+    refuse_if(bad < entries, Refusal::BadEntry, bad)?;
     refuse_if(log.len() % Entry::BYTES != 0, Refusal::BadEntry, entries)
 }
 
 // BAD_SIZE, BAD_TYPES, BAD_NUMBER, NOT_A_CUBE, SHORT_ROOM and BAD_COUNT: what is asked before the mesh is looked at.
-fn told_verdict(
-    scene: Scene,
-    kinds: &[u8],
-    covers: &[u8],
-    cubes: &[u32],
-    lengths: Lengths,
-    quads: usize,
-) -> Verdict
-    ensures { (B : Lists) → Long B lengths → verdict_of result ≡ told_verdict (scene_of scene kinds.now covers.now cubes.now) B quads }
+fn told_verdict(scene: Scene<'_>, lengths: Lengths, quads: usize) -> Verdict
+    ensures { (B : Lists) → Long B lengths → verdict_of result ≡ told_verdict (scene_of scene.entry) B quads }
 {
-    let size = size_verdict(scene.dims);
-    if is_refusal(size) {
-        return size;
-    }
-    let typed = types_verdict(kinds, covers, cubes, scene.coloured, scene.d, scene.centre);
-    if is_refusal(typed) {
-        return typed;
-    }
+    size_verdict(scene.dims)?;
+    types_verdict(scene.types, scene.d, scene.centre)?;
     lent_verdict(scene, lengths, quads)
 }
 
-// What an update answers: what was done; or why and where it refuses, and what was done before: nothing, unless an entry finds no room.
-#[derive(Clone, Copy)]
-pub enum Updated {
-    Done(Count),
-    Refused(Refusal, usize, Count),
+// Why and where an update refuses, and what was done before: nothing, unless an entry finds no room.
+#[derive(Clone, Copy, Debug, PartialEq, Eq)]
+pub struct Stopped {
+    pub refused: Refused,
+    pub count: Count,
 }
+
+impl From<Refused> for Stopped {
+    ghost from_gives = { λ refused stopped. stopped ≡ stopped_by refused };
+
+    fn from(refused: Refused) -> Stopped {
+        Stopped {
+            refused,
+            count: Count { quads: 0, moved: 0 },
+        }
+    }
+}
+
+// What an update answers: what was done; or that it stopped.
+pub type Updated = Result<Count, Stopped>;
 
 // Mends the mesh in place, entry by entry of the log, by the side tested.
 pub fn update_mesh(
-    scene: Scene,
-    kinds: &[u8],
-    covers: &[u8],
-    cubes: &[u32],
+    scene: Scene<'_>,
     tested: Tested,
     log: &[u8],
     positions: &mut [u32],
@@ -205,10 +180,9 @@ pub fn update_mesh(
     slots: &mut [u32],
     quads: usize,
 ) -> Updated
-    ensures { Updates (tested_by tested) (scene_of scene kinds.now covers.now cubes.now) log.now
+    ensures { Updates (tested_by tested) (scene_of scene.entry) log.now
         (lists_lent positions.old normals.old uvs.old colours.old triangles.old links.old slots.old) quads result (lists_lent positions.new normals.new uvs.new colours.new triangles.new links.new slots.new) }
 {
-    let none = Count { quads: 0, moved: 0 };
     let lengths = Lengths {
         positions: positions.len(),
         normals: normals.len(),
@@ -218,39 +192,30 @@ pub fn update_mesh(
         links: links.len(),
         slots: slots.len(),
     };
-    let told = told_verdict(scene, kinds, covers, cubes, lengths, quads);
-    if let Verdict::Refuse(why, place) = told {
-        return Updated::Refused(why, place, none);
-    }
+    told_verdict(scene, lengths, quads)?;
     let cells = scene.dims.cell_count();
-    let linked = links_verdict(cells, links, slots, quads);
-    if let Verdict::Refuse(why, place) = linked {
-        return Updated::Refused(why, place, none);
-    }
-    let patterned = triangles_verdict(triangles, quads);
-    if let Verdict::Refuse(why, place) = patterned {
-        return Updated::Refused(why, place, none);
-    }
-    let entered = entry_verdict(log, cells, kinds.len() as u32);
-    if let Verdict::Refuse(why, place) = entered {
-        return Updated::Refused(why, place, none);
-    }
+    links_verdict(cells, links, slots, quads)?;
+    triangles_verdict(triangles, quads)?;
+    entry_verdict(log, cells, scene.types.kinds.len() as u32)?;
     let task = Task {
-        scene: scene,
-        tested: tested,
-        room: room_of(scene.coloured, lengths),
-        quads: quads,
+        scene,
+        tested,
+        room: room_of(scene.types.coloured, lengths),
+        quads,
     };
     let six = 6 * cells as usize;
     let faces = &mut slots[..six];
-    let ran = run_log(
-        positions, normals, uvs, colours, links, faces, kinds, covers, cubes, log, task,
-    );
+    let ran = run_log(positions, normals, uvs, colours, links, faces, log, task);
     let count = ran.count;
     mend_patterns(triangles, quads, count.quads, ran.highest);
-    let end = ran.end;
-    match end {
-        End::Through => Updated::Done(count),
-        End::Full(entry) => Updated::Refused(Refusal::NoRoom, entry, count),
+    match ran.full {
+        None => Ok(count),
+        Some(place) => Err(Stopped {
+            refused: Refused {
+                why: Refusal::NoRoom,
+                place,
+            },
+            count,
+        }),
     }
 }
