@@ -19,7 +19,8 @@ use terms::Scene;
 use util::{Coordinates, Row};
 use vav::Attribute;
 
-// Writes an attribute of a quad at place q.
+// Writes an attribute of a quad at place q. It is taken in where it is called, so that the compiler knows the attribute and each length.
+#[inline(always)]
 fn write_place(list: &mut [u32], quad: Quad<'_>, attribute: Attribute, q: usize)
     requires { Has (floats_of quad.coloured) (attribute_of attribute) × (4 * (attribute_of attribute).width * (q + 1) ≤ length list.old) }
     ensures { list.new ≡ put (4 * (attribute_of attribute).width * q)
@@ -31,7 +32,8 @@ fn write_place(list: &mut [u32], quad: Quad<'_>, attribute: Attribute, q: usize)
     quad.write(&mut list[start..end], attribute);
 }
 
-// Writes each attribute that the vertices have of a quad, at place q of its own list. The compiler knows each number of floats.
+// Writes each attribute that the vertices have of a quad, at place q of its own list. It is taken in where it is called, so that the compiler knows each number of floats.
+#[inline(always)]
 pub fn write_places(
     positions: &mut [u32],
     normals: &mut [u32],

@@ -115,7 +115,9 @@ impl Quad<'_> {
         );
     }
 
-    // Writes an attribute into the quad's own stretch of the attribute's list, its vertices in the order 0, 1, 3, 2.
+    // Writes an attribute into the quad's own stretch of the attribute's list, its vertices in the order 0, 1, 3, 2. It is taken in where it is
+    // called, so that the compiler knows the attribute.
+    #[inline(always)]
     pub fn write(self, out: &mut [u32], attribute: Attribute)
         requires { Has (floats_of self.coloured) (attribute_of attribute) × (length out.old ≡ 4 * (attribute_of attribute).width) }
         ensures { out.new ≡ attribute_in (floats_of self.entry.coloured) (attribute_of attribute) 4 (words_of self.entry) }
