@@ -5,10 +5,10 @@ use Prim.Native.Nat.{ℕ, zero, suc, ◌+◌, ◌-◌, ◌*◌, ◌/◌, ◌%◌
 use native.Mathlib.Omega.{arith}
 use mathlib.Core.Bool.{Bool, true, false, not, ◌&&◌, beq, cond}
 use lib.IntN.{ℤ, pos}
-use lib.Dec.{T, leb, ltb, eqb, ltb→lt, lt→ltb, le→leb}
+use lib.Dec.{T, leb, ltb, eqb, ltb→lt, lt→ltb}
 use borrow.Author.Tests.{ne_eqb, le-ltb}
 use lib.Ieee.{Float, nan, inf, fin, Format, binary32, prec, emax, low, unlike, up, down, hid, odd, units, round, neg, sum, add, sub, mul}
-use lib.Ieee.{of_int, in_float, of_fields, of_bits, nan_bits, is_nan}
+use lib.Ieee.{of_int, of_fields, of_bits, nan_bits, is_nan}
 use lib.Ieee.Fits.{round_is}
 use lib.Ieee.Bits.{nan_bits_above}
 use lib.Ieee.Scale as scale
@@ -132,8 +132,3 @@ value_finite (fin t m e) s a c v = is_fin t m e
 pub whole_finite : (n : ℕ) → n ≤ 2 ^ 24 → Finite (of_int binary32 (pos n))
 unfolding of_int
 whole_finite n h = value_finite (round binary32 false n 1) false n 1 (round_whole binary32 false n h)
-
--- what a cast to `f32` asks
-pub whole_casts : (n : ℕ) → n ≤ 2 ^ 24 → T (in_float binary32 (pos n))
-unfolding in_float
-whole_casts n h = le→leb n (2 ^ 24) h

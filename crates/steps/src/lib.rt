@@ -17,7 +17,7 @@ use util::{Inverse, cords_of};
 use vav::free_row;
 use voxel_mesh::floats_of;
 
-// Marks a step that is a cut.
+// Marks a step that is a cut. A step stays two words: as an enum it would take three, in a list of fixed length that each entry fills.
 pub const CUT: u32 = 256;
 
 // Frees place q of `count` in the list of each attribute that the vertices have. The compiler knows each number of words.

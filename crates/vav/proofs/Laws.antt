@@ -7,16 +7,15 @@ use native.Mathlib.Numerals.{add-one}
 use native.Mathlib.Nat.{add-zero, mul-le-mul_left}
 use native.Mathlib.Omega.{arith}
 use native.Mathlib.Decide.{dec_lt}
-use lib.ListN.{length, take, drop, get_or, set, replicate, length-append, length-take, length-drop, length-replicate, get_or-append, take-append-drop, drop_of_length-le, replicate-append-replicate}
+use lib.ListN.{length, take, drop, get_or, set, length-append, length-take, length-drop, get_or-append, take-append-drop, drop_of_length-le}
 use lib.Seq.{ext_get_or, sets, sets-eq, take_at, drop_at, drop-append-add, take-suc, drop-cons, get_or-drop, get_or-take, set_at, set_split, get_or-append-add, drop-drop}
 use borrow.Author.Tests.{leb-false}
 use borrow.Rule.Slice.PartMut.{put_mid}
 use Rattle.rules.specs.Lists.{part}
 use Rattle.rules.specs.Update.{shifts}
-use Rattle.rules.specs.Update as rule
 use Rattle.rules.proofs.ListLaws.{split}
 pub use Rattle.rules.proofs.Attributes.{length_part}
-use Rattle.vav.specs.Rows.{put, four, zeros, source_of, freed}
+use Rattle.vav.specs.Rows.{put, four, source_of}
 
 pub part_at : (at n : ℕ) (xs : List ℕ) (k : ℕ) → k < n → get_or (part at n xs) k 0 ≡ get_or xs (at + k) 0
 part_at at n xs k h = rw (get_or-take n (drop at xs) k 0 h, get_or-drop)
@@ -41,9 +40,6 @@ pub part_more : (at n : ℕ) (xs : List ℕ) → at + n < length xs → part at 
 part_more at n xs h =
     let k : n < length (drop at xs) = simp length-drop (omega arith) in
     rw (take_more n (drop at xs) k, get_or-drop)
-
-pub replicate_more : (n v : ℕ) → replicate (n + 1) v ≡ replicate n v ++ (v ∷ [])
-replicate_more n v = sym (replicate-append-replicate n 1 v)
 
 -- ---- put
 module _ (at : ℕ) (ys xs : List ℕ) where
@@ -166,11 +162,6 @@ source_bounds q Q h =
     split (λ b. shifts Q q ≡ b → (q < cond b (suc q) (Q - 1)) × (cond b (suc q) (Q - 1) ≤ Q)) (shifts Q q)
     (λ s e. (omega arith, omega arith)) (λ s e. (omega (arith, leb-false (Q - q) 6 e), omega arith)) refl
 
--- as many rows move as the rule says
-pub moved_is : (q Q : ℕ) → q < Q → Q - source_of q Q ≡ rule.moved_by Q q
-moved_is q Q h =
-    split (λ b. Q - cond b (suc q) (Q - 1) ≡ cond b (Q - 1 - q) 1) (shifts Q q) (λ e. omega arith) (λ e. omega arith)
-
 -- the stretches of a removal, in words, where `from` is the first row that moves
 pub record Spans (n q Q from : ℕ) : Type 0 where
   pub below : from ≤ Q
@@ -193,19 +184,6 @@ spans n q Q from h e =
       last = omega (arith, ap (λ (k : ℕ). n * k) l);
       room = omega (arith, mul-le-mul_left n r);
     }
-
--- freeing a row keeps the length
-pub length-freed : (n q Q : ℕ) (xs : List ℕ) → q < Q → n * Q ≤ length xs → length (freed n q Q xs) ≡ length xs
-unfolding freed
-length-freed n q Q xs h l =
-    let s = spans n q Q (source_of q Q) h refl in
-    let ys = part (n * source_of q Q) (n * (Q - source_of q Q)) xs in
-    let p : length ys ≡ n * (Q - source_of q Q) = length_part (n * source_of q Q) (n * (Q - source_of q Q)) xs (omega arith) in
-    let a : length (put (n * q) ys xs) ≡ length xs = length-put (n * q) ys xs (omega arith) in
-    let z : length (zeros n) ≡ n = length-replicate n 0 in
-    length-put (n * (Q - 1)) (zeros n) (put (n * q) ys xs) (omega arith) ∙ a
-
--- ---- rows
 
 -- ---- a list that is right up to a place, whatever comes after
 pub record Begun (whole : List ℕ) (j : ℕ) (xs : List ℕ) : Type 0 where

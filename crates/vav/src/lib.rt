@@ -53,7 +53,7 @@ pub fn write_four(list: &mut [u32], at: usize, a: u32, b: u32, c: u32, d: u32)
     list[at + 3] = d;
 }
 
-// Copies four words of another list.
+// Copies four words of another list. `copy_from_slice` would first ask whether the two overlap.
 pub fn copy_four(list: &mut [u32], at: usize, source: &[u32], from: usize)
     requires { (at + 4 ≤ length list.old) × (from + 4 ≤ length source.now) }
     ensures { list.new ≡ put at (four source.now from) list.old }
@@ -105,6 +105,7 @@ pub fn clear(list: &mut [u32], n: usize, q: usize)
 }
 
 // Copies rows down, from row `from` on to row `to` on: the stretches may overlap.
+// Word by word, as std has no `copy_within`.
 fn copy_down(list: &mut [u32], n: usize, from: usize, to: usize, rows: usize)
     requires { (n * to ≤ n * from) × (n * from + n * rows ≤ length list.old) }
     ensures { list.new ≡ put (n * to) (part (n * from) (n * rows) list.old) list.old }

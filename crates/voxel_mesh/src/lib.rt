@@ -16,7 +16,7 @@ use answers::{Refusal, Verdict, refuse_if, refuse_lowest};
 use floats::{Triple, corner_word, is_finite_bits, uv_word};
 use vav::write_four;
 
-// What a cube is made from; each float is its bits.
+// What a cube is made from, but for its texture, which is lent; each float is its bits.
 #[derive(Clone, Copy)]
 pub struct Shape {
     pub d: Triple,
