@@ -26,8 +26,12 @@ use Rattle.rules.proofs.Refusals.{Within, UPDATE_FIRST, update_numbers, zero_fin
 use Rattle.lines.specs.Written.{OfFaces, quads_of}
 use Rattle.lines.proofs.Writing.{room_as}
 use Rattle.lines.proofs.Lining.{lines_decoded, lines_room}
-use Rattle.telling.specs.Numbers.{outcome}
+use Rattle.std.specs.Prelude.{Result, Ok, Err, IfOk}
+use Rattle.terms.specs.declared.Count.{Count}
+use Rattle.update.specs.declared.Stopped.{Stopped}
+use Rattle.update.specs.Outcome.{answer_of, outcome_of}
 use Rattle.working.specs.Steps.{worked_on}
+use Rattle.working.proofs.Cubing.{some_number}
 use Rattle.chunk.specs.Steps.{lines_by, lines_with, Shown}
 
 -- ---- an update that is not refused
@@ -75,7 +79,7 @@ module _ (S : Scene) (log : List ℕ) (B : Lists) (Q : ℕ) where
     inside : c.highest ≤ length B.links
     inside = (room_for S B c.highest sane.within).links
 
-    module _ (small : cells S.size ≤ 512) (held : length B.links ≡ 128) (moved : ℕ) (out : List ℕ) (fits : moved < 18446744073709551616)
+    module _ (small : cells S.size ≤ 512) (held : length B.links ≡ 128) (moved : ℕ) (out : List ℕ)
         (long : 1317 ≤ length out) where
       abbrev m : List Quad
       m = c.quads
@@ -111,7 +115,7 @@ module _ (S : Scene) (log : List ℕ) (B : Lists) (Q : ℕ) where
             room =
                 room_as same_lines
                 (lines_room (answered (length m) moved) m most
-                (all_of (λ q. q.key < 6000) m blank (λ q h. let k = keyed q h in omega arith)) (omega (arith, most)) fits long);
+                (all_of (λ q. q.key < 6000) m blank (λ q h. let k = keyed q h in omega arith)) (omega (arith, most)) long);
           }
 
       shown : {quads : ℕ} {links : List ℕ} → quads ≡ (update_mesh source S log B Q).answer.quads → links ≡ (update_mesh source S log B Q).lists.links
@@ -145,28 +149,40 @@ module _ (S : Scene) (outer g : List ℕ) (culling : Bool) (B : Lists) where
 
 -- ---- the mesh, then the update
 
-module _ (file : List ℕ) (S : Scene) (outer : List ℕ) (B : Lists) (a : Answer) (L : Lists) (told : outcome a L ≡ worked_on file S outer B) where
+module _ (file : List ℕ) (S : Scene) (outer : List ℕ) (B : Lists) (a : Answer) (L : Lists) (told : record { answer = a; lists = L } ≡ worked_on file S outer B) where
   abbrev o : Outcome
   o = mesh_grid S outer (grid_in file) (eqb (word file 9) 1) B
 
-  pub worked_shown : (out : List ℕ) → cells S.size ≤ 512 → length B.links ≡ 128 → a.moved < 18446744073709551616 → 1317 ≤ length out
+  pub worked_shown : (out : List ℕ) → cells S.size ≤ 512 → length B.links ≡ 128 → 1317 ≤ length out
       → a.number ≡ 0 → Shown a.quads a.moved L.links out
-  worked_shown out small held fits long e = go o.answer.number refl told
+  worked_shown out small held long e = go o.answer.number refl told
     where
-      go : (k : ℕ) → o.answer.number ≡ k → outcome a L ≡ update_after S (log_in file) o k → Shown a.quads a.moved L.links out
+      go : (k : ℕ) → o.answer.number ≡ k → record { answer = a; lists = L } ≡ update_after S (log_in file) o k → Shown a.quads a.moved L.links out
       go zero n t =
           shown S (log_in file) o.lists o.answer.quads
           (accepted S (log_in file) o.lists o.answer.quads (ap (λ (x : Outcome). x.answer.number) (sym t) ∙ e))
-          small (meshed_links S outer (grid_in file) (eqb (word file 9) 1) B ∙ held) a.moved out fits long
+          small (meshed_links S outer (grid_in file) (eqb (word file 9) 1) B ∙ held) a.moved out long
           (ap (λ (x : Outcome). x.answer.quads) t) (ap (λ (x : Outcome). x.lists.links) t)
       go (suc k) n t = absurd (omega (arith, ap (λ (x : Outcome). x.answer.number) t))
 
   pub worked_lines : (a.number ≡ 0 → a.quads ≤ length L.links) → lines_with a L.links ≡ lines_of S (worked_on file S outer B)
   worked_lines h = go a.number refl ∙ ap (lines_of S) told
     where
-      go : (k : ℕ) → a.number ≡ k → lines_by k a L.links ≡ rules.lines_by S (outcome a L) k
+      go : (k : ℕ) → a.number ≡ k → lines_by k a L.links ≡ rules.lines_by S (record { answer = a; lists = L }) k
       go zero e = sym (lines_decoded a S.types.coloured a.quads L (h e))
       go (suc k) e = refl
+
+-- what is asked of an answer that is written
+pub worked_fits : (file : List ℕ) (S : Scene) (outer : List ℕ) (B : Lists) (r : Result Count Stopped) (L : Lists) → outcome_of r L ≡ worked_on file S outer B
+    → (out : List ℕ) → cells S.size ≤ 512 → length B.links ≡ 128 → 1317 ≤ length out → IfOk r (λ count. Shown count.quads count.moved L.links out)
+worked_fits file S outer B (Ok count) L told out small held long = worked_shown file S outer B (answer_of (Ok count)) L told out small held long refl
+worked_fits file S outer B (Err s) L told out small held long = tt
+
+pub worked_written : (file : List ℕ) (S : Scene) (outer : List ℕ) (B : Lists) (r : Result Count Stopped) (L : Lists) → outcome_of r L ≡ worked_on file S outer B
+    → (out : List ℕ) → IfOk r (λ count. Shown count.quads count.moved L.links out) → lines_with (answer_of r) L.links ≡ lines_of S (worked_on file S outer B)
+worked_written file S outer B (Ok count) L told out s = worked_lines file S outer B (answer_of (Ok count)) L told (λ e. s.most)
+worked_written file S outer B (Err s) L told out h =
+    worked_lines file S outer B (answer_of (Err s)) L told (λ e. absurd (some_number s.refused.why e))
 
 -- ---- what is written of an answer
 

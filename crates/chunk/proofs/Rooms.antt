@@ -8,7 +8,8 @@ use lib.Seq.{take_at, length-take-le}
 use Rattle.rules.specs.Lists.{table, filled}
 use Rattle.rules.specs.Update.{ENTRY_BYTES}
 use Rattle.rules.specs.Cells.{cells}
-use Rattle.rules.specs.Program.{word, size_in, grid_start, grid_in}
+use Rattle.rules.specs.Program.{word, size_in, grid_start, grid_in, room_in}
+use Rattle.terms.specs.Loans.{lists_lent}
 use Rattle.rules.proofs.ListLaws.{length-table}
 use Rattle.workfile.specs.Work.{Good}
 use Rattle.lines.specs.Written.{Wrote}
@@ -58,6 +59,20 @@ module _ (file : List ℕ) where
       where
         few : {n m : ℕ} → n ≡ m → m ≤ 512 → 6 * n ≤ 3072
         few e h = omega arith
+
+-- what is lent of it is the room that the rules speak of
+pub lists_room : (file : List ℕ) {p n u c t l s : List ℕ} {six : ℕ} → p ≡ zeros 3072 → n ≡ zeros 3072 → u ≡ zeros 3072 → c ≡ zeros 3072
+    → t ≡ zeros 3072 → l ≡ zeros 3072 → s ≡ zeros 3072 → (six ≡ 6 * cells (size_in file)) × (six ≤ 3072)
+    → lists_lent (take 1536 p) (take 1536 n) (take 1024 u) (take 2048 c) (take 768 t) (take 128 l) (take six s) ≡ room_in file
+lists_room file p n u c t l s six =
+    let ps = room_first p {k = 128 * 12} refl (omega arith) in
+    let ns = room_first n {k = 128 * 12} refl (omega arith) in
+    let us = room_first u {k = 128 * 8} refl (omega arith) in
+    let cs = room_first c {k = 128 * 16} refl (omega arith) in
+    let ts = room_first t {k = 128 * 6} refl (omega arith) in
+    let ls = room_first l {k = 128} refl (omega arith) in
+    let ss = room_first s six.0 six.1 in
+    λ i. lists_lent (ps i) (ns i) (us i) (cs i) (ts i) (ls i) (ss i)
 
 -- ---- the first words of what was written
 

@@ -49,6 +49,15 @@ length_digits (suc n) (suc m) k h =
     (λ l. rw (lt-ltb k 10 l) (omega arith))
     (λ l. rw (le-ltb k 10 l) (simp length-append (omega (arith, length_digits n m (k / 10) (omega arith)))))
 
+-- there are no more digits than there is leave for
+pub length_most : (n k : ℕ) → length (digits n k) ≤ n
+unfolding digits
+length_most zero k = omega arith
+length_most (suc n) k =
+    by_digits (length (digits (suc n) k) ≤ suc n) k
+    (λ l. rw (lt-ltb k 10 l) (omega arith))
+    (λ l. rw (le-ltb k 10 l) (simp length-append (omega (arith, length_most n (k / 10)))))
+
 -- ---- numbers of 64 bits
 
 pub decimal_last : (k : ℕ) → k < 10 → decimal k ≡ digit k ∷ []
@@ -66,11 +75,11 @@ length_more k h l = ap length (decimal_more k h l) ∙ length-append (decimal (k
 pub length_some : (k : ℕ) → k < 18446744073709551616 → 1 ≤ length (decimal k)
 length_some k l = by_digits (1 ≤ length (decimal k)) k (λ h. omega (arith, length_last k h)) (λ h. omega (arith, length_more k h l))
 
-pub length-decimal : (k : ℕ) → k < 18446744073709551616 → length (decimal k) ≤ 20
-length-decimal k h = length_digits 20 19 k (omega arith)
+pub length-decimal : (k : ℕ) → length (decimal k) ≤ 20
+length-decimal k = length_most 20 k
 
-pub decimal_room : (k : ℕ) {out : List ℕ} → k < 18446744073709551616 → 20 ≤ length out → Room (decimal k) 0 out
-decimal_room k h l = record { fits = omega (arith, length-decimal k h) }
+pub decimal_room : (k : ℕ) {out : List ℕ} → 20 ≤ length out → Room (decimal k) 0 out
+decimal_room k l = record { fits = omega (arith, length-decimal k) }
 
 -- ---- a number is written from its end: what is left to write, and where its last digit goes
 pub record Shown (n at : ℕ) (before now : List ℕ) (left last : ℕ) : Type 0 where

@@ -130,21 +130,20 @@ quads_short i (q ∷ m) h k =
     rw (sym (quad_first i q m)) (simp length-append (omega (arith, line, quads_short (suc i) m (omega arith) k.1)))
 
 -- 128 quads of at most 512 cells
-pub lines_short : (a : Answer) (m : List Quad) → length m ≤ 128 → All (λ q. q.key < 6000) m → a.quads < 1000 → a.moved < 18446744073709551616
+pub lines_short : (a : Answer) (m : List Quad) → length m ≤ 128 → All (λ q. q.key < 6000) m → a.quads < 1000
     → length (mesh_lines a m) ≤ 1317
-lines_short a m h k q v =
-    simp length-append (omega (arith, length_digits 20 2 a.quads q, length-decimal a.moved v, quads_short 0 m (omega arith) k))
+lines_short a m h k q =
+    simp length-append (omega (arith, length_digits 20 2 a.quads q, length-decimal a.moved, quads_short 0 m (omega arith) k))
 
-pub refused_short : (number place : ℕ) → number < 18446744073709551616 → place < 18446744073709551616 → length (refused_line (refused number place)) ≤ 53
-refused_short number place h l = simp length-append (omega (arith, length-decimal number h, length-decimal place l))
+pub refused_short : (number place : ℕ) → length (refused_line (refused number place)) ≤ 53
+refused_short number place = simp length-append (omega (arith, length-decimal number, length-decimal place))
 
 pub lines_room : (a : Answer) (m : List Quad) {out : List ℕ} → length m ≤ 128 → All (λ q. q.key < 6000) m → a.quads < 1000
-    → a.moved < 18446744073709551616 → 1317 ≤ length out → Room (mesh_lines a m) 0 out
-lines_room a m h k q v l = record { fits = omega (arith, lines_short a m h k q v) }
+    → 1317 ≤ length out → Room (mesh_lines a m) 0 out
+lines_room a m h k q l = record { fits = omega (arith, lines_short a m h k q) }
 
-pub refused_room : (number place : ℕ) {out : List ℕ} → number < 18446744073709551616 → place < 18446744073709551616 → 53 ≤ length out
-    → Room (refused_line (refused number place)) 0 out
-refused_room number place h l k = record { fits = omega (arith, refused_short number place h l) }
+pub refused_room : (number place : ℕ) {out : List ℕ} → 53 ≤ length out → Room (refused_line (refused number place)) 0 out
+refused_room number place k = record { fits = omega (arith, refused_short number place) }
 
 -- ---- lines show the keys alone: those of the quads that four lists hold are those of the links
 keys_shown : (tint : Bool) (B : Lists) (n k i : ℕ) → k + n ≤ length B.links

@@ -1,7 +1,7 @@
 // Runs the cases that tools/workfiles.py wrote; prints how many are right.
 #![tactic(auto)]
 
-ghost use Rattle.std.specs.Prelude.{◌^◌, ◌<◌, length, IfSome};
+ghost use Rattle.std.specs.Prelude.{◌<◌, length, IfSome};
 
 use std::io;
 use std::io::Read;
@@ -20,7 +20,7 @@ const EXAMPLE_LINKS: [u32; 6] = [
 
 // A word and the bytes after it.
 fn next_word(bytes: &[u8]) -> Option<(u32, &[u8])>
-    ensures { IfSome result (λ next. (next.0 < 2 ^ 32) × (length next.1.now < length bytes.now)) }
+    ensures { IfSome result (λ next. length next.1.now < length bytes.now) }
 {
     let (head, rest) = bytes.split_first_chunk::<4>()?;
     Some((u32::from_le_bytes(*head), rest))
@@ -57,6 +57,7 @@ fn is_right_decimal(case: &[u8]) -> bool {
     out[..end] == told[..]
 }
 
+#[tactic(auto, using(lines::proofs::Lining::refused_room))]
 fn is_right_refusal(case: &[u8]) -> bool {
     let Some((number, rest)) = next_word(case) else {
         return false;

@@ -189,7 +189,7 @@ module _ (file : List ℕ) (t : ℕ) (registry : List ℕ) (b : Building file t 
 -- ---- what a cube call answers by its number
 
 -- no refusal's number is 0
-some_number : (why : Refusal) → number_of why ≡ 0 → ⊥
+pub some_number : (why : Refusal) → number_of why ≡ 0 → ⊥
 some_number BadFile e = omega arith
 some_number BadSize e = omega arith
 some_number BadTypes e = omega arith

@@ -8,7 +8,7 @@ pub loop-left-init : goal.loop-left-init
 loop-left-init c = (omega arith, refl)
 
 pub overflow_add-count : goal.overflow_add-count
-overflow_add-count c = omega (arith, length-decimal c.args.n (omega arith))
+overflow_add-count c = omega (arith, length-decimal c.args.n)
 
 pub loop-left-smaller : goal.loop-left-smaller
 loop-left-smaller c = omega arith

@@ -3,4 +3,4 @@ use Rattle.lines.proofs.Decimals.{decimal_room}
 use Rattle.workfile_run.proofs.is_right_decimal.Goals as goal
 
 pub write_decimal-end-requires : goal.write_decimal-end-requires
-write_decimal-end-requires c = decimal_room _ (omega arith) (omega arith)
+write_decimal-end-requires c = decimal_room _ (omega arith)

@@ -16,5 +16,5 @@ pub write_lines-end-requires : goal.write_lines-end-requires
 write_lines-end-requires c = (
   faces,
   lines_room (answered 6 14) (quads_of example) (omega arith)
-      (omega arith, (omega arith, (omega arith, (omega arith, (omega arith, (omega arith, tt)))))) (omega arith) (omega arith) (omega arith),
+      (omega arith, (omega arith, (omega arith, (omega arith, (omega arith, (omega arith, tt)))))) (omega arith) (omega arith),
 )
