@@ -2,6 +2,7 @@
 -- call changes no lent list; only an update out of room keeps the entries before the one it stopped at, complete, and says how many", and
 -- demand 2, "cubes, fresh meshes and updates .. are proved against 01's face rules": all that an answer says.
 -- That a call ends, for all input, is proved with its code: none of the four has a `requires`. Assumes nothing.
+use Rattle.std.specs.Prelude.{Ok, Err}
 use Prim.Native.Nat.{ℕ, ◌*◌}
 use mathlib.Core.Path.{◌≡◌, refl, sym, ap, ◌∙◌, subst}
 use mathlib.Core.Logic.{◌≢◌}
@@ -21,20 +22,11 @@ use Rattle.rules.specs.Calls.{CubeOutcome, cube_verdict, cube_by, Scene, faces, 
 use Rattle.rules.proofs.Refusals.{Within, given, CUBE, MESH, UPDATE_FIRST, CHECK, cube_numbers, mesh_numbers, update_numbers, check_numbers}
 use Rattle.answers.specs.declared.Refusal.{Refusal}
 use Rattle.answers.specs.declared.Refusal.TheVariants.{NoRoom}
-use Rattle.answers.specs.declared.Verdict.{Verdict}
-use Rattle.answers.specs.declared.Verdict.TheVariants.{Fine, Refuse}
-use Rattle.answers.specs.Verdicts.{number_of}
-use Rattle.voxel_mesh.specs.declared.Cubed.{Cubed}
-use Rattle.voxel_mesh.specs.declared.Cubed.TheVariants as cubed
-use Rattle.voxel_mesh.specs.Outcome as cube
-use Rattle.meshem.specs.declared.Meshed.{Meshed}
-use Rattle.meshem.specs.declared.Meshed.TheVariants as meshed
+use Rattle.answers.specs.Verdicts.{number_of, verdict_of}
 use Rattle.meshem.specs.Outcome as mesh
 use Rattle.terms.specs.declared.Count.{Count}
-use Rattle.update.specs.declared.Updated.{Updated}
-use Rattle.update.specs.declared.Updated.TheVariants as updated
 use Rattle.update.specs.Outcome.{outcome_of}
-use Rattle.demands.specs.Promised.{Cubes, Meshes, Updates, Checks}
+use Rattle.demands.specs.Promised.{Cubes, Meshes, Updates, Checks, Verdict, Meshed, Updated, Fine, refused_for, stopped_for}
 use Rattle.demands.specs.Chunks.{first_of}
 use Rattle.demands.specs.Room.{needed_at, FirstWithout}
 use Rattle.demands.proofs.Telling.{numbered}
@@ -74,10 +66,10 @@ abbrev says_by : Shape → List ℕ → rules.Verdict → List ℕ → Type 0
 says_by shape entry fine exit = CubeMade shape entry exit
 says_by shape entry (refuse number place) exit = Refuses CUBE (cube_verdict shape entry) number place × (exit ≡ entry)
 
-abbrev pub CubeSays : Shape → List ℕ → Cubed → List ℕ → Type 0
-CubeSays shape entry r exit = says_by shape entry (cube.verdict_of r) exit
+abbrev pub CubeSays : Shape → List ℕ → Verdict → List ℕ → Type 0
+CubeSays shape entry r exit = says_by shape entry (verdict_of r) exit
 
-pub what_a_cube_call_says : (shape : Shape) (entry : List ℕ) (r : Cubed) (exit : List ℕ) → Cubes shape entry r exit → CubeSays shape entry r exit
+pub what_a_cube_call_says : (shape : Shape) (entry : List ℕ) (r : Verdict) (exit : List ℕ) → Cubes shape entry r exit → CubeSays shape entry r exit
 what_a_cube_call_says shape entry r exit = by r
   where
     done : (v : rules.Verdict) → cube_verdict shape entry ≡ v → Within CUBE v
@@ -92,12 +84,9 @@ what_a_cube_call_says shape entry r exit = by r
     refused number place d (refuse n p) t w e =
         (refuses t w (ap (λ (o : CubeOutcome). o.answer.number) e) (ap (λ (o : CubeOutcome). o.answer.place) e), ap (λ (o : CubeOutcome). o.out) e)
 
-    by : (r : Cubed) → Cubes shape entry r exit → CubeSays shape entry r exit
-    by cubed.Done = done (cube_verdict shape entry) refl (cube_numbers shape entry)
-    by cubed.BadNumber = refused 4 0 (λ e. omega arith) (cube_verdict shape entry) refl (cube_numbers shape entry)
-    by cubed.BadAtlas = refused 5 0 (λ e. omega arith) (cube_verdict shape entry) refl (cube_numbers shape entry)
-    by (cubed.BadFace place) = refused 7 place (λ e. omega arith) (cube_verdict shape entry) refl (cube_numbers shape entry)
-    by cubed.ShortRoom = refused 9 0 (λ e. omega arith) (cube_verdict shape entry) refl (cube_numbers shape entry)
+    by : (r : Verdict) → Cubes shape entry r exit → CubeSays shape entry r exit
+    by (Ok u) = done (cube_verdict shape entry) refl (cube_numbers shape entry)
+    by (Err e) = refused (number_of e.why) e.place (not_zero e.why) (cube_verdict shape entry) refl (cube_numbers shape entry)
 
 -- ---- a fresh mesh
 
@@ -108,9 +97,9 @@ pub record Made (S : Scene) (outer grid : List ℕ) (culling : Bool) (entry : Li
   pub laid : let m = fresh_mesh S outer grid culling in exit ≡ layout (faces S) S.types.coloured (length m) m entry
 
 abbrev pub MeshSays : Scene → List ℕ → List ℕ → Bool → Lists → Meshed → Lists → Type 0
-MeshSays S outer grid culling entry (meshed.Done quads) exit = Made S outer grid culling entry quads exit
-MeshSays S outer grid culling entry (meshed.Refused why place) exit =
-    Refuses MESH (mesh_verdict S outer grid culling entry) (number_of why) place × (exit ≡ entry)
+MeshSays S outer grid culling entry (Ok quads) exit = Made S outer grid culling entry quads exit
+MeshSays S outer grid culling entry (Err r) exit =
+    Refuses MESH (mesh_verdict S outer grid culling entry) (number_of r.why) r.place × (exit ≡ entry)
 
 pub what_a_mesh_call_says : (S : Scene) (outer grid : List ℕ) (culling : Bool) (entry : Lists) (r : Meshed) (exit : Lists)
     → Meshes S outer grid culling entry r exit → MeshSays S outer grid culling entry r exit
@@ -119,11 +108,11 @@ what_a_mesh_call_says S outer grid culling entry r exit e =
   where
     go : (r : Meshed) (v : rules.Verdict) → mesh_verdict S outer grid culling entry ≡ v → Within MESH v
         → mesh.outcome r exit ≡ meshed_by v S (fresh_mesh S outer grid culling) entry → MeshSays S outer grid culling entry r exit
-    go (meshed.Done quads) fine t w e =
+    go (Ok quads) fine t w e =
         record { accepted = t; counted = ap (λ (o : Outcome). o.answer.quads) e; laid = ap (λ (o : Outcome). o.lists) e }
-    go (meshed.Refused why place) fine t w e = absurd (not_zero why (ap (λ (o : Outcome). o.answer.number) e))
-    go (meshed.Done quads) (refuse n p) t w e = unlisted refl w (ap (λ (o : Outcome). o.answer.number) e)
-    go (meshed.Refused why place) (refuse n p) t w e =
+    go (Err r) fine t w e = absurd (not_zero r.why (ap (λ (o : Outcome). o.answer.number) e))
+    go (Ok quads) (refuse n p) t w e = unlisted refl w (ap (λ (o : Outcome). o.answer.number) e)
+    go (Err r) (refuse n p) t w e =
         (refuses t w (ap (λ (o : Outcome). o.answer.number) e) (ap (λ (o : Outcome). o.answer.place) e), ap (λ (o : Outcome). o.lists) e)
 
 -- ---- an update
@@ -140,7 +129,7 @@ pub record Ran (tested : Tested) (S : Scene) (log : List ℕ) (entry : Lists) (Q
 pub record Stopped (tested : Tested) (S : Scene) (log : List ℕ) (entry : Lists) (Q k : ℕ) (count : Count) (exit : Lists) : Type 0 where
   pub ran : Ran tested S log entry Q (some k) count exit
   pub first : FirstWithout tested S log entry Q k (needed_at tested S log entry Q k)
-  pub before : Updates tested S (first_of k log) entry Q (updated.Done count) exit
+  pub before : Updates tested S (first_of k log) entry Q (Ok count) exit
 
 -- a refusal counts nothing and changes nothing; NO_ROOM alone, 14, tells what the entries before it did, and keeps them
 pub record Turned (tested : Tested) (S : Scene) (log : List ℕ) (entry : Lists) (Q number place : ℕ) (count : Count) (exit : Lists) : Type 0 where
@@ -150,8 +139,8 @@ pub record Turned (tested : Tested) (S : Scene) (log : List ℕ) (entry : Lists)
   pub stopped : number ≡ 14 → Stopped tested S log entry Q place count exit
 
 abbrev pub UpdateSays : Tested → Scene → List ℕ → Lists → ℕ → Updated → Lists → Type 0
-UpdateSays tested S log entry Q (updated.Done count) exit = Ran tested S log entry Q none count exit
-UpdateSays tested S log entry Q (updated.Refused why place count) exit = Turned tested S log entry Q (number_of why) place count exit
+UpdateSays tested S log entry Q (Ok count) exit = Ran tested S log entry Q none count exit
+UpdateSays tested S log entry Q (Err s) exit = Turned tested S log entry Q (number_of s.refused.why) s.refused.place s.count exit
 
 pub what_an_update_call_says : (tested : Tested) (S : Scene) (log : List ℕ) (entry : Lists) (Q : ℕ) (r : Updated) (exit : Lists)
     → Updates tested S log entry Q r exit → UpdateSays tested S log entry Q r exit
@@ -169,11 +158,12 @@ what_an_update_call_says tested S log entry Q r exit e =
     through : (r : Updated) → update_verdict S log entry Q ≡ fine → (full : Option ℕ) → c.full ≡ full
         → outcome_of r exit ≡ record { answer = course_answer c full; lists = layout (faces S) S.types.coloured c.highest c.quads entry }
         → UpdateSays tested S log entry Q r exit
-    through (updated.Done count) t none f e =
+    through (Ok count) t none f e =
         ran count none t f (ap (λ (o : Outcome). o.answer.quads) e) (ap (λ (o : Outcome). o.answer.moved) e) (ap (λ (o : Outcome). o.lists) e)
-    through (updated.Refused why place count) t none f e = absurd (not_zero why (ap (λ (o : Outcome). o.answer.number) e))
-    through (updated.Done count) t (some k) f e = let z = ap (λ (o : Outcome). o.answer.number) e in absurd (omega arith)
-    through (updated.Refused why k count) t (some i) f e =
+    through (Err s) t none f e = absurd (not_zero s.refused.why (ap (λ (o : Outcome). o.answer.number) e))
+    through (Ok count) t (some k) f e = let z = ap (λ (o : Outcome). o.answer.number) e in absurd (omega arith)
+    through (Err s) t (some i) f e =
+        let k = s.refused.place in
         let n = ap (λ (o : Outcome). o.answer.number) e in
         let p = f ∙ ap some (sym (ap (λ (o : Outcome). o.answer.place) e)) in
         record {
@@ -181,7 +171,7 @@ what_an_update_call_says tested S log entry Q r exit e =
           kept = λ d. absurd (d n);
           uncounted = λ d. absurd (d n);
           stopped = λ _. record {
-            ran = ran count (some k) t p (ap (λ (o : Outcome). o.answer.quads) e) (ap (λ (o : Outcome). o.answer.moved) e)
+            ran = ran s.count (some k) t p (ap (λ (o : Outcome). o.answer.quads) e) (ap (λ (o : Outcome). o.answer.moved) e)
                 (ap (λ (o : Outcome). o.lists) e);
             first = first_without tested S log entry Q k p;
             before = (λ i. record { answer = record { number = 0; place = 0; quads = (e i).answer.quads; moved = (e i).answer.moved }; lists = (e i).lists })
@@ -192,8 +182,8 @@ what_an_update_call_says tested S log entry Q r exit e =
     go : (r : Updated) (v : rules.Verdict) → update_verdict S log entry Q ≡ v → Within UPDATE_FIRST v
         → outcome_of r exit ≡ update_by v S c entry → UpdateSays tested S log entry Q r exit
     go r fine t w e = through r t c.full refl e
-    go (updated.Done count) (refuse n p) t w e = unlisted refl w (ap (λ (o : Outcome). o.answer.number) e)
-    go (updated.Refused why place count) (refuse n p) t w e =
+    go (Ok count) (refuse n p) t w e = unlisted refl w (ap (λ (o : Outcome). o.answer.number) e)
+    go (Err s) (refuse n p) t w e =
         let number = ap (λ (o : Outcome). o.answer.number) e in
         record {
           refused = λ d. refuses t w number (ap (λ (o : Outcome). o.answer.place) e);
@@ -205,73 +195,64 @@ what_an_update_call_says tested S log entry Q r exit e =
 -- ---- the check
 
 abbrev pub CheckSays : Scene → List ℕ → List ℕ → Lists → ℕ → Verdict → Type 0
-CheckSays S outer grid B Q Fine = check_verdict S outer grid B Q ≡ fine
-CheckSays S outer grid B Q (Refuse why place) = Refuses CHECK (check_verdict S outer grid B Q) (number_of why) place
+CheckSays S outer grid B Q (Ok u) = check_verdict S outer grid B Q ≡ fine
+CheckSays S outer grid B Q (Err r) = Refuses CHECK (check_verdict S outer grid B Q) (number_of r.why) r.place
 
 pub what_a_check_call_says : (S : Scene) (outer grid : List ℕ) (B : Lists) (Q : ℕ) (r : Verdict)
     → Checks S outer grid B Q r → CheckSays S outer grid B Q r
-what_a_check_call_says S outer grid B Q Fine e = sym e
-what_a_check_call_says S outer grid B Q (Refuse why place) e =
+what_a_check_call_says S outer grid B Q (Ok u) e = sym e
+what_a_check_call_says S outer grid B Q (Err r) e =
     refuses (sym e) (subst (Within CHECK) (sym e) (check_numbers S outer grid B Q)) refl refl
 
 -- ---- a refusal changes nothing
 
-pub a_refused_cube_changes_nothing : (shape : Shape) (entry : List ℕ) (r : Cubed) (exit : List ℕ) → r ≢ cubed.Done → Cubes shape entry r exit
+pub a_refused_cube_changes_nothing : (shape : Shape) (entry : List ℕ) (r : Verdict) (exit : List ℕ) → r ≢ Fine → Cubes shape entry r exit
     → exit ≡ entry
-a_refused_cube_changes_nothing shape entry cubed.Done exit d e = absurd (d refl)
-a_refused_cube_changes_nothing shape entry cubed.BadNumber exit d e = (what_a_cube_call_says shape entry cubed.BadNumber exit e).1
-a_refused_cube_changes_nothing shape entry cubed.BadAtlas exit d e = (what_a_cube_call_says shape entry cubed.BadAtlas exit e).1
-a_refused_cube_changes_nothing shape entry (cubed.BadFace place) exit d e = (what_a_cube_call_says shape entry (cubed.BadFace place) exit e).1
-a_refused_cube_changes_nothing shape entry cubed.ShortRoom exit d e = (what_a_cube_call_says shape entry cubed.ShortRoom exit e).1
+a_refused_cube_changes_nothing shape entry (Ok u) exit d e = absurd (d refl)
+a_refused_cube_changes_nothing shape entry (Err r) exit d e = (what_a_cube_call_says shape entry (Err r) exit e).1
 
 pub a_refused_mesh_changes_nothing : (S : Scene) (outer grid : List ℕ) (culling : Bool) (entry : Lists) (why : Refusal) (place : ℕ) (exit : Lists)
-    → Meshes S outer grid culling entry (meshed.Refused why place) exit → exit ≡ entry
+    → Meshes S outer grid culling entry (Err (refused_for why place)) exit → exit ≡ entry
 a_refused_mesh_changes_nothing S outer grid culling entry why place exit e =
-    (what_a_mesh_call_says S outer grid culling entry (meshed.Refused why place) exit e).1
+    (what_a_mesh_call_says S outer grid culling entry (Err (refused_for why place)) exit e).1
 
 pub a_refused_update_changes_nothing : (tested : Tested) (S : Scene) (log : List ℕ) (entry : Lists) (Q : ℕ) (why : Refusal) (place : ℕ) (count : Count)
-    (exit : Lists) → number_of why ≢ 14 → Updates tested S log entry Q (updated.Refused why place count) exit → exit ≡ entry
+    (exit : Lists) → number_of why ≢ 14 → Updates tested S log entry Q (Err (stopped_for why place count)) exit → exit ≡ entry
 a_refused_update_changes_nothing tested S log entry Q why place count exit d e =
-    (what_an_update_call_says tested S log entry Q (updated.Refused why place count) exit e).kept d
+    (what_an_update_call_says tested S log entry Q (Err (stopped_for why place count)) exit e).kept d
 
 -- the one exception
 pub out_of_room_keeps_the_entries_before : (tested : Tested) (S : Scene) (log : List ℕ) (entry : Lists) (Q k : ℕ) (count : Count) (exit : Lists)
-    → Updates tested S log entry Q (updated.Refused NoRoom k count) exit → Updates tested S (first_of k log) entry Q (updated.Done count) exit
+    → Updates tested S log entry Q (Err (stopped_for NoRoom k count)) exit → Updates tested S (first_of k log) entry Q (Ok count) exit
 out_of_room_keeps_the_entries_before tested S log entry Q k count exit e =
-    ((what_an_update_call_says tested S log entry Q (updated.Refused NoRoom k count) exit e).stopped refl).before
+    ((what_an_update_call_says tested S log entry Q (Err (stopped_for NoRoom k count)) exit e).stopped refl).before
 
 -- ---- and nothing is refused without cause
 
-pub a_cube_is_made_if_nothing_refuses : (shape : Shape) (entry : List ℕ) (r : Cubed) (exit : List ℕ) → cube_verdict shape entry ≡ fine
-    → Cubes shape entry r exit → r ≡ cubed.Done
-a_cube_is_made_if_nothing_refuses shape entry cubed.Done exit v e = refl
-a_cube_is_made_if_nothing_refuses shape entry cubed.BadNumber exit v e =
-    fine_not_refused (sym v ∙ (what_a_cube_call_says shape entry cubed.BadNumber exit e).0.told)
-a_cube_is_made_if_nothing_refuses shape entry cubed.BadAtlas exit v e =
-    fine_not_refused (sym v ∙ (what_a_cube_call_says shape entry cubed.BadAtlas exit e).0.told)
-a_cube_is_made_if_nothing_refuses shape entry (cubed.BadFace place) exit v e =
-    fine_not_refused (sym v ∙ (what_a_cube_call_says shape entry (cubed.BadFace place) exit e).0.told)
-a_cube_is_made_if_nothing_refuses shape entry cubed.ShortRoom exit v e =
-    fine_not_refused (sym v ∙ (what_a_cube_call_says shape entry cubed.ShortRoom exit e).0.told)
+pub a_cube_is_made_if_nothing_refuses : (shape : Shape) (entry : List ℕ) (r : Verdict) (exit : List ℕ) → cube_verdict shape entry ≡ fine
+    → Cubes shape entry r exit → r ≡ Fine
+a_cube_is_made_if_nothing_refuses shape entry (Ok u) exit v e = refl
+a_cube_is_made_if_nothing_refuses shape entry (Err r) exit v e =
+    fine_not_refused (sym v ∙ (what_a_cube_call_says shape entry (Err r) exit e).0.told)
 
 pub a_mesh_is_made_if_nothing_refuses : (S : Scene) (outer grid : List ℕ) (culling : Bool) (entry : Lists) (r : Meshed) (exit : Lists)
     → mesh_verdict S outer grid culling entry ≡ fine → Meshes S outer grid culling entry r exit
-    → r ≡ meshed.Done (length (fresh_mesh S outer grid culling))
-a_mesh_is_made_if_nothing_refuses S outer grid culling entry (meshed.Done quads) exit v e =
-    ap meshed.Done (what_a_mesh_call_says S outer grid culling entry (meshed.Done quads) exit e).counted
-a_mesh_is_made_if_nothing_refuses S outer grid culling entry (meshed.Refused why place) exit v e =
-    fine_not_refused (sym v ∙ (what_a_mesh_call_says S outer grid culling entry (meshed.Refused why place) exit e).0.told)
+    → r ≡ Ok (length (fresh_mesh S outer grid culling))
+a_mesh_is_made_if_nothing_refuses S outer grid culling entry (Ok quads) exit v e =
+    ap Ok (what_a_mesh_call_says S outer grid culling entry (Ok quads) exit e).counted
+a_mesh_is_made_if_nothing_refuses S outer grid culling entry (Err r) exit v e =
+    fine_not_refused (sym v ∙ (what_a_mesh_call_says S outer grid culling entry (Err r) exit e).0.told)
 
 -- an update of a log that is accepted is done, unless an entry finds no room
 pub an_update_is_done_if_nothing_refuses : (tested : Tested) (S : Scene) (log : List ℕ) (entry : Lists) (Q : ℕ) (r : Updated) (exit : Lists)
     → update_verdict S log entry Q ≡ fine → (course tested S log entry Q).full ≡ none → Updates tested S log entry Q r exit
-    → (count : Count) × (r ≡ updated.Done count)
-an_update_is_done_if_nothing_refuses tested S log entry Q (updated.Done count) exit v f e = (count, refl)
-an_update_is_done_if_nothing_refuses tested S log entry Q (updated.Refused why place count) exit v f e =
-    absurd (not_zero why (ap (λ (o : Outcome). o.answer.number) e ∙ rw (v, f)))
+    → (count : Count) × (r ≡ Ok count)
+an_update_is_done_if_nothing_refuses tested S log entry Q (Ok count) exit v f e = (count, refl)
+an_update_is_done_if_nothing_refuses tested S log entry Q (Err s) exit v f e =
+    absurd (not_zero s.refused.why (ap (λ (o : Outcome). o.answer.number) e ∙ rw (v, f)))
 
 pub a_mesh_passes_if_nothing_refuses : (S : Scene) (outer grid : List ℕ) (B : Lists) (Q : ℕ) (r : Verdict) → check_verdict S outer grid B Q ≡ fine
     → Checks S outer grid B Q r → r ≡ Fine
-a_mesh_passes_if_nothing_refuses S outer grid B Q Fine v e = refl
-a_mesh_passes_if_nothing_refuses S outer grid B Q (Refuse why place) v e =
-    fine_not_refused (sym v ∙ (what_a_check_call_says S outer grid B Q (Refuse why place) e).told)
+a_mesh_passes_if_nothing_refuses S outer grid B Q (Ok u) v e = refl
+a_mesh_passes_if_nothing_refuses S outer grid B Q (Err r) v e =
+    fine_not_refused (sym v ∙ (what_a_check_call_says S outer grid B Q (Err r) e).told)

@@ -9,14 +9,11 @@ use Rattle.rules.specs.Update.{Tested}
 use Rattle.rules.specs.Calls.{Answer, Scene, check_by}
 use Rattle.rules.specs.Together.{Together, mesh_together, update_together, check_together, apart, outcome_apart}
 use Rattle.rules.proofs.Apart.{mesh_apart, update_apart, check_apart}
-use Rattle.answers.specs.declared.Verdict.{Verdict}
 use Rattle.answers.specs.Verdicts.{verdict_of}
-use Rattle.meshem.specs.declared.Meshed.{Meshed}
 use Rattle.meshem.specs.Outcome as mesh
-use Rattle.update.specs.declared.Updated.{Updated}
 use Rattle.update.specs.Outcome.{outcome_of}
 use Rattle.telling.specs.Numbers.{tested_from, answer, outcome}
-use Rattle.demands.specs.Promised.{Meshes, Updates, Checks, TellsMesh, TellsUpdate, TellsCheck}
+use Rattle.demands.specs.Promised.{Meshes, Updates, Checks, TellsMesh, TellsUpdate, TellsCheck, Verdict, Meshed, Updated}
 
 module _ (S : Scene) (spare : List ℕ) (B : Together) where
   pub a_mesh_is_what_it_was : (outer grid : List ℕ) (culling : Bool) (r : Meshed) (exit : Lists) → Meshes S outer grid culling (apart S spare B) r exit

@@ -1,4 +1,5 @@
 -- Of these promises, those that are said of the C calls too, whose answers are 01's numbers. Assumes nothing.
+use Rattle.std.specs.Prelude.{Err}
 use Prim.Native.Nat.{ℕ, ◌/◌, ◌≤◌}
 use mathlib.Core.Path.{◌≡◌, refl, sym, ap, ◌∙◌, subst}
 use mathlib.Core.Logic.{◌≢◌, ◌↔◌}
@@ -18,10 +19,8 @@ use Rattle.rules.proofs.Refusals.{CUBE, MESH, UPDATE, CHECK, check_numbers, cube
 use Rattle.rules.proofs.Modes.{itself_alike, modes_agree}
 use Rattle.rules.proofs.Demands.{accepts_exactly, fresh_accepted, mended_accepted}
 use Rattle.answers.specs.declared.Refusal.TheVariants.{NoRoom}
-use Rattle.answers.specs.declared.Verdict.TheVariants.{Fine}
-use Rattle.update.specs.declared.Updated.TheVariants.{Refused}
 use Rattle.telling.specs.Numbers.{tested_from, answer, outcome}
-use Rattle.demands.specs.Promised.{TellsCube, TellsMesh, TellsUpdate, TellsCheck}
+use Rattle.demands.specs.Promised.{TellsCube, TellsMesh, TellsUpdate, TellsCheck, Fine, stopped_for}
 use Rattle.demands.specs.Chunks.{first_of, ground_after, FillingLog, AlikeLog, MendableLog}
 use Rattle.demands.proofs.Answers.{Stopped, what_an_update_call_says}
 use Rattle.demands.proofs.Lent.{left_is_taken}
@@ -87,7 +86,7 @@ a_refused_c_update_changes_nothing tested S log B Q a exit d f e =
 stopped_c : (tested : ℕ) (S : Scene) (log : List ℕ) (B : Lists) (Q : ℕ) (a : Answer) (exit : Lists) → a.number ≡ 14
     → TellsUpdate tested S log B Q a exit → Stopped (tested_from tested) S log B Q a.place (record { quads = a.quads; moved = a.moved }) exit
 stopped_c tested S log B Q a exit z e =
-    (what_an_update_call_says (tested_from tested) S log B Q (Refused NoRoom a.place (record { quads = a.quads; moved = a.moved })) exit
+    (what_an_update_call_says (tested_from tested) S log B Q (Err (stopped_for NoRoom a.place (record { quads = a.quads; moved = a.moved }))) exit
     ((λ i. outcome (answer (sym z i) a.place a.quads a.moved) exit) ∙ e)).stopped refl
 
 -- the one exception: what is left is what the call for the entries before it leaves

@@ -1,5 +1,6 @@
 -- 02, Q-14, "two crews, one chunk": two logs, each demand 3's on the ground that both crews saw, on cells that do not touch, lead in any order, in one call or in several, to the
 -- same faces with the same vertices, if no call is refused. Assumes nothing.
+use Rattle.std.specs.Prelude.{Ok}
 use Prim.Native.Nat.{ℕ, zero, suc, ◌/◌, ◌%◌, ◌<◌}
 use mathlib.Core.Path.{◌≡◌, refl, sym, ap, ◌∙◌, subst}
 use mathlib.Core.Logic.{◌↔◌}
@@ -21,7 +22,6 @@ use Rattle.rules.proofs.Merging.{clear_back, BothClear, AllClear, FairLog, fair_
 use Rattle.terms.specs.declared.Tested.{Tested}
 use Rattle.terms.specs.Modes.{tested_by}
 use Rattle.terms.specs.declared.Count.{Count}
-use Rattle.update.specs.declared.Updated.TheVariants.{Done}
 use Rattle.telling.specs.Numbers.{tested_from, answer, outcome}
 use Rattle.demands.specs.Promised.{Updates, TellsUpdate, TellsCheck}
 use Rattle.demands.specs.Chunks.{Chunk, Passes, ground_after, FillingLog, LogFor, mended_to}
@@ -105,7 +105,7 @@ module _ (S : Scene) (from : Chunk) (one other : List ℕ) (passes : Passes S fr
     -- one log and then the other in one call, and the other way round, by one side tested
     one_call_lem : (tested : rules.Tested) → AddsAlike tested (world S) (entries_of one) → AddsAlike tested (world S) (entries_of other)
         → length one % ENTRY_BYTES ≡ 0 → length other % ENTRY_BYTES ≡ 0 → (m n : Count) (x y : Lists)
-        → Updates tested S (one ++ other) from.lists from.quads (Done m) x → Updates tested S (other ++ one) from.lists from.quads (Done n) y
+        → Updates tested S (one ++ other) from.lists from.quads (Ok m) x → Updates tested S (other ++ one) from.lists from.quads (Ok n) y
         → Agree S (mended_to S (one ++ other) from m x) (mended_to S (other ++ one) from n y)
     one_call_lem tested oneAlike otherAlike wholeOne wholeOther m n x y first second =
         let joined = sym (entries_joined one other wholeOne) in
@@ -127,8 +127,8 @@ module _ (mode : Tested) (S : Scene) (from : Chunk) (one other : List ℕ) (pass
 
   -- a call for each log
   pub in_either_order : (m n m' n' : Count) (x y x' y' : Lists)
-      → Updates (tested_by mode) S one from.lists from.quads (Done m) x → Updates (tested_by mode) S other x m.quads (Done n) y
-      → Updates (tested_by mode) S other from.lists from.quads (Done m') x' → Updates (tested_by mode) S one x' m'.quads (Done n') y'
+      → Updates (tested_by mode) S one from.lists from.quads (Ok m) x → Updates (tested_by mode) S other x m.quads (Ok n) y
+      → Updates (tested_by mode) S other from.lists from.quads (Ok m') x' → Updates (tested_by mode) S one x' m'.quads (Ok n') y'
       → Agree S (mended_to S other (mended_to S one from m x) n y) (mended_to S one (mended_to S other from m' x') n' y')
   in_either_order m n m' n' x y x' y' a b c d =
       let t = tested_by mode in
@@ -137,7 +137,7 @@ module _ (mode : Tested) (S : Scene) (from : Chunk) (one other : List ℕ) (pass
 
   -- one call for both
   pub in_one_log : length one % ENTRY_BYTES ≡ 0 → length other % ENTRY_BYTES ≡ 0 → (m n : Count) (x y : Lists)
-      → Updates (tested_by mode) S (one ++ other) from.lists from.quads (Done m) x → Updates (tested_by mode) S (other ++ one) from.lists from.quads (Done n) y
+      → Updates (tested_by mode) S (one ++ other) from.lists from.quads (Ok m) x → Updates (tested_by mode) S (other ++ one) from.lists from.quads (Ok n) y
       → Agree S (mended_to S (one ++ other) from m x) (mended_to S (other ++ one) from n y)
   in_one_log = one_call_lem S from one other passes clear asked_one.0 asked_other.0 (tested_by mode) asked_one.1 asked_other.1
 
@@ -150,7 +150,7 @@ clear_entries s one other a b clear (suc n) m i j = absurd (omega arith)
 
 pub two_entries : (mode : Tested) (S : Scene) (from : Chunk) (one other : List ℕ) (m n : Count) (x y : Lists) → Passes S from → LogFor mode S from.grid one → LogFor mode S from.grid other
     → length one ≡ ENTRY_BYTES → length other ≡ ENTRY_BYTES → Clear S.size (entry_at one 0).cell (entry_at other 0).cell
-    → Updates (tested_by mode) S (one ++ other) from.lists from.quads (Done m) x → Updates (tested_by mode) S (other ++ one) from.lists from.quads (Done n) y
+    → Updates (tested_by mode) S (one ++ other) from.lists from.quads (Ok m) x → Updates (tested_by mode) S (other ++ one) from.lists from.quads (Ok n) y
     → Agree S (mended_to S (one ++ other) from m x) (mended_to S (other ++ one) from n y)
 two_entries mode S from one other m n x y passes oneHonest otherHonest a b clear =
     in_one_log mode S from one other passes (clear_entries S.size one other a b clear) oneHonest otherHonest (omega arith) (omega arith) m n x y
@@ -159,7 +159,7 @@ two_entries mode S from one other m n x y passes oneHonest otherHonest a b clear
 
 -- one that tells 0 is done
 pub zero_is_done : (tested : rules.Tested) (S : Scene) (log : List ℕ) (B : Lists) (Q : ℕ) (a : Answer) (exit : Lists) → outcome a exit ≡ update_mesh tested S log B Q → a.number ≡ 0
-    → Updates tested S log B Q (Done (record { quads = a.quads; moved = a.moved })) exit
+    → Updates tested S log B Q (Ok (record { quads = a.quads; moved = a.moved })) exit
 zero_is_done tested S log B Q a exit e z =
     let t = through tested S log B Q (sym (ap (λ (o : Outcome). o.answer.number) e) ∙ z) in
     let first : a.place ≡ 0 = ap (λ (o : Outcome). o.answer.place) e ∙ rw (t.0, t.1) refl in

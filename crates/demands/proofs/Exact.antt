@@ -16,10 +16,8 @@ use Rattle.rules.proofs.Mending.{due, Shows, shows_once}
 use Rattle.rules.proofs.Checking.{then_fine, length-decode}
 use Rattle.rules.proofs.Refusals.{CHECK, check_numbers, zero_fine}
 use Rattle.rules.proofs.Demands.{accepts_exactly, passed}
-use Rattle.answers.specs.declared.Verdict.{Verdict}
-use Rattle.answers.specs.declared.Verdict.TheVariants.{Fine}
 use Rattle.answers.specs.Verdicts.{verdict_of}
-use Rattle.demands.specs.Promised.{Checks}
+use Rattle.demands.specs.Promised.{Checks, Verdict, Fine}
 use Rattle.demands.specs.Chunks.{Chunk}
 use Rattle.demands.specs.Crews.{SameFaces}
 use Rattle.demands.proofs.OneOutcome.{one_check}

@@ -1,6 +1,7 @@
 -- Demand 3, "a mesh that passes with no outer face named passes after any unrefused honest log", its Added and Replaced as each mode asks (`LogFor`,
 -- specs/Chunks): mesh_grid, then any number of update_mesh calls, then check_mesh says Fine; out of room it says so for the entries that were done.
 -- And what is the same in both modes. Assumes nothing.
+use Rattle.std.specs.Prelude.{Ok, Err}
 use Prim.Native.Nat.{ℕ, ◌*◌, ◌/◌, ◌≤◌}
 use mathlib.Core.Path.{◌≡◌, refl, sym, ap, ◌∙◌, subst}
 use mathlib.Core.Bool.{true}
@@ -16,16 +17,11 @@ use Rattle.rules.proofs.Modes.{table_alike, itself_alike, modes_agree}
 use Rattle.rules.proofs.Demands.{mended_accepted}
 use Rattle.rules.proofs.Merging.{FairLog, fair_of, fair_honest, fair_mends, fair_append}
 use Rattle.answers.specs.declared.Refusal.TheVariants.{NoRoom}
-use Rattle.answers.specs.declared.Verdict.{Verdict}
-use Rattle.answers.specs.declared.Verdict.TheVariants.{Fine}
 use Rattle.terms.specs.declared.Tested.{Tested}
 use Rattle.terms.specs.declared.Tested.TheVariants.{Opposite, Itself}
 use Rattle.terms.specs.Modes.{tested_by}
-use Rattle.meshem.specs.declared.Meshed.TheVariants as meshed
 use Rattle.terms.specs.declared.Count.{Count}
-use Rattle.update.specs.declared.Updated.{Updated}
-use Rattle.update.specs.declared.Updated.TheVariants.{Done, Refused}
-use Rattle.demands.specs.Promised.{Meshes, Updates, Checks}
+use Rattle.demands.specs.Promised.{Meshes, Updates, Checks, Verdict, Updated, Fine, stopped_for}
 use Rattle.demands.specs.Chunks.{Chunk, Passes, first_of, ground_after, FillingLog, AlikeLog, MendableLog, LogFor, mended_to, Mended, untouched, one_more}
 use Rattle.demands.proofs.Stopped.{entries_split}
 use Rattle.demands.proofs.Answers.{what_an_update_call_says}
@@ -52,18 +48,18 @@ asked Itself S grid log h = (h, itself_alike (world S) (entries_of log))
 
 -- the check says Fine of what the call leaves
 pub fine_after : (tested : rules.Tested) (S : Scene) (log : List ℕ) (k : Chunk) (exit : Lists) (count : Count) → Passes S k → FillingLog S k.grid log
-    → AddsAlike tested (world S) (entries_of log) → Updates tested S log k.lists k.quads (Done count) exit → Passes S (mended_to S log k count exit)
+    → AddsAlike tested (world S) (entries_of log) → Updates tested S log k.lists k.quads (Ok count) exit → Passes S (mended_to S log k count exit)
 fine_after tested S log k exit count passed true-log alike mended =
     subst (λ (o : Outcome). Checks S [] (ground_after S log k.grid) o.lists o.answer.quads Fine) (sym mended)
     (still_fine tested S log k.grid k.lists k.quads passed true-log alike (sym (ap (λ (o : Outcome). o.answer.number) mended)))
 
 mended_is_fine : (mode : Tested) (S : Scene) (log : List ℕ) (k : Chunk) (exit : Lists) (count : Count) → Passes S k → LogFor mode S k.grid log
-    → Updates (tested_by mode) S log k.lists k.quads (Done count) exit → Passes S (mended_to S log k count exit)
+    → Updates (tested_by mode) S log k.lists k.quads (Ok count) exit → Passes S (mended_to S log k count exit)
 mended_is_fine mode S log k exit count passed true-log =
     let a = asked mode S k.grid log true-log in fine_after (tested_by mode) S log k exit count passed a.0 a.1
 
 mended_passes : (mode : Tested) (S : Scene) (log grid : List ℕ) (B exit : Lists) (Q : ℕ) (count : Count) (r : Verdict)
-    → Checks S [] grid B Q Fine → LogFor mode S grid log → Updates (tested_by mode) S log B Q (Done count) exit
+    → Checks S [] grid B Q Fine → LogFor mode S grid log → Updates (tested_by mode) S log B Q (Ok count) exit
     → Checks S [] (ground_after S log grid) exit count.quads r → r ≡ Fine
 mended_passes mode S log grid B exit Q count r passed true-log mended checked =
     one_check S [] (ground_after S log grid) exit count.quads r Fine checked
@@ -100,10 +96,10 @@ module _ (S : Scene) (log : List ℕ) (k : ℕ) (in_log : k ≤ length log / ENT
 
 -- a log that stops at entry k for want of room leaves a mesh that passes for the grid after its first k entries
 pub out_of_room_and_still_right : (mode : Tested) (S : Scene) (log grid : List ℕ) (B exit : Lists) (Q k : ℕ) (count : Count) (r : Verdict)
-    → Checks S [] grid B Q Fine → LogFor mode S grid log → Updates (tested_by mode) S log B Q (Refused NoRoom k count) exit
+    → Checks S [] grid B Q Fine → LogFor mode S grid log → Updates (tested_by mode) S log B Q (Err (stopped_for NoRoom k count)) exit
     → Checks S [] (ground_after S (first_of k log) grid) exit count.quads r → r ≡ Fine
 out_of_room_and_still_right mode S log grid B exit Q k count r passed true-log stopped checked =
-    let s = (what_an_update_call_says (tested_by mode) S log B Q (Refused NoRoom k count) exit stopped).stopped refl in
+    let s = (what_an_update_call_says (tested_by mode) S log B Q (Err (stopped_for NoRoom k count)) exit stopped).stopped refl in
     mended_passes mode S (first_of k log) grid B exit Q count r passed
     (first_of_such_a_log S log k (omega (arith, s.first.in_log)) mode grid true-log) s.before checked
 
@@ -111,13 +107,13 @@ out_of_room_and_still_right mode S log grid B exit Q k count r passed true-log s
 
 -- the source's mode
 pub a_mended_mesh_passes : (S : Scene) (log grid : List ℕ) (B exit : Lists) (Q : ℕ) (count : Count) (r : Verdict)
-    → Checks S [] grid B Q Fine → MendableLog S grid log → Updates source S log B Q (Done count) exit
+    → Checks S [] grid B Q Fine → MendableLog S grid log → Updates source S log B Q (Ok count) exit
     → Checks S [] (ground_after S log grid) exit count.quads r → r ≡ Fine
 a_mended_mesh_passes = mended_passes Opposite
 
 -- the new mode: no word about covers
 pub a_mesh_mended_with_slabs_passes : (S : Scene) (log grid : List ℕ) (B exit : Lists) (Q : ℕ) (count : Count) (r : Verdict)
-    → Checks S [] grid B Q Fine → FillingLog S grid log → Updates itself S log B Q (Done count) exit
+    → Checks S [] grid B Q Fine → FillingLog S grid log → Updates itself S log B Q (Ok count) exit
     → Checks S [] (ground_after S log grid) exit count.quads r → r ≡ Fine
 a_mesh_mended_with_slabs_passes = mended_passes Itself
 
@@ -131,13 +127,13 @@ still_passes {S = S} p (one_more {k = k} mode log count exit calls true-log mend
 
 -- mesh_grid by Culling with no outer face named, then n calls of update_mesh, then check_mesh for the grid that the logs left
 pub mended_any_times : (S : Scene) (grid : List ℕ) (B exit : Lists) (quads n : ℕ) (k : Chunk) (r : Verdict)
-    → Meshes S [] grid true B (meshed.Done quads) exit → Mended S (record { grid = grid; lists = exit; quads = quads }) n k
+    → Meshes S [] grid true B (Ok quads) exit → Mended S (record { grid = grid; lists = exit; quads = quads }) n k
     → Checks S [] k.grid k.lists k.quads r → r ≡ Fine
 mended_any_times S grid B exit quads n k r made mended checked =
     one_check S [] k.grid k.lists k.quads r Fine checked (still_passes (fresh_is_fine S [] grid B exit quads made) mended)
 
 pub mended_two_hundred_times : (S : Scene) (grid : List ℕ) (B exit : Lists) (quads : ℕ) (k : Chunk) (r : Verdict)
-    → Meshes S [] grid true B (meshed.Done quads) exit → Mended S (record { grid = grid; lists = exit; quads = quads }) 200 k
+    → Meshes S [] grid true B (Ok quads) exit → Mended S (record { grid = grid; lists = exit; quads = quads }) 200 k
     → Checks S [] k.grid k.lists k.quads r → r ≡ Fine
 mended_two_hundred_times S grid B exit quads = mended_any_times S grid B exit quads 200
 

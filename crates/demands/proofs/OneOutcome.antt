@@ -8,14 +8,10 @@ use Rattle.rules.specs.Cube.{Shape}
 use Rattle.rules.specs.Mesh.{Lists}
 use Rattle.rules.specs.Update.{Tested}
 use Rattle.rules.specs.Calls.{CubeOutcome, Outcome, Scene}
-use Rattle.answers.specs.declared.Verdict.{Verdict}
-use Rattle.voxel_mesh.specs.declared.Cubed.{Cubed}
-use Rattle.meshem.specs.declared.Meshed.{Meshed}
-use Rattle.update.specs.declared.Updated.{Updated}
-use Rattle.demands.specs.Promised.{Cubes, Meshes, Updates, Checks}
+use Rattle.demands.specs.Promised.{Cubes, Meshes, Updates, Checks, Verdict, Meshed, Updated}
 use Rattle.demands.proofs.Telling.{read_cube, cube_reads, read_mesh, mesh_reads, read_update, update_reads, read_verdict, verdict_reads}
 
-pub one_cube : (shape : Shape) (room : List ℕ) (a b : Cubed) (x y : List ℕ) → Cubes shape room a x → Cubes shape room b y → (a ≡ b) × (x ≡ y)
+pub one_cube : (shape : Shape) (room : List ℕ) (a b : Verdict) (x y : List ℕ) → Cubes shape room a x → Cubes shape room b y → (a ≡ b) × (x ≡ y)
 one_cube shape room a b x y p q =
     let e = p ∙ sym q in (sym (cube_reads a x) ∙ ap read_cube e ∙ cube_reads b y, ap (λ (o : CubeOutcome). o.out) e)
 

@@ -1,4 +1,5 @@
 -- Each answer can be read back from 01's number, place and counts for it. Assumes nothing.
+use Rattle.std.specs.Prelude.{Ok, Err}
 use Prim.Native.Nat.{ℕ, ◌-◌}
 use mathlib.Core.Path.{◌≡◌, refl, ap}
 use mathlib.Core.Bool.{false, cond}
@@ -11,19 +12,12 @@ use Rattle.rules.specs.Answers.{fine, refuse}
 use Rattle.rules.specs.Calls.{Answer, Outcome, CubeOutcome}
 use Rattle.answers.specs.declared.Refusal.{Refusal}
 use Rattle.answers.specs.declared.Refusal.TheVariants.{BadFile, BadSize, BadTypes, BadNumber, BadAtlas, NotACube, BadFace, BadCell, ShortRoom, BadCount, BadLinks, BadTriangles, BadEntry, NoRoom, WrongSet, WrongVertex}
-use Rattle.answers.specs.declared.Verdict.{Verdict}
-use Rattle.answers.specs.declared.Verdict.TheVariants.{Fine, Refuse}
 use Rattle.answers.specs.Verdicts.{number_of, verdict_of}
-use Rattle.voxel_mesh.specs.declared.Cubed.{Cubed}
-use Rattle.voxel_mesh.specs.declared.Cubed.TheVariants as cubed
 use Rattle.voxel_mesh.specs.Outcome as cube
-use Rattle.meshem.specs.declared.Meshed.{Meshed}
-use Rattle.meshem.specs.declared.Meshed.TheVariants as meshed
 use Rattle.meshem.specs.Outcome as mesh
 use Rattle.terms.specs.declared.Count.{Count}
-use Rattle.update.specs.declared.Updated.{Updated}
-use Rattle.update.specs.declared.Updated.TheVariants as updated
 use Rattle.update.specs.Outcome.{outcome_of}
+use Rattle.demands.specs.Promised.{Verdict, Meshed, Updated, Fine, refused_for, stopped_for}
 
 -- the refusals, from number 1
 abbrev names : List Refusal
@@ -55,42 +49,34 @@ numbered WrongVertex = (refl, refl)
 
 -- ---- the cube's answer
 
-abbrev cubed_of : ℕ → ℕ → Cubed
-cubed_of number place =
-    cond (eqb number 0) cubed.Done
-    (cond (eqb number 4) cubed.BadNumber (cond (eqb number 5) cubed.BadAtlas (cond (eqb number 7) (cubed.BadFace place) cubed.ShortRoom)))
+abbrev pub read_cube : CubeOutcome → Verdict
+read_cube o = cond (eqb o.answer.number 0) Fine (Err (refused_for (name_of o.answer.number) o.answer.place))
 
-abbrev pub read_cube : CubeOutcome → Cubed
-read_cube o = cubed_of o.answer.number o.answer.place
-
-pub cube_reads : (r : Cubed) (room : List ℕ) → read_cube (cube.outcome r room) ≡ r
-cube_reads cubed.Done room = refl
-cube_reads cubed.BadNumber room = refl
-cube_reads cubed.BadAtlas room = refl
-cube_reads (cubed.BadFace place) room = refl
-cube_reads cubed.ShortRoom room = refl
+pub cube_reads : (r : Verdict) (room : List ℕ) → read_cube (cube.outcome r room) ≡ r
+cube_reads (Ok u) room = refl
+cube_reads (Err r) room = let n = numbered r.why in rw n.1 (ap (λ (w : Refusal). Err (refused_for w r.place)) n.0)
 
 -- ---- the check's
 
 abbrev pub read_verdict : rules.Verdict → Verdict
 read_verdict fine = Fine
-read_verdict (refuse n p) = Refuse (name_of n) p
+read_verdict (refuse n p) = Err (refused_for (name_of n) p)
 
 pub verdict_reads : (r : Verdict) → read_verdict (verdict_of r) ≡ r
-verdict_reads Fine = refl
-verdict_reads (Refuse why place) = ap (λ (w : Refusal). Refuse w place) (numbered why).0
+verdict_reads (Ok u) = refl
+verdict_reads (Err r) = ap (λ (w : Refusal). Err (refused_for w r.place)) (numbered r.why).0
 
 -- ---- the mesh's
 
 abbrev meshed_of : Answer → Meshed
-meshed_of a = cond (eqb a.number 0) (meshed.Done a.quads) (meshed.Refused (name_of a.number) a.place)
+meshed_of a = cond (eqb a.number 0) (Ok a.quads) (Err (refused_for (name_of a.number) a.place))
 
 abbrev pub read_mesh : Outcome → Meshed
 read_mesh o = meshed_of o.answer
 
 pub mesh_reads : (r : Meshed) (B : Lists) → read_mesh (mesh.outcome r B) ≡ r
-mesh_reads (meshed.Done quads) B = refl
-mesh_reads (meshed.Refused why place) B = let n = numbered why in rw n.1 (ap (λ (w : Refusal). meshed.Refused w place) n.0)
+mesh_reads (Ok quads) B = refl
+mesh_reads (Err r) B = let n = numbered r.why in rw n.1 (ap (λ (w : Refusal). Err (refused_for w r.place)) n.0)
 
 -- ---- the update's
 
@@ -98,12 +84,12 @@ abbrev count_of : Answer → Count
 count_of a = record { quads = a.quads; moved = a.moved }
 
 abbrev updated_of : Answer → Updated
-updated_of a = cond (eqb a.number 0) (updated.Done (count_of a)) (updated.Refused (name_of a.number) a.place (count_of a))
+updated_of a = cond (eqb a.number 0) (Ok (count_of a)) (Err (stopped_for (name_of a.number) a.place (count_of a)))
 
 abbrev pub read_update : Outcome → Updated
 read_update o = updated_of o.answer
 
 pub update_reads : (r : Updated) (B : Lists) → read_update (outcome_of r B) ≡ r
-update_reads (updated.Done count) B = refl
-update_reads (updated.Refused why place count) B =
-    let n = numbered why in rw n.1 (ap (λ (w : Refusal). updated.Refused w place count) n.0)
+update_reads (Ok count) B = refl
+update_reads (Err s) B =
+    let n = numbered s.refused.why in rw n.1 (ap (λ (w : Refusal). Err (stopped_for w s.refused.place s.count)) n.0)

@@ -1,5 +1,6 @@
 -- Q-14 is not vacuous: a column of three cells is changed at the top by one crew and at the bottom by the other, in each mode. Places and `moved` differ. In little room one order alone is
 -- done. And the condition on neighbours is needed: of two cubes side by side, both dug, each order leaves another face, and neither mesh passes. Assumes nothing.
+use Rattle.std.specs.Prelude.{Ok}
 use mathlib.Core.Path.{◌≡◌, refl, sym, ap, ◌∙◌}
 use mathlib.Core.Logic.{◌≢◌}
 use mathlib.Core.Bool.{Bool, true, false, false≢true}
@@ -25,7 +26,6 @@ use Rattle.terms.specs.declared.Tested.{Tested}
 use Rattle.terms.specs.declared.Tested.TheVariants.{Opposite, Itself}
 use Rattle.terms.specs.Modes.{tested_by}
 use Rattle.terms.specs.declared.Count.{Count}
-use Rattle.update.specs.declared.Updated.TheVariants.{Done}
 use Rattle.demands.specs.Promised.{Updates}
 use Rattle.demands.specs.Chunks.{Chunk, Passes, FillingLog, LogFor, mended_to}
 use Rattle.demands.specs.Crews.{shown_at, SameFaces, Agree}
@@ -242,7 +242,7 @@ neither_passes = (
 -- `two_entries`, asked of different cells alone, is false
 pub false_of_different_cells_alone : ((S : Scene) (from : Chunk) (one other : List ℕ) (m n : Count) (x y : Lists) → Passes S from → LogFor Itself S from.grid one → LogFor Itself S from.grid other
     → length one ≡ ENTRY_BYTES → length other ≡ ENTRY_BYTES → (entry_at one 0).cell ≢ (entry_at other 0).cell
-    → Updates (tested_by Itself) S (one ++ other) from.lists from.quads (Done m) x → Updates (tested_by Itself) S (other ++ one) from.lists from.quads (Done n) y
+    → Updates (tested_by Itself) S (one ++ other) from.lists from.quads (Ok m) x → Updates (tested_by Itself) S (other ++ one) from.lists from.quads (Ok n) y
     → SameFaces S (mended_to S (one ++ other) from m x) (mended_to S (other ++ one) from n y)) → ⊥
 unfolding entry_at
 false_of_different_cells_alone promise =

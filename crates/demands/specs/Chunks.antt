@@ -1,15 +1,13 @@
 -- A chunk, and update calls one after the other, each on what the one before left. Definitions only.
-use Rattle.std.specs.Prelude.{ℕ, suc, ◌*◌, List, [], take}
+use Rattle.std.specs.Prelude.{ℕ, suc, ◌*◌, List, [], take, Ok}
 use Rattle.rules.specs.Mesh.{Lists}
 use Rattle.rules.specs.Update.{ENTRY_BYTES, source, grid_log, Honest, Mends, AddsAlike}
 use Rattle.rules.specs.Calls.{Scene, world, entries_of}
-use Rattle.answers.specs.declared.Verdict.TheVariants.{Fine}
 use Rattle.terms.specs.declared.Tested.{Tested}
 use Rattle.terms.specs.declared.Tested.TheVariants.{Opposite, Itself}
 use Rattle.terms.specs.Modes.{tested_by}
 use Rattle.terms.specs.declared.Count.{Count}
-use Rattle.update.specs.declared.Updated.TheVariants.{Done}
-use Rattle.demands.specs.Promised.{Updates, Checks}
+use Rattle.demands.specs.Promised.{Updates, Checks, Fine}
 
 -- a grid, and the lists that are to hold its mesh
 pub record Chunk : Type 0 where
@@ -56,4 +54,4 @@ mended_to S log k count exit = record { grid = ground_after S log k.grid; lists 
 pub data Mended (S : Scene) (from : Chunk) : ℕ → Chunk → Type 0 where
   untouched : Mended S from 0 from
   one_more : {n : ℕ} {k : Chunk} (mode : Tested) (log : List ℕ) (count : Count) (exit : Lists) → Mended S from n k → LogFor mode S k.grid log
-      → Updates (tested_by mode) S log k.lists k.quads (Done count) exit → Mended S from (suc n) (mended_to S log k count exit)
+      → Updates (tested_by mode) S log k.lists k.quads (Ok count) exit → Mended S from (suc n) (mended_to S log k count exit)

@@ -1,12 +1,11 @@
 -- 02, Q-14: calls with two crews' entries, and what two meshes show. Definitions only.
-use Rattle.std.specs.Prelude.{ℕ, ◌/◌, ◌<◌, ◌≡◌, List, [], ◌++◌, length}
+use Rattle.std.specs.Prelude.{ℕ, ◌/◌, ◌<◌, ◌≡◌, List, [], ◌++◌, length, Ok}
 use Rattle.rules.specs.Cells.{Size, key_of}
 use Rattle.rules.specs.Mesh.{Lists, at, decode}
 use Rattle.rules.specs.Update.{ENTRY_BYTES, Tested, Entry, entry_at, AddsAlike}
 use Rattle.rules.specs.Calls.{Scene, world, entries_of}
 use Rattle.rules.specs.Crews.{Clear}
 use Rattle.terms.specs.declared.Count.{Count}
-use Rattle.update.specs.declared.Updated.TheVariants.{Done}
 use Rattle.demands.specs.Promised.{Updates}
 use Rattle.demands.specs.Chunks.{Chunk, Passes, mended_to}
 
@@ -20,7 +19,7 @@ ClearLogs s one other =
 pub data Led (S : Scene) (from : Chunk) : List Entry → Chunk → Type 0 where
   no_call : Led S from [] from
   one_call : {es : List Entry} {k : Chunk} (tested : Tested) (log : List ℕ) (count : Count) (exit : Lists) → Led S from es k → AddsAlike tested (world S) (entries_of log)
-      → Updates tested S log k.lists k.quads (Done count) exit → Led S from (es ++ entries_of log) (mended_to S log k count exit)
+      → Updates tested S log k.lists k.quads (Ok count) exit → Led S from (es ++ entries_of log) (mended_to S log k count exit)
 
 -- the words that a chunk's mesh has at face f of cell c
 abbrev pub shown_at : Scene → Chunk → ℕ → ℕ → List (List ℕ)

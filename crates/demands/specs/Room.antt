@@ -1,12 +1,11 @@
 -- Which entries of a log find room, and how many an answer tells were done. Definitions only.
-use Rattle.std.specs.Prelude.{ℕ, ◌+◌, ◌-◌, ◌/◌, ◌≤◌, ◌<◌, max, List, length}
+use Rattle.std.specs.Prelude.{ℕ, ◌+◌, ◌-◌, ◌/◌, ◌≤◌, ◌<◌, max, List, length, Ok, Err}
 use Rattle.rules.specs.Mesh.{Quad, Lists, decode}
 use Rattle.rules.specs.Update.{ENTRY_BYTES, Tested, first_half, second_half, work, entry_at, run, ops, needed, hidden_there, drawn_missing, mesh_after}
 use Rattle.rules.specs.Calls.{Scene, world, room}
 use Rattle.answers.specs.declared.Refusal.TheVariants.{NoRoom}
 use Rattle.terms.specs.declared.Count.{Count}
-use Rattle.update.specs.declared.Updated.{Updated}
-use Rattle.update.specs.declared.Updated.TheVariants.{Done, Refused}
+use Rattle.demands.specs.Promised.{Updated, stopped_for}
 
 -- the mesh that the entries before entry k left
 abbrev pub mesh_before : Tested → Scene → List ℕ → Lists → ℕ → ℕ → List Quad
@@ -41,5 +40,5 @@ pub record FirstWithout (tested : Tested) (S : Scene) (log : List ℕ) (B : List
 
 -- an answer tells that the first k entries of a log were done, all or those before one out of room, with this count
 pub data Did (log : List ℕ) : Updated → ℕ → Count → Type 0 where
-  all_done : (count : Count) → Did log (Done count) (length log / ENTRY_BYTES) count
-  stopped_at : (k : ℕ) (count : Count) → Did log (Refused NoRoom k count) k count
+  all_done : (count : Count) → Did log (Ok count) (length log / ENTRY_BYTES) count
+  stopped_at : (k : ℕ) (count : Count) → Did log (Err (stopped_for NoRoom k count)) k count
