@@ -28,6 +28,7 @@ fn corner_of(i: usize) -> usize
     ORDER[i]
 }
 
+// A `From` would have to stand in a crate of either type, and neither stands on the other.
 fn coordinate(at: Coordinates, axis: usize) -> u32
     ensures { result ≡ along (grid.triple_of at) axis }
 {

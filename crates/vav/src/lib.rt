@@ -130,7 +130,7 @@ fn copy_rows(list: &mut [u32], n: usize, from: usize, to: usize, rows: usize)
     copy_down(list, n, from, to, rows);
 }
 
-// With `count` rows, of which q is removed: the first of those that move.
+// With `count` rows, of which q is removed: the first of those that move. The two go as they are: a type of them would be made at each call, for one inequality.
 pub fn source(q: usize, count: usize) -> usize
     requires { q < count }
     ensures { result ≡ source_of q count }
