@@ -192,12 +192,19 @@ pub fn side_set<F: Fn(Face) -> bool>(holds: F) -> u8
     requires { F.IsAlwaysCallable holds }
     ensures { (sides : ℕ → Bool) → ((face : Face) (b : Bool) → F.post holds face b → b ≡ sides (number face)) → result ≡ set_of sides }
 {
-    bit_if(holds(Face::Top), 1)
-        + bit_if(holds(Face::Bottom), 2)
-        + bit_if(holds(Face::Right), 4)
-        + bit_if(holds(Face::Left), 8)
-        + bit_if(holds(Face::Back), 16)
-        + bit_if(holds(Face::Forward), 32)
+    // All tests before the bits: between them the compiler would jump on each side.
+    let top = holds(Face::Top);
+    let bottom = holds(Face::Bottom);
+    let right = holds(Face::Right);
+    let left = holds(Face::Left);
+    let back = holds(Face::Back);
+    let forward = holds(Face::Forward);
+    bit_if(top, 1)
+        + bit_if(bottom, 2)
+        + bit_if(right, 4)
+        + bit_if(left, 8)
+        + bit_if(back, 16)
+        + bit_if(forward, 32)
 }
 
 // The lowest side of a set that is not empty. The last side is put in, so that the compiler knows that there is one of the six.
