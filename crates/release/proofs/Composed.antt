@@ -11,7 +11,6 @@ use Rattle.rules.specs.Mesh.{Lists}
 use Rattle.rules.specs.Update.{Tested, AddsAlike}
 use Rattle.rules.specs.Answers.{Verdict, fine, refuse, ◌then◌}
 use Rattle.rules.specs.Calls.{Answer, Outcome, Scene, world, entries_of, update_mesh, check_verdict}
-use Rattle.answers.specs.declared.Refusal.{Refusal}
 use Rattle.answers.specs.declared.Refused.{Refused}
 use Rattle.answers.specs.Verdicts.{number_of, verdict_of}
 use Rattle.terms.specs.declared.Tested as code

@@ -12,17 +12,15 @@ use borrow.Author.Tests.{eqb-true}
 use Rattle.rules.specs.Lists.{each}
 use Rattle.rules.specs.Mesh.{Lists}
 use Rattle.rules.specs.Update.{ENTRY_BYTES, Entry, entry_at, Tested, grid_log, Honest, Mends, AddsAlike, grid_after as gridStep}
-use Rattle.rules.specs.Answers.{Verdict, fine, refuse, ◌then◌}
-use Rattle.rules.specs.Calls.{Outcome, Scene, world, entries_of, mesh_verdict, update_mesh, check_verdict}
+use Rattle.rules.specs.Answers.{Verdict, ◌then◌}
+use Rattle.rules.specs.Calls.{Outcome, Scene, world, entries_of, update_mesh, check_verdict}
 use Rattle.rules.proofs.ListLaws.{split}
-use Rattle.answers.specs.declared.Refusal.{Refusal}
 use Rattle.answers.specs.declared.Refused.{Refused}
-use Rattle.answers.specs.Verdicts.{number_of, verdict_of}
+use Rattle.answers.specs.Verdicts.{verdict_of}
 use Rattle.std.specs.Prelude.{Result, Ok, Err}
 use Rattle.std.specs.Result.{IsErrAnd}
 use Rattle.terms.specs.declared.Tested as code
 use Rattle.terms.specs.Modes.{tested_by}
-use Rattle.terms.specs.declared.Count.{Count}
 use Rattle.update.specs.Outcome.{outcome_of}
 use Rattle.demands.specs.Promised.{Meshes, Updates, Checks, Meshed, Updated, Fine}
 use Rattle.demands.specs.Chunks.{ground_after, LogFor}
@@ -44,19 +42,8 @@ pub halts : (S : Scene) (left : List ℕ) (went : Meshed) (r : Result Unit Refus
     → went_of went exit ≡ k → ends_with (verdict_of r) exit ≡ ends_on S left k
 halts S left went r d exit was out e = (λ i. ends_with (refused_so r d out i) exit) ∙ (λ i. ends_on S left (went_of (sym was i) exit)) ∙ ap (ends_on S left) e
 
--- the lists keep their lengths
-pub record Kept (A B : Lists) : Type 0 where
-  pub positions : length B.vertices.positions ≡ length A.vertices.positions
-  pub normals : length B.vertices.normals ≡ length A.vertices.normals
-  pub uvs : length B.vertices.uvs ≡ length A.vertices.uvs
-  pub colours : length B.vertices.colours ≡ length A.vertices.colours
-  pub triangles : length B.triangles ≡ length A.triangles
-  pub links : length B.links ≡ length A.links
-  pub slots : length B.slots ≡ length A.slots
-
 -- k calls are done: what is left on what is there is the whole on what was there
 pub record Calling (tested : Tested) (S : Scene) (log : List ℕ) (n : ℕ) (B₀ : Lists) (Q₀ k : ℕ) (B : Lists) (Q : ℕ) : Type 0 where
-  pub kept : Kept B₀ B
   pub left : calls tested S log k (n - k) B Q ≡ calls tested S log 0 n B₀ Q₀
 
 -- after a call that was answered, the rest; after one that was refused, nothing
@@ -72,7 +59,7 @@ halted_of (Err s) (Err e) exit rest {d} was out = let same : s.refused ≡ d = c
 
 module _ (tested : Tested) (S : Scene) (log : List ℕ) (n : ℕ) (B₀ : Lists) (Q₀ : ℕ) where
   pub starts : Calling tested S log n B₀ Q₀ 0 B₀ Q₀
-  starts = record { kept = record { positions = refl; normals = refl; uvs = refl; colours = refl; triangles = refl; links = refl; slots = refl }; left = rw sub-zero }
+  starts = record { left = rw sub-zero }
 
   abbrev rest : ℕ → Lists → ℕ → Progress
   rest k = calls tested S log (k + 1) (n - (k + 1))
@@ -84,21 +71,10 @@ module _ (tested : Tested) (S : Scene) (log : List ℕ) (n : ℕ) (B₀ : Lists)
       let f : suc k ≡ k + 1 = omega arith in
       rw e (ap (λ (j : ℕ). onward (update_mesh tested S (entry_log log k) B Q) (calls tested S log j (n - (k + 1)))) f)
 
-  pub goes_on : (k : ℕ) (B : Lists) (Q : ℕ) (exit : Lists) (x : Updated) {P : ℕ} → k < n → Calling tested S log n B₀ Q₀ k B Q → Kept B exit
+  pub goes_on : (k : ℕ) (B : Lists) (Q : ℕ) (exit : Lists) (x : Updated) {P : ℕ} → k < n → Calling tested S log n B₀ Q₀ k B Q
       → Updates tested S (entry_log log k) B Q x exit → meshed_by x ≡ Ok P → Calling tested S log n B₀ Q₀ (k + 1) exit P
-  goes_on k B Q exit x {P} h c s e was =
-      record {
-        kept = record {
-          positions = s.positions ∙ c.kept.positions;
-          normals = s.normals ∙ c.kept.normals;
-          uvs = s.uvs ∙ c.kept.uvs;
-          colours = s.colours ∙ c.kept.colours;
-          triangles = s.triangles ∙ c.kept.triangles;
-          links = s.links ∙ c.kept.links;
-          slots = s.slots ∙ c.kept.slots;
-        };
-        left = onward_of x exit (rest k) was ∙ (λ i. onward (e i) (rest k)) ∙ sym (one_call_lem k B Q h) ∙ c.left;
-      }
+  goes_on k B Q exit x {P} h c e was =
+      record { left = onward_of x exit (rest k) was ∙ (λ i. onward (e i) (rest k)) ∙ sym (one_call_lem k B Q h) ∙ c.left }
 
   pub refuses : (k : ℕ) (B : Lists) (Q : ℕ) (exit : Lists) (x : Updated) (r : Meshed) {d : Refused} → k < n → Calling tested S log n B₀ Q₀ k B Q
       → Updates tested S (entry_log log k) B Q x exit → meshed_by x ≡ Err d → IsErrAnd r (λ y. y ≡ d) → went_of r exit ≡ calls tested S log 0 n B₀ Q₀
