@@ -1,26 +1,22 @@
 -- The calls one after the other: what the contracts of each give together. Assumes nothing.
 use Prim.Native.Nat.{ℕ}
-use mathlib.Core.Path.{◌≡◌, refl, sym, ap, ◌∙◌}
+use mathlib.Core.Path.{◌≡◌, refl, sym, ap, ◌∙◌, subst}
 use mathlib.Core.Bool.{Bool, true, false, cond}
 use mathlib.Core.List.{List, []}
 use lib.Dec.{eqb}
+use Rattle.std.specs.Prelude.{Result, Ok, Err}
+use Rattle.std.specs.Result.{IsErrAnd}
 use borrow.Author.Tests.{eqb-true}
 use Rattle.rules.specs.Mesh.{Lists}
 use Rattle.rules.specs.Update.{Tested, AddsAlike}
 use Rattle.rules.specs.Answers.{Verdict, fine, refuse, ◌then◌}
 use Rattle.rules.specs.Calls.{Answer, Outcome, Scene, world, entries_of, update_mesh, check_verdict}
-use Rattle.answers.specs.declared.Refusal.{Refusal}
-use Rattle.answers.specs.Verdicts.{number_of, refuses}
-use Rattle.answers.proofs.Chains.{stops}
-use Rattle.meshem.specs.declared.Meshed.{Meshed}
-use Rattle.meshem.specs.declared.Meshed.TheVariants as meshed
-use Rattle.meshem.specs.Outcome as mesh
+use Rattle.answers.specs.declared.Refused.{Refused}
+use Rattle.answers.specs.Verdicts.{number_of, verdict_of}
 use Rattle.terms.specs.declared.Tested as code
 use Rattle.terms.specs.Modes.{tested_by}
-use Rattle.update.specs.declared.Updated.{Updated}
-use Rattle.update.specs.declared.Updated.TheVariants as updated
 use Rattle.update.specs.Outcome.{answer_of}
-use Rattle.demands.specs.Promised.{Meshes}
+use Rattle.demands.specs.Promised.{Meshes, Meshed, Updated}
 use Rattle.demands.specs.Chunks.{ground_after, FillingLog, LogFor}
 use Rattle.release.specs.Composed.{Ending, meshed_by, ends_with, only_after, verdict_by, checked_after, checked_on, make_ending, mend_promise, mend_ending}
 use Rattle.demands.proofs.Telling.{numbered}
@@ -33,47 +29,50 @@ pub checked : (S : Scene) (outer grid : List ℕ) {a : Answer} {exit : Lists} {u
     → record { answer = a; lists = exit } ≡ u → ends_with v exit ≡ checked_on S outer grid u
 checked S outer grid {exit = exit} c e = (λ i. ends_with (c i) exit) ∙ ap (checked_on S outer grid) e
 
--- a refusal is the verdict
-pub refusal : (why : Refusal) (place Q moved : ℕ) (S : Scene) (outer grid : List ℕ) (B : Lists)
-    → refuse (number_of why) place ≡ checked_after (record { number = number_of why; place = place; quads = Q; moved = moved }) S outer grid B
-unfolding ◌then◌
-refusal why place Q moved S outer grid B = rw (numbered why).1
-
--- a mesh that was made is checked, one that was not is refused
-pub by_check : (made : Meshed) (quads : ℕ) (S : Scene) (outer grid : List ℕ) (B : Lists) {v : Verdict} → made ≡ meshed.Done quads
-    → v ≡ check_verdict S outer grid B quads → v ≡ checked_after (mesh.answer_of made) S outer grid B
-unfolding ◌then◌
-by_check made quads S outer grid B e c = c ∙ ap (λ (m : Meshed). checked_after (mesh.answer_of m) S outer grid B) (sym e)
-
-pub by_refusal : (made : Meshed) (why : Refusal) (place : ℕ) (S : Scene) (outer grid : List ℕ) (B : Lists) → made ≡ meshed.Refused why place
-    → refuse (number_of why) place ≡ checked_after (mesh.answer_of made) S outer grid B
-by_refusal made why place S outer grid B e =
-    refusal why place 0 0 S outer grid B ∙ ap (λ (m : Meshed). checked_after (mesh.answer_of m) S outer grid B) (sym e)
+-- what a `?` gives out is what it met
+pub refused_so : (r : Result Unit Refused) (e : Refused) → IsErrAnd r (λ y. y ≡ e) → verdict_of r ≡ refuse (number_of e.why) e.place
+refused_so (Ok u) e out = absurd out
+refused_so (Err d) e out = rw out
 
 -- an update is checked by the answer that it leaves
-pub left_by : (mended : Updated) (S : Scene) (outer grid : List ℕ) (B : Lists)
-    → checked_after (mesh.answer_of (meshed_by mended)) S outer grid B ≡ checked_after (answer_of mended) S outer grid B
-left_by (updated.Done count) S outer grid B = refl
-left_by (updated.Refused why place count) S outer grid B = sym (refusal why place 0 0 S outer grid B) ∙ refusal why place count.quads count.moved S outer grid B
+pub left_refused : (x : Updated) (r : Result Unit Refused) {e : Refused} (S : Scene) (outer grid : List ℕ) (B : Lists) → meshed_by x ≡ Err e → IsErrAnd r (λ y. y ≡ e)
+    → verdict_of r ≡ checked_after (answer_of x) S outer grid B
+unfolding ◌then◌
+left_refused (Ok count) r S outer grid B was out = cc
+left_refused (Err s) r {e} S outer grid B was out =
+    let same : s.refused ≡ e = cc in
+    refused_so r e out ∙ rw (sym same, (numbered s.refused.why).1)
+
+pub left_checked : (x : Updated) {Q : ℕ} {v : Verdict} (S : Scene) (outer grid : List ℕ) (B : Lists) → meshed_by x ≡ Ok Q → v ≡ check_verdict S outer grid B Q
+    → v ≡ checked_after (answer_of x) S outer grid B
+unfolding ◌then◌
+left_checked (Ok count) {Q} S outer grid B was c = let same : count.quads ≡ Q = cc in c ∙ rw (sym same)
+left_checked (Err s) S outer grid B was c = cc
 
 -- ---- a mesh made and checked
 
-pub made : (S : Scene) (outer grid : List ℕ) (B exit : Lists) (m : Meshed) {v : Verdict} → v ≡ checked_after (mesh.answer_of m) S outer grid exit
+pub made : (S : Scene) (outer grid : List ℕ) (B exit : Lists) (m : Meshed) (quads : ℕ) {v : Verdict} → m ≡ Ok quads → v ≡ check_verdict S outer grid exit quads
     → Meshes S outer grid true B m exit → ends_with v exit ≡ make_ending S outer grid B
-unfolding ◌then◌
-made S outer grid B exit (meshed.Done quads) c e =
-    let v = c ∙ sym (fresh_is_fine S outer grid B exit quads e) ∙ sym (what_a_mesh_call_says S outer grid true B (meshed.Done quads) exit e).accepted in
+made S outer grid B exit m quads was c meshes =
+    let e = subst (λ (x : Meshed). Meshes S outer grid true B x exit) was meshes in
+    let v = c ∙ sym (fresh_is_fine S outer grid B exit quads e) ∙ sym (what_a_mesh_call_says S outer grid true B (Ok quads) exit e).accepted in
     λ i. ends_with (v i) (e i).lists
-made S outer grid B exit (meshed.Refused why place) c e =
-    let v = c ∙ sym (refusal why place 0 0 S outer grid exit) ∙ sym (what_a_mesh_call_says S outer grid true B (meshed.Refused why place) exit e).0.told in
+
+pub unmade : (S : Scene) (outer grid : List ℕ) (B exit : Lists) (m : Meshed) (r : Result Unit Refused) (d : Refused) → m ≡ Err d → IsErrAnd r (λ y. y ≡ d)
+    → Meshes S outer grid true B m exit → ends_with (verdict_of r) exit ≡ make_ending S outer grid B
+unmade S outer grid B exit m r d was out meshes =
+    let e = subst (λ (x : Meshed). Meshes S outer grid true B x exit) was meshes in
+    let v = refused_so r d out ∙ sym (what_a_mesh_call_says S outer grid true B (Err d) exit e).0.told in
     λ i. ends_with (v i) (e i).lists
 
 -- ---- a mesh mended and checked
 module _ (tested : Tested) (S : Scene) (grid log left : List ℕ) (B : Lists) (Q : ℕ) where
-  pub stopped : (x : Verdict) → x ≡ check_verdict S [] grid B Q → refuses x ≡ true → ends_with x B ≡ mend_ending tested S grid log left B Q
-  stopped x e t =
-      let rest = checked_on S [] left (update_mesh tested S log B Q) in
-      λ i. ends_with (stops x _ rest.verdict e t i) (cond ((sym t ∙ ap refuses e) i) B rest.lists)
+  pub stopped : (x r : Result Unit Refused) {e : Refused} → x ≡ Err e → IsErrAnd r (λ y. y ≡ e) → verdict_of x ≡ check_verdict S [] grid B Q
+      → ends_with (verdict_of r) B ≡ mend_ending tested S grid log left B Q
+  unfolding ◌then◌
+  stopped x r {e} was out k =
+      (λ i. ends_with (refused_so r e out i) B)
+      ∙ (λ i. only_after ((sym (ap verdict_of was) ∙ k) i) B (checked_on S [] left (update_mesh tested S log B Q)))
 
   pub mended : {o : Ending} → check_verdict S [] grid B Q ≡ fine → o ≡ checked_on S [] left (update_mesh tested S log B Q)
       → o ≡ mend_ending tested S grid log left B Q

@@ -12,65 +12,54 @@ use borrow.Author.Tests.{eqb-true}
 use Rattle.rules.specs.Lists.{each}
 use Rattle.rules.specs.Mesh.{Lists}
 use Rattle.rules.specs.Update.{ENTRY_BYTES, Entry, entry_at, Tested, grid_log, Honest, Mends, AddsAlike, grid_after as gridStep}
-use Rattle.rules.specs.Answers.{Verdict, fine, refuse, ◌then◌}
-use Rattle.rules.specs.Calls.{Outcome, Scene, world, entries_of, mesh_verdict, update_mesh}
+use Rattle.rules.specs.Answers.{Verdict, ◌then◌}
+use Rattle.rules.specs.Calls.{Outcome, Scene, world, entries_of, update_mesh, check_verdict}
 use Rattle.rules.proofs.ListLaws.{split}
-use Rattle.answers.specs.declared.Refusal.{Refusal}
-use Rattle.answers.specs.Verdicts.{number_of}
-use Rattle.meshem.specs.declared.Meshed.{Meshed}
-use Rattle.meshem.specs.declared.Meshed.TheVariants as meshed
-use Rattle.meshem.specs.Outcome as mesh
+use Rattle.answers.specs.declared.Refused.{Refused}
+use Rattle.answers.specs.Verdicts.{verdict_of}
+use Rattle.std.specs.Prelude.{Result, Ok, Err}
+use Rattle.std.specs.Result.{IsErrAnd}
 use Rattle.terms.specs.declared.Tested as code
 use Rattle.terms.specs.Modes.{tested_by}
-use Rattle.terms.specs.declared.Count.{Count}
-use Rattle.update.specs.declared.Updated.{Updated}
-use Rattle.update.specs.declared.Updated.TheVariants.{Done, Refused}
 use Rattle.update.specs.Outcome.{outcome_of}
-use Rattle.answers.specs.declared.Verdict.TheVariants.{Fine}
-use Rattle.demands.specs.Promised.{Meshes, Updates, Checks}
+use Rattle.demands.specs.Promised.{Meshes, Updates, Checks, Meshed, Updated, Fine}
 use Rattle.demands.specs.Chunks.{ground_after, LogFor}
 use Rattle.release.specs.OneByOne.{Progress, through, halted, went_of, onward, entry_log, calls, verdict_on, passed_on, ends_on, chain, chain_promise, chain_ending}
-use Rattle.release.specs.Composed.{Ending, ends_with, only_after, checked_after}
-use Rattle.release.proofs.Composed.{refusal}
+use Rattle.release.specs.Composed.{Ending, meshed_by, ends_with, only_after}
+use Rattle.release.proofs.Composed.{refused_so}
 use Rattle.demands.proofs.Telling.{numbered}
 use Rattle.demands.proofs.Stopped.{entry_stays, entry_dropped}
 use Rattle.demands.proofs.Answers.{what_a_mesh_call_says}
 use Rattle.demands.proofs.Fresh.{fresh_is_fine}
 use Rattle.demands.proofs.Mending.{still_fine, asked}
 
--- an answer by the name that a `match` found it to have
-pub updates : (exit : Lists) {o : Outcome} {a b : Updated} → a ≡ b → outcome_of a exit ≡ o → outcome_of b exit ≡ o
-updates exit p e = ap (λ (x : Updated). outcome_of x exit) (sym p) ∙ e
-
-pub meshes : {o : Outcome} {exit : Lists} {a b : Meshed} → a ≡ b → mesh.outcome a exit ≡ o → mesh.outcome b exit ≡ o
-meshes {exit = exit} p e = ap (λ (x : Meshed). mesh.outcome x exit) (sym p) ∙ e
-
 -- the check of what the calls left
-pub passed : (S : Scene) (left : List ℕ) (went : Meshed) (exit : Lists) {v : Verdict} {k : Progress} → v ≡ checked_after (mesh.answer_of went) S [] left exit
+pub passed : (S : Scene) (left : List ℕ) (went : Meshed) {Q : ℕ} (exit : Lists) {v : Verdict} {k : Progress} → went ≡ Ok Q → v ≡ check_verdict S [] left exit Q
     → went_of went exit ≡ k → ends_with v exit ≡ ends_on S left k
-unfolding ◌then◌
-passed S left (meshed.Done quads) exit c e = (λ i. ends_with (c i) exit) ∙ ap (ends_on S left) e
-passed S left (meshed.Refused why place) exit c e =
-    let v = c ∙ sym (refusal why place 0 0 S [] left exit) in (λ i. ends_with (v i) exit) ∙ ap (ends_on S left) e
+passed S left went exit was c e = (λ i. ends_with (c i) exit) ∙ (λ i. ends_on S left (went_of (sym was i) exit)) ∙ ap (ends_on S left) e
 
--- the lists keep their lengths
-pub record Kept (A B : Lists) : Type 0 where
-  pub positions : length B.vertices.positions ≡ length A.vertices.positions
-  pub normals : length B.vertices.normals ≡ length A.vertices.normals
-  pub uvs : length B.vertices.uvs ≡ length A.vertices.uvs
-  pub colours : length B.vertices.colours ≡ length A.vertices.colours
-  pub triangles : length B.triangles ≡ length A.triangles
-  pub links : length B.links ≡ length A.links
-  pub slots : length B.slots ≡ length A.slots
+pub halts : (S : Scene) (left : List ℕ) (went : Meshed) (r : Result Unit Refused) (d : Refused) (exit : Lists) {k : Progress} → went ≡ Err d → IsErrAnd r (λ y. y ≡ d)
+    → went_of went exit ≡ k → ends_with (verdict_of r) exit ≡ ends_on S left k
+halts S left went r d exit was out e = (λ i. ends_with (refused_so r d out i) exit) ∙ (λ i. ends_on S left (went_of (sym was i) exit)) ∙ ap (ends_on S left) e
 
 -- k calls are done: what is left on what is there is the whole on what was there
 pub record Calling (tested : Tested) (S : Scene) (log : List ℕ) (n : ℕ) (B₀ : Lists) (Q₀ k : ℕ) (B : Lists) (Q : ℕ) : Type 0 where
-  pub kept : Kept B₀ B
   pub left : calls tested S log k (n - k) B Q ≡ calls tested S log 0 n B₀ Q₀
+
+-- after a call that was answered, the rest; after one that was refused, nothing
+onward_of : (x : Updated) (exit : Lists) (rest : Lists → ℕ → Progress) {P : ℕ} → meshed_by x ≡ Ok P → rest exit P ≡ onward (outcome_of x exit) rest
+onward_of (Ok count) exit rest {P} was = let same : count.quads ≡ P = cc in rw (sym same)
+onward_of (Err s) exit rest was = cc
+
+halted_of : (x : Updated) (r : Meshed) (exit : Lists) (rest : Lists → ℕ → Progress) {d : Refused} → meshed_by x ≡ Err d → IsErrAnd r (λ y. y ≡ d)
+    → went_of r exit ≡ onward (outcome_of x exit) rest
+halted_of (Ok count) r exit rest was out = cc
+halted_of (Err s) (Ok quads) exit rest was out = absurd out
+halted_of (Err s) (Err e) exit rest {d} was out = let same : s.refused ≡ d = cc in rw (out, sym same, (numbered s.refused.why).1)
 
 module _ (tested : Tested) (S : Scene) (log : List ℕ) (n : ℕ) (B₀ : Lists) (Q₀ : ℕ) where
   pub starts : Calling tested S log n B₀ Q₀ 0 B₀ Q₀
-  starts = record { kept = record { positions = refl; normals = refl; uvs = refl; colours = refl; triangles = refl; links = refl; slots = refl }; left = rw sub-zero }
+  starts = record { left = rw sub-zero }
 
   abbrev rest : ℕ → Lists → ℕ → Progress
   rest k = calls tested S log (k + 1) (n - (k + 1))
@@ -82,27 +71,15 @@ module _ (tested : Tested) (S : Scene) (log : List ℕ) (n : ℕ) (B₀ : Lists)
       let f : suc k ≡ k + 1 = omega arith in
       rw e (ap (λ (j : ℕ). onward (update_mesh tested S (entry_log log k) B Q) (calls tested S log j (n - (k + 1)))) f)
 
-  pub goes_on : (k : ℕ) (B : Lists) (Q : ℕ) (exit : Lists) (count : Count) → k < n → Calling tested S log n B₀ Q₀ k B Q → Kept B exit
-      → Updates tested S (entry_log log k) B Q (Done count) exit → Calling tested S log n B₀ Q₀ (k + 1) exit count.quads
-  goes_on k B Q exit count h c s e =
-      record {
-        kept = record {
-          positions = s.positions ∙ c.kept.positions;
-          normals = s.normals ∙ c.kept.normals;
-          uvs = s.uvs ∙ c.kept.uvs;
-          colours = s.colours ∙ c.kept.colours;
-          triangles = s.triangles ∙ c.kept.triangles;
-          links = s.links ∙ c.kept.links;
-          slots = s.slots ∙ c.kept.slots;
-        };
-        left = (λ i. onward (e i) (rest k)) ∙ sym (one_call_lem k B Q h) ∙ c.left;
-      }
+  pub goes_on : (k : ℕ) (B : Lists) (Q : ℕ) (exit : Lists) (x : Updated) {P : ℕ} → k < n → Calling tested S log n B₀ Q₀ k B Q
+      → Updates tested S (entry_log log k) B Q x exit → meshed_by x ≡ Ok P → Calling tested S log n B₀ Q₀ (k + 1) exit P
+  goes_on k B Q exit x {P} h c e was =
+      record { left = onward_of x exit (rest k) was ∙ (λ i. onward (e i) (rest k)) ∙ sym (one_call_lem k B Q h) ∙ c.left }
 
-  pub refuses : (k : ℕ) (B : Lists) (Q : ℕ) (exit : Lists) (why : Refusal) (place : ℕ) (count : Count) → k < n → Calling tested S log n B₀ Q₀ k B Q
-      → Updates tested S (entry_log log k) B Q (Refused why place count) exit → halted (number_of why) place exit ≡ calls tested S log 0 n B₀ Q₀
-  refuses k B Q exit why place count h c e =
-      let stop : halted (number_of why) place exit ≡ onward (outcome_of (Refused why place count) exit) (rest k) = rw (numbered why).1 in
-      stop ∙ (λ i. onward (e i) (rest k)) ∙ sym (one_call_lem k B Q h) ∙ c.left
+  pub refuses : (k : ℕ) (B : Lists) (Q : ℕ) (exit : Lists) (x : Updated) (r : Meshed) {d : Refused} → k < n → Calling tested S log n B₀ Q₀ k B Q
+      → Updates tested S (entry_log log k) B Q x exit → meshed_by x ≡ Err d → IsErrAnd r (λ y. y ≡ d) → went_of r exit ≡ calls tested S log 0 n B₀ Q₀
+  refuses k B Q exit x r h c e was out =
+      halted_of x r exit (rest k) was out ∙ (λ i. onward (e i) (rest k)) ∙ sym (one_call_lem k B Q h) ∙ c.left
 
   pub ends : (k : ℕ) (B : Lists) (Q : ℕ) → n ≤ k → Calling tested S log n B₀ Q₀ k B Q → through B Q ≡ calls tested S log 0 n B₀ Q₀
   unfolding calls
@@ -182,17 +159,15 @@ module _ (mode : code.Tested) (S : Scene) (grid log left : List ℕ) (B : Lists)
   idle_on (through C Q) p = sym p
   idle_on (halted number place C) p = refl
 
-  made_fine : (exit : Lists) (quads : ℕ) → Meshes S [] grid true B (meshed.Done quads) exit → mesh_verdict S [] grid true B ≡ fine
-  made_fine exit quads e = (what_a_mesh_call_says S [] grid true B (meshed.Done quads) exit e).accepted
-
-  pub chained : (exit : Lists) (quads : ℕ) {o : Ending} → Meshes S [] grid true B (meshed.Done quads) exit
+  pub chained : (exit : Lists) (m : Meshed) (quads : ℕ) {o : Ending} → m ≡ Ok quads → Meshes S [] grid true B m exit
       → o ≡ ends_on S left (calls (tested_by mode) S log 0 (length log / ENTRY_BYTES) exit quads)
       → (o ≡ chain_ending (tested_by mode) S grid log left B)
       × (LogFor mode S grid log → left ≡ ground_after S log grid → o.verdict ≡ chain_promise (tested_by mode) S grid log B)
   unfolding ◌then◌
-  chained exit quads e c =
+  chained exit m quads was meshes c =
+      let e = subst (λ (x : Meshed). Meshes S [] grid true B x exit) was meshes in
       let done : Outcome → Progress = λ o. calls (tested_by mode) S log 0 (length log / ENTRY_BYTES) o.lists o.answer.quads in
-      let accepted = sym (made_fine exit quads e) in (
+      let accepted = sym (what_a_mesh_call_says S [] grid true B (Ok quads) exit e).accepted in (
         c ∙ (λ i. only_after (accepted i) (e i).lists (ends_on S left (done (e i)))),
         λ h l. ap (λ (o : Ending). o.verdict) c
             ∙ idle_on (calls (tested_by mode) S log 0 (length log / ENTRY_BYTES) exit quads)
@@ -201,12 +176,14 @@ module _ (mode : code.Tested) (S : Scene) (grid log left : List ℕ) (B : Lists)
             ∙ (λ i. accepted i then verdict_on (done (e i))),
       )
 
-  pub unmade : (exit : Lists) (why : Refusal) (place : ℕ) → Meshes S [] grid true B (meshed.Refused why place) exit
-      → (ends_with (refuse (number_of why) place) exit ≡ chain_ending (tested_by mode) S grid log left B)
-      × (LogFor mode S grid log → left ≡ ground_after S log grid → refuse (number_of why) place ≡ chain_promise (tested_by mode) S grid log B)
+  pub unmade : (exit : Lists) (m : Meshed) (r : Result Unit Refused) (d : Refused) → m ≡ Err d → IsErrAnd r (λ y. y ≡ d) → Meshes S [] grid true B m exit
+      → (ends_with (verdict_of r) exit ≡ chain_ending (tested_by mode) S grid log left B)
+      × (LogFor mode S grid log → left ≡ ground_after S log grid → verdict_of r ≡ chain_promise (tested_by mode) S grid log B)
   unfolding ◌then◌
-  unmade exit why place e =
-      let t = sym (what_a_mesh_call_says S [] grid true B (meshed.Refused why place) exit e).0.told in (
-        λ i. only_after (t i) (e i).lists (ends_on S left (chain (tested_by mode) S grid log B)),
-        λ h l. λ i. t i then verdict_on (chain (tested_by mode) S grid log B),
+  unmade exit m r d was out meshes =
+      let e = subst (λ (x : Meshed). Meshes S [] grid true B x exit) was meshes in
+      let v = refused_so r d out in
+      let t = sym (what_a_mesh_call_says S [] grid true B (Err d) exit e).0.told in (
+        (λ i. ends_with (v i) exit) ∙ (λ i. only_after (t i) (e i).lists (ends_on S left (chain (tested_by mode) S grid log B))),
+        λ h l. v ∙ (λ i. t i then verdict_on (chain (tested_by mode) S grid log B)),
       )

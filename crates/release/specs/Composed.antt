@@ -1,19 +1,19 @@
 -- What the calls answer one after the other, and what they leave. Definitions only.
-use Rattle.std.specs.Prelude.{ℕ, true, cond, List, [], eqb}
+use Rattle.std.specs.Prelude.{ℕ, Bool, true, false, cond, List, [], eqb, Ok, Err}
 use Rattle.rules.specs.Mesh.{Lists}
 use Rattle.rules.specs.Update.{Tested}
 use Rattle.rules.specs.Answers.{Verdict, fine, refuse, ◌then◌}
 use Rattle.rules.specs.Calls.{Answer, Outcome, Scene, mesh_verdict, mesh_grid, update_mesh, check_verdict}
-use Rattle.answers.specs.Verdicts.{refuses}
-use Rattle.meshem.specs.declared.Meshed.{Meshed}
-use Rattle.meshem.specs.declared.Meshed.TheVariants as meshed
-use Rattle.update.specs.declared.Updated.{Updated}
-use Rattle.update.specs.declared.Updated.TheVariants as updated
+use Rattle.demands.specs.Promised.{Meshed, Updated}
 
 -- an update's answer as that of a mesh: how many quads there are, or the refusal
 abbrev pub meshed_by : Updated → Meshed
-meshed_by (updated.Done count) = meshed.Done count.quads
-meshed_by (updated.Refused why place count) = meshed.Refused why place
+meshed_by (Ok count) = Ok count.quads
+meshed_by (Err s) = Err s.refused
+
+abbrev pub refuses : Verdict → Bool
+refuses fine = false
+refuses (refuse n p) = true
 
 -- the last verdict, and the lists as they are left
 pub record Ending : Type 0 where

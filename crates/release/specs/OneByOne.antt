@@ -1,14 +1,13 @@
 -- A call for each entry of a log. Definitions only.
-use Rattle.std.specs.Prelude.{ℕ, zero, suc, ◌*◌, ◌/◌, true, cond, List, [], eqb, length}
+use Rattle.std.specs.Prelude.{ℕ, zero, suc, ◌*◌, ◌/◌, true, cond, List, [], eqb, length, Ok, Err}
 use Rattle.rules.specs.Lists.{part}
 use Rattle.rules.specs.Mesh.{Lists}
 use Rattle.rules.specs.Update.{ENTRY_BYTES, Tested}
 use Rattle.rules.specs.Answers.{Verdict, fine, refuse, ◌then◌}
 use Rattle.rules.specs.Calls.{Outcome, Scene, mesh_verdict, mesh_grid, update_mesh, check_verdict}
 use Rattle.answers.specs.Verdicts.{number_of}
+use Rattle.demands.specs.Promised.{Meshed}
 use Rattle.release.specs.Composed.{Ending, ends_with, only_after}
-use Rattle.meshem.specs.declared.Meshed.{Meshed}
-use Rattle.meshem.specs.declared.Meshed.TheVariants.{Done, Refused}
 
 -- through all the calls, with these lists and so many quads; or halted by a refusal with its number and place
 pub data Progress : Type 0 where
@@ -16,8 +15,8 @@ pub data Progress : Type 0 where
   halted : ℕ → ℕ → Lists → Progress
 
 abbrev pub went_of : Meshed → Lists → Progress
-went_of (Done quads) B = through B quads
-went_of (Refused why place) B = halted (number_of why) place B
+went_of (Ok quads) B = through B quads
+went_of (Err r) B = halted (number_of r.why) r.place B
 
 -- after a call that was answered, the rest; after one that was refused, nothing
 abbrev pub onward : Outcome → (Lists → ℕ → Progress) → Progress

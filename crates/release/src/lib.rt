@@ -4,17 +4,16 @@
 
 ghost use Rattle.std.specs.Prelude.{◌≡◌};
 ghost use Rattle.answers.specs.Verdicts.{verdict_of};
-ghost use Rattle.meshem.specs.Outcome.{answer_of};
 ghost use Rattle.terms.specs.Loans.{lists_lent};
 ghost use Rattle.terms.specs.Scenes.{scene_of};
 ghost use Rattle.terms.specs.Modes.{tested_by};
 ghost use Rattle.demands.specs.Chunks.{LogFor, ground_after};
-ghost use Rattle.release.specs.Composed.{meshed_by, ends_with, checked_after, make_ending, mend_promise, mend_ending};
+ghost use Rattle.release.specs.Composed.{meshed_by, ends_with, make_ending, mend_promise, mend_ending};
 
-use answers::{Verdict, is_refusal};
+use answers::Verdict;
 use checking::check_mesh;
 use meshem::{Meshed, mesh_grid};
-use terms::{MeshingAlgorithm, Scene, Tested};
+use terms::{Lists, MeshingAlgorithm, Scene, Tested};
 use update::{Updated, update_mesh};
 
 pub mod one_by_one; // one_by_one.rt: a call for each entry of a log
@@ -23,39 +22,9 @@ pub mod one_by_one; // one_by_one.rt: a call for each entry of a log
 fn mesh_left(mended: Updated) -> Meshed
     ensures { result ≡ meshed_by mended }
 {
-    match mended {
-        Updated::Done(count) => Meshed::Done(count.quads),
-        Updated::Refused(why, place, count) => Meshed::Refused(why, place),
-    }
-}
-
-// Checks a mesh that was made; what refused to make it is the verdict on one that was not.
-fn check_made(
-    made: Meshed,
-    scene: Scene,
-    outer: &[u8],
-    grid: &[u8],
-    kinds: &[u8],
-    covers: &[u8],
-    cubes: &[u32],
-    positions: &[u32],
-    normals: &[u32],
-    uvs: &[u32],
-    colours: &[u32],
-    triangles: &[u32],
-    links: &[u32],
-    slots: &[u32],
-) -> Verdict
-    ensures { verdict_of result ≡ checked_after (answer_of made) (scene_of scene kinds.now covers.now cubes.now) outer.now grid.now
-        (lists_lent positions.now normals.now uvs.now colours.now triangles.now links.now slots.now) }
-{
-    match made {
-        Meshed::Done(quads) => check_mesh(
-            scene, outer, grid, kinds, covers, cubes, positions, normals, uvs, colours, triangles,
-            links, slots, quads,
-        ),
-        Meshed::Refused(why, place) => Verdict::Refuse(why, place),
-    }
+    mended
+        .map(|count| count.quads)
+        .map_err(|stopped| stopped.refused)
 }
 
 // Meshes a grid by Culling and checks what was made for the same outer list: the check refuses nothing.
@@ -67,23 +36,17 @@ pub fn make_and_check(
     triangles: &mut [u32],
     links: &mut [u32],
     slots: &mut [u32],
-    scene: Scene,
+    scene: Scene<'_>,
     outer: &[u8],
     grid: &[u8],
-    kinds: &[u8],
-    covers: &[u8],
-    cubes: &[u32],
 ) -> Verdict
     ensures { ends_with (verdict_of result) (lists_lent positions.new normals.new uvs.new colours.new triangles.new links.new slots.new)
-        ≡ make_ending (scene_of scene kinds.now covers.now cubes.now) outer.now grid.now (lists_lent positions.old normals.old uvs.old colours.old triangles.old links.old slots.old) }
+        ≡ make_ending (scene_of scene.entry) outer.now grid.now (lists_lent positions.old normals.old uvs.old colours.old triangles.old links.old slots.old) }
 {
-    let made = mesh_grid(
+    let quads = mesh_grid(
         scene,
         outer,
         grid,
-        kinds,
-        covers,
-        cubes,
         MeshingAlgorithm::Culling,
         positions,
         normals,
@@ -92,11 +55,17 @@ pub fn make_and_check(
         triangles,
         links,
         slots,
-    );
-    check_made(
-        made, scene, outer, grid, kinds, covers, cubes, positions, normals, uvs, colours,
-        triangles, links, slots,
-    )
+    )?;
+    let mesh = Lists {
+        positions,
+        normals,
+        uvs,
+        colours,
+        triangles,
+        links,
+        slots,
+    };
+    check_mesh(scene, outer, grid, mesh, quads)
 }
 
 // Checks a mesh with no outer face named, mends it by a log, and checks it for the grid `left`: the one that the log left, for the promise.
@@ -108,38 +77,43 @@ pub fn mend_and_check(
     triangles: &mut [u32],
     links: &mut [u32],
     slots: &mut [u32],
-    scene: Scene,
+    scene: Scene<'_>,
     grid: &[u8],
-    kinds: &[u8],
-    covers: &[u8],
-    cubes: &[u32],
     quads: usize,
     tested: Tested,
     log: &[u8],
     left: &[u8],
 ) -> Verdict
     ensures { (ends_with (verdict_of result) (lists_lent positions.new normals.new uvs.new colours.new triangles.new links.new slots.new)
-        ≡ mend_ending (tested_by tested) (scene_of scene kinds.now covers.now cubes.now) grid.now log.now left.now
+        ≡ mend_ending (tested_by tested) (scene_of scene.entry) grid.now log.now left.now
         (lists_lent positions.old normals.old uvs.old colours.old triangles.old links.old slots.old) quads)
-        × (LogFor tested (scene_of scene kinds.now covers.now cubes.now) grid.now log.now
-        → left.now ≡ ground_after (scene_of scene kinds.now covers.now cubes.now) log.now grid.now
-        → verdict_of result ≡ mend_promise (tested_by tested) (scene_of scene kinds.now covers.now cubes.now) grid.now log.now
+        × (LogFor tested (scene_of scene.entry) grid.now log.now
+        → left.now ≡ ground_after (scene_of scene.entry) log.now grid.now
+        → verdict_of result ≡ mend_promise (tested_by tested) (scene_of scene.entry) grid.now log.now
         (lists_lent positions.old normals.old uvs.old colours.old triangles.old links.old slots.old) quads) }
 {
     let no_face = &grid[..0];
-    let passed = check_mesh(
-        scene, no_face, grid, kinds, covers, cubes, positions, normals, uvs, colours, triangles,
-        links, slots, quads,
-    );
-    if is_refusal(passed) {
-        return passed;
-    }
+    let before = Lists {
+        positions,
+        normals,
+        uvs,
+        colours,
+        triangles,
+        links,
+        slots,
+    };
+    check_mesh(scene, no_face, grid, before, quads)?;
     let mended = mesh_left(update_mesh(
-        scene, kinds, covers, cubes, tested, log, positions, normals, uvs, colours, triangles,
-        links, slots, quads,
-    ));
-    check_made(
-        mended, scene, no_face, left, kinds, covers, cubes, positions, normals, uvs, colours,
-        triangles, links, slots,
-    )
+        scene, tested, log, positions, normals, uvs, colours, triangles, links, slots, quads,
+    ))?;
+    let after = Lists {
+        positions,
+        normals,
+        uvs,
+        colours,
+        triangles,
+        links,
+        slots,
+    };
+    check_mesh(scene, no_face, left, after, mended)
 }

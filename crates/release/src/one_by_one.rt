@@ -9,14 +9,15 @@ ghost use Rattle.demands.specs.Chunks.{LogFor, ground_after};
 ghost use Rattle.release.specs.Composed.{ends_with};
 ghost use Rattle.release.specs.OneByOne.{went_of, calls, chain_promise, chain_ending};
 
-use crate::check_made;
+use crate::mesh_left;
 use answers::Verdict;
+use checking::check_mesh;
 use entries::Entry;
 use meshem::{Meshed, mesh_grid};
-use terms::{MeshingAlgorithm, Scene, Tested};
-use update::{Updated, update_mesh};
+use terms::{Lists, MeshingAlgorithm, Scene, Tested};
+use update::update_mesh;
 
-// Mends a mesh by a call for each entry of a log.
+// Mends a mesh by a call for each entry of a log. Answers how many quads there are then, as a mesh does.
 fn mend_by_entries(
     positions: &mut [u32],
     normals: &mut [u32],
@@ -25,52 +26,25 @@ fn mend_by_entries(
     triangles: &mut [u32],
     links: &mut [u32],
     slots: &mut [u32],
-    scene: Scene,
-    kinds: &[u8],
-    covers: &[u8],
-    cubes: &[u32],
+    scene: Scene<'_>,
     tested: Tested,
     log: &[u8],
     quads: usize,
 ) -> Meshed
     ensures { went_of result (lists_lent positions.new normals.new uvs.new colours.new triangles.new links.new slots.new)
-        ≡ calls (tested_by tested) (scene_of scene kinds.now covers.now cubes.now)
+        ≡ calls (tested_by tested) (scene_of scene.entry)
         log.now 0 (length log.now / ENTRY_BYTES)
         (lists_lent positions.old normals.old uvs.old colours.old triangles.old links.old slots.old) quads }
 {
-    let entries = log.len() / Entry::BYTES;
     let mut left = quads;
-    let mut k: usize = 0;
-    while k < entries {
+    for k in 0..log.len() / Entry::BYTES {
         let at = Entry::BYTES * k;
-        let end = at + Entry::BYTES;
-        let mended = update_mesh(
-            scene,
-            kinds,
-            covers,
-            cubes,
-            tested,
-            &log[at..end],
-            positions,
-            normals,
-            uvs,
-            colours,
-            triangles,
-            links,
-            slots,
-            left,
-        );
-        match mended {
-            Updated::Done(count) => {
-                left = count.quads;
-            }
-            Updated::Refused(why, place, count) => {
-                return Meshed::Refused(why, place);
-            }
-        }
-        k += 1;
+        let entry = &log[at..at + Entry::BYTES];
+        left = mesh_left(update_mesh(
+            scene, tested, entry, positions, normals, uvs, colours, triangles, links, slots, left,
+        ))?;
     }
-    Meshed::Done(left)
+    Ok(left)
 }
 
 // Meshes a grid by Culling with no outer face named, mends the mesh by a call for each entry of a log, and checks it for the grid that the
@@ -83,23 +57,20 @@ pub fn make_mend_and_check(
     triangles: &mut [u32],
     links: &mut [u32],
     slots: &mut [u32],
-    scene: Scene,
+    scene: Scene<'_>,
     grid: &[u8],
-    kinds: &[u8],
-    covers: &[u8],
-    cubes: &[u32],
     tested: Tested,
     log: &[u8],
     left: &[u8],
 ) -> Verdict
     ensures { (ends_with (verdict_of result) (lists_lent positions.new normals.new uvs.new colours.new triangles.new links.new slots.new)
-        ≡ chain_ending (tested_by tested) (scene_of scene kinds.now covers.now cubes.now)
+        ≡ chain_ending (tested_by tested) (scene_of scene.entry)
         grid.now log.now left.now
         (lists_lent positions.old normals.old uvs.old colours.old triangles.old links.old slots.old))
-        × (LogFor tested (scene_of scene kinds.now covers.now cubes.now) grid.now log.now
-        → left.now ≡ ground_after (scene_of scene kinds.now covers.now cubes.now)
+        × (LogFor tested (scene_of scene.entry) grid.now log.now
+        → left.now ≡ ground_after (scene_of scene.entry)
         log.now grid.now
-        → verdict_of result ≡ chain_promise (tested_by tested) (scene_of scene kinds.now covers.now cubes.now)
+        → verdict_of result ≡ chain_promise (tested_by tested) (scene_of scene.entry)
         grid.now log.now
         (lists_lent positions.old normals.old uvs.old colours.old triangles.old links.old slots.old)) }
 {
@@ -107,9 +78,6 @@ pub fn make_mend_and_check(
         scene,
         &grid[..0],
         grid,
-        kinds,
-        covers,
-        cubes,
         MeshingAlgorithm::Culling,
         positions,
         normals,
@@ -118,30 +86,18 @@ pub fn make_mend_and_check(
         triangles,
         links,
         slots,
-    );
-    match made {
-        Meshed::Done(quads) => {
-            let mended = mend_by_entries(
-                positions, normals, uvs, colours, triangles, links, slots, scene, kinds, covers,
-                cubes, tested, log, quads,
-            );
-            check_made(
-                mended,
-                scene,
-                &left[..0],
-                left,
-                kinds,
-                covers,
-                cubes,
-                positions,
-                normals,
-                uvs,
-                colours,
-                triangles,
-                links,
-                slots,
-            )
-        }
-        Meshed::Refused(why, place) => Verdict::Refuse(why, place),
-    }
+    )?;
+    let mended = mend_by_entries(
+        positions, normals, uvs, colours, triangles, links, slots, scene, tested, log, made,
+    )?;
+    let mesh = Lists {
+        positions,
+        normals,
+        uvs,
+        colours,
+        triangles,
+        links,
+        slots,
+    };
+    check_mesh(scene, &left[..0], left, mesh, mended)
 }
