@@ -1,5 +1,5 @@
 -- `working::build_cubes` meets its contract. Assumes nothing.
-use Rattle.std.proofs.Common.{◌+◌, ◌*◌, ◌≤◌, ◌<◌, ◌≡◌, length, arith, sym, ◌∙◌}
+use Rattle.std.proofs.Common.{◌+◌, ◌*◌, ◌≤◌, ◌<◌, length, arith}
 use Rattle.rules.specs.Calls.{check_by}
 use Rattle.rules.specs.Program.{type_count}
 use Rattle.answers.specs.Verdicts.{verdict_of}
