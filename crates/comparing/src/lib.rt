@@ -170,7 +170,7 @@ impl Comparison<'_> {
     }
 }
 
-// The first quad that differs in any float of any attribute, or their count: past the quads that are right without a doubt, each list is searched up to the lowest so far.
+// The first quad that differs in any float of any attribute, or their count, as the rules' `lowest` counts: past the quads that are right without a doubt, each list is searched up to the lowest so far.
 pub fn first_wrong_quad(scene: Scene<'_>, grid: &[u8], lists: Lists<'_>, count: usize) -> usize
     requires { ComparableAll (scene_of scene) grid.now (vertices_in lists) lists.links.now count × T (finite3 (triple_of scene.d)) }
     ensures { result ≡ lowest count (other_quad (scene_of scene.entry) grid.now (vertices_in lists.entry) lists.entry.links.now) }

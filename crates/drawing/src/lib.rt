@@ -59,6 +59,7 @@ pub fn write_pattern(triangles: &mut [u32], q: usize)
     requires { (6 * (q + 1) ≤ length triangles.old) × (4 * (q + 1) ≤ NONE) }
     ensures { triangles.new ≡ put (6 * q) (pattern q) triangles.old }
 {
+    // Six writes: a copy of an array of the six is no plainer.
     let first = (4 * q) as u32;
     let at = 6 * q;
     triangles[at] = first;

@@ -201,7 +201,7 @@ fn bad_entry(log: &[u8], k: usize, cells: u32, types: u32) -> bool
         | bad_spare(log, at)
 }
 
-// The lowest entry with a bad field or past the limit, or the number of whole entries.
+// The lowest entry with a bad field or past the limit, or the number of whole entries, as the rules' `lowest` counts.
 pub fn first_bad_entry(log: &[u8], cells: u32, types: u32) -> usize
     ensures { result ≡ lowest (length log.now / ENTRY_BYTES) (bad_entry cells types log.now) }
 {

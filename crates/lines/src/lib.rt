@@ -39,6 +39,7 @@ fn digit(n: u64) -> u8
     b'0' + ((n % 10) as u8)
 }
 
+// A digit a turn, as many as n has: no range counts them.
 fn decimal_length(n: u64) -> usize
     ensures { result ≡ length (decimal n) }
 {

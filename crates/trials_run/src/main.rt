@@ -163,7 +163,7 @@ fn is_whole_patch(place: usize, n: usize, there: usize, room: usize) -> bool
     n == there && end <= room && 0 < place && (end <= LENGTHS || HEAD <= place)
 }
 
-// Makes the patches, up to one that does not fit, and answers whether all do.
+// Makes the patches, up to one that does not fit, and answers whether all do. A turn goes a patch on, however long it is.
 fn patch(patches: &[u32], image: &mut [u32]) -> bool {
     let mut at: usize = 0;
     while at + 1 < patches.len() {

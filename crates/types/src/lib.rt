@@ -16,7 +16,8 @@ use answers::{Refusal, Verdict, refuse_if, refuse_lowest};
 use floats::{Triple, is_finite_bits};
 use voxel_mesh::{corner_of, floats_of, triangle_words};
 
-// The types by their numbers: each has a kind, a covering side set and 24 vertices of the registry.
+// The types by their numbers: each has a kind, a covering side set and 24 vertices of the registry. Kinds and sets are bytes, as the C interface lends them; 1 is a
+// NormalCube.
 #[derive(Clone, Copy)]
 pub struct Types<'a> {
     pub kinds: &'a [u8],

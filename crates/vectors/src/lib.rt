@@ -17,7 +17,7 @@ fn decode(bytes: &[u8], words: &mut [u32]) {
     }
 }
 
-// Reads until the bytes are full or the file ends, and answers how many it read.
+// Reads until the bytes are full or the file ends, and answers how many it read: as many a turn as a read gives.
 pub fn read_full<R: Read>(file: &mut R, bytes: &mut [u8]) -> io::Result<usize>
     ensures { IfOk result (λ n. n ≤ length bytes.new) }
 {
