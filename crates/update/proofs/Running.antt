@@ -88,17 +88,6 @@ module _ (tested : Tested) {S : Scene} {room : ℕ} {log : List ℕ} {vs₀ : Ve
   abbrev works : ℕ → rule.Work
   works j = work tested (world S) (entry_at log j)
 
-  pub run_start : Running tested S room log vs₀ ls₀ Q 0 Q vs₀ ls₀ ss₀ Q 0
-  run_start =
-      let e : length log / ENTRY_BYTES - 0 ≡ length log / ENTRY_BYTES = omega arith in
-      record {
-        mesh = mesh_in S vs₀ ls₀ Q;
-        below = omega arith;
-        left = ap (λ (n : ℕ). course_from room works 0 n (mesh_in S vs₀ ls₀ Q) 0 Q) e;
-        holds = g.holds;
-        moves = omega arith;
-      }
-
   sound : Sound (world S)
   sound =
       let few = g.typed.counted.few in

@@ -23,22 +23,6 @@ use Rattle.steps.specs.Steps.{Deed}
 use Rattle.works.specs.declared.Work.{Work}
 use Rattle.works.specs.Sets.{set_in, packed, key_or, key_around, keys_around, key_met, cutting, type_drawn, deed_by, part_deeds, deed_by_side, deed_at, deeds}
 
--- ---- types and neighbours
-given_outside : (g : ℕ) → neighbour_of g ≡ None → outside g ≡ true
-given_outside g = split (λ b. cond b None (Some g) ≡ None → b ≡ true) (eqb g 255)
-    (λ e r. refl) (λ e r. absurd (let z : ◌≡◌ {A = ℕ} 0 1 = cc in omega arith))
-
-given_voxel : (g v : ℕ) → neighbour_of g ≡ Some v → (outside g ≡ false) × (g ≡ v)
-given_voxel g v = split (λ b. cond b None (Some g) ≡ Some v → (b ≡ false) × (g ≡ v)) (eqb g 255)
-    (λ e r. absurd (let z : ◌≡◌ {A = ℕ} 0 1 = cc in omega arith)) (λ e r. (refl, cc))
-
-module _ (e : Entry) (f : ℕ) (W : World) where
-  pub open_outside : neighbour_of (given_at e f) ≡ None → true ≡ is_open W e f
-  open_outside n = rw (given_outside (given_at e f) n)
-
-  pub open_voxel : {v k c : ℕ} {b : Bool} → neighbour_of (given_at e f) ≡ Some v → b ≡ has c k → c ≡ get_or W.covers v 0 → k ≡ opposite f → not b ≡ is_open W e f
-  open_voxel {v} n b c k = rw ((given_voxel (given_at e f) v n).0, (given_voxel (given_at e f) v n).1, b, c, k)
-
 -- ---- four sets as one
 module _ (r a : ℕ) (h : r < 64) where
   low_has : (f : ℕ) → f < 6 → has (r + 64 * a) f ≡ has r f
