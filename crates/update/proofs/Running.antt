@@ -39,7 +39,7 @@ use Rattle.indexing.specs.Index.{Index, index_of, index_run, book_of, Ground, Re
 use Rattle.indexing.specs.Due.{is_bare, due_of, fits_in, Gridded}
 use Rattle.indexing.proofs.Booking.{slot_none, length-steps, run_booked}
 use Rattle.indexing.proofs.Due.{due_few, due_cubes, due_ops, room_told}
-use Rattle.update.specs.Runs.{Ended, laid_out, mesh_in, course_on, Holds, Logging}
+use Rattle.update.specs.Runs.{Ended, laid_out, course_on, Holds, Logging}
 use Rattle.update.proofs.Drawing.{deeds_able}
 
 -- the index, before an entry

@@ -1,24 +1,21 @@
 -- What an entry tells of a side; its four sets as one, and the deeds of that; the keys around its cell. Assumes nothing.
 use mathlib.Core.Path.{◌≡◌, refl, sym, ap, ◌∙◌, subst}
-use mathlib.Core.Bool.{Bool, true, false, cond, not}
+use mathlib.Core.Bool.{Bool, true}
 use mathlib.Core.List.{List, [], ◌∷◌, ◌++◌, append_assoc, append-nil}
 use mathlib.Core.Option.{Option, none, some}
 use Prim.Native.Nat.{ℕ, zero, suc, ◌+◌, ◌-◌, ◌*◌, ◌/◌, ◌%◌, ◌≤◌, ◌<◌}
 use native.Mathlib.Omega.{arith}
 use lib.Dec.{eqb}
-use lib.ListN.{length, get_or}
+use lib.ListN.{length}
 use Rattle.rules.specs.Lists.{each, only, count}
 use Rattle.rules.specs.Cells.{Size, cells, opposite, neighbour, key_of, has}
-use Rattle.rules.specs.Mesh.{World}
-use Rattle.rules.specs.Update.{Entry, given_at, outside, is_open}
-use Rattle.rules.proofs.ListLaws.{All, all_append, all_each, all_if, split, each_same, count_each, get_d_table}
+use Rattle.rules.specs.Update.{Entry}
+use Rattle.rules.proofs.ListLaws.{All, all_append, all_each, all_if, each_same, count_each, get_d_table}
 use Rattle.rules.proofs.Index.{count_le}
 use Rattle.rules.proofs.Neighbours.{beside, opposite_lt, opposite_twice}
 use Rattle.face.proofs.Lowest.{half}
 use Rattle.util.specs.Grid.{Within}
 use borrow.Author.Tests.{lt-ltb, le-ltb}
-use Rattle.std.specs.Prelude.{Some, None}
-use Rattle.entries.specs.Log.{neighbour_of}
 use Rattle.steps.specs.Steps.{Deed}
 use Rattle.works.specs.declared.Work.{Work}
 use Rattle.works.specs.Sets.{set_in, packed, key_or, key_around, keys_around, key_met, cutting, type_drawn, deed_by, part_deeds, deed_by_side, deed_at, deeds}
