@@ -125,6 +125,7 @@ pub fn index_work(
 {
     let mut left = tally;
     let mut rest = sides;
+    // By the lowest side that is left: a `for` over all 24 would test each.
     while rest != 0 {
         let i = rest.trailing_zeros();
         let at = key_place(i);
