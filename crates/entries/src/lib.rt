@@ -9,7 +9,6 @@ ghost use Rattle.face.specs.Face.{number};
 ghost use Rattle.entries.specs.Log.{change_in, entry_in, neighbour_of, side_of, any_bad};
 
 use face::{Cell, Face};
-use std::num::wrapping_add_u8;
 
 // By its code.
 #[derive(Clone, Copy, Debug, PartialEq, Eq)]
@@ -53,6 +52,7 @@ impl From<u8> for VoxelChange {
 }
 
 impl Entry {
+    // The log's bytes stay as they are, so that several are compared at once; what is read of them is an option.
     pub const OUTSIDE: u8 = 255;
 
     // As a former type.
@@ -125,7 +125,7 @@ fn byte_of(types: u32) -> u8
 fn bad_neighbour(given: u8, types: u32) -> bool
     ensures { result ≡ bad_neighbour types given }
 {
-    byte_of(types) < wrapping_add_u8(given, 1)
+    byte_of(types) < given.wrapping_add(1)
 }
 
 fn bad_side(byte: u8) -> bool

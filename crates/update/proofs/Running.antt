@@ -39,7 +39,7 @@ use Rattle.indexing.specs.Index.{Index, index_of, index_run, book_of, Ground, Re
 use Rattle.indexing.specs.Due.{is_bare, due_of, fits_in, Gridded}
 use Rattle.indexing.proofs.Booking.{slot_none, length-steps, run_booked}
 use Rattle.indexing.proofs.Due.{due_few, due_cubes, due_ops, room_told}
-use Rattle.update.specs.Runs.{Ended, laid_out, mesh_in, course_on, Holds, Logging}
+use Rattle.update.specs.Runs.{Ended, laid_out, course_on, Holds, Logging}
 use Rattle.update.proofs.Drawing.{deeds_able}
 
 -- the index, before an entry
@@ -87,17 +87,6 @@ module _ (list : List ℕ) (taken : ℕ) (few : 2 * taken ≤ length list) where
 module _ (tested : Tested) {S : Scene} {room : ℕ} {log : List ℕ} {vs₀ : Vertices} {ls₀ ss₀ : List ℕ} {Q : ℕ} (g : Logging S room log vs₀ ls₀ ss₀ Q) where
   abbrev works : ℕ → rule.Work
   works j = work tested (world S) (entry_at log j)
-
-  pub run_start : Running tested S room log vs₀ ls₀ Q 0 Q vs₀ ls₀ ss₀ Q 0
-  run_start =
-      let e : length log / ENTRY_BYTES - 0 ≡ length log / ENTRY_BYTES = omega arith in
-      record {
-        mesh = mesh_in S vs₀ ls₀ Q;
-        below = omega arith;
-        left = ap (λ (n : ℕ). course_from room works 0 n (mesh_in S vs₀ ls₀ Q) 0 Q) e;
-        holds = g.holds;
-        moves = omega arith;
-      }
 
   sound : Sound (world S)
   sound =

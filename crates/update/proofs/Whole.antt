@@ -27,7 +27,8 @@ use Rattle.answers.specs.Verdicts.{verdict_of}
 use Rattle.answers.proofs.Chains.{passes, then_assoc}
 use Rattle.util.specs.Grid.{Within}
 use Rattle.terms.specs.declared.Count.{Count}
-use Rattle.lent.specs.Scenes.{Lent, Typed}
+use Rattle.terms.specs.Loans.{lists_lent}
+use Rattle.lent.specs.Scenes.{Lent, Long, Typed}
 use Rattle.lent.proofs.Admitted.{sized, typed, lent}
 use Rattle.mesh_metadata.proofs.Slots.{order}
 use Rattle.mesh_metadata.proofs.Meshes as meshes
@@ -72,6 +73,11 @@ patterns_laid ts Q h m m' len is low up =
     let kept = ap (take (6 * a)) (append_assoc front less rest) ∙ take_at front (less ++ rest) (6 * a) (omega (arith, length_patterns a 0)) ∙ sym (patterns_are 0 m') in
     let past = ap (λ (n : ℕ). drop n ((front ++ less) ++ rest)) e ∙ drop-append-add (front ++ less) rest k ∙ drop-drop k (6 * Q + length more) ts ∙ ap (λ (n : ℕ). drop n ts) f in
     ap (put (6 * a) zs) drawn ∙ (λ i. kept i ++ (zs ++ past i))
+
+-- the lists are as long as they are
+pub as_long : (p n u c t l s : List ℕ) → Long (lists_lent p n u c t l s)
+    (record { positions = length p; normals = length n; uvs = length u; colours = length c; triangles = length t; links = length l; slots = length s })
+as_long p n u c t l s = record { positions = refl; normals = refl; uvs = refl; colours = refl; triangles = refl; links = refl; slots = refl }
 
 -- ---- the tests, one after the other
 

@@ -1,43 +1,24 @@
 -- What an entry tells of a side; its four sets as one, and the deeds of that; the keys around its cell. Assumes nothing.
 use mathlib.Core.Path.{◌≡◌, refl, sym, ap, ◌∙◌, subst}
-use mathlib.Core.Bool.{Bool, true, false, cond, not}
+use mathlib.Core.Bool.{Bool, true}
 use mathlib.Core.List.{List, [], ◌∷◌, ◌++◌, append_assoc, append-nil}
 use mathlib.Core.Option.{Option, none, some}
 use Prim.Native.Nat.{ℕ, zero, suc, ◌+◌, ◌-◌, ◌*◌, ◌/◌, ◌%◌, ◌≤◌, ◌<◌}
 use native.Mathlib.Omega.{arith}
 use lib.Dec.{eqb}
-use lib.ListN.{length, get_or}
+use lib.ListN.{length}
 use Rattle.rules.specs.Lists.{each, only, count}
 use Rattle.rules.specs.Cells.{Size, cells, opposite, neighbour, key_of, has}
-use Rattle.rules.specs.Mesh.{World}
-use Rattle.rules.specs.Update.{Entry, given_at, outside, is_open}
-use Rattle.rules.proofs.ListLaws.{All, all_append, all_each, all_if, split, each_same, count_each, get_d_table}
+use Rattle.rules.specs.Update.{Entry}
+use Rattle.rules.proofs.ListLaws.{All, all_append, all_each, all_if, each_same, count_each, get_d_table}
 use Rattle.rules.proofs.Index.{count_le}
 use Rattle.rules.proofs.Neighbours.{beside, opposite_lt, opposite_twice}
 use Rattle.face.proofs.Lowest.{half}
 use Rattle.util.specs.Grid.{Within}
 use borrow.Author.Tests.{lt-ltb, le-ltb}
-use Rattle.std.specs.Prelude.{Some, None}
-use Rattle.entries.specs.Log.{neighbour_of}
 use Rattle.steps.specs.Steps.{Deed}
 use Rattle.works.specs.declared.Work.{Work}
 use Rattle.works.specs.Sets.{set_in, packed, key_or, key_around, keys_around, key_met, cutting, type_drawn, deed_by, part_deeds, deed_by_side, deed_at, deeds}
-
--- ---- types and neighbours
-given_outside : (g : ℕ) → neighbour_of g ≡ None → outside g ≡ true
-given_outside g = split (λ b. cond b None (Some g) ≡ None → b ≡ true) (eqb g 255)
-    (λ e r. refl) (λ e r. absurd (let z : ◌≡◌ {A = ℕ} 0 1 = cc in omega arith))
-
-given_voxel : (g v : ℕ) → neighbour_of g ≡ Some v → (outside g ≡ false) × (g ≡ v)
-given_voxel g v = split (λ b. cond b None (Some g) ≡ Some v → (b ≡ false) × (g ≡ v)) (eqb g 255)
-    (λ e r. absurd (let z : ◌≡◌ {A = ℕ} 0 1 = cc in omega arith)) (λ e r. (refl, cc))
-
-module _ (e : Entry) (f : ℕ) (W : World) where
-  pub open_outside : neighbour_of (given_at e f) ≡ None → true ≡ is_open W e f
-  open_outside n = rw (given_outside (given_at e f) n)
-
-  pub open_voxel : {v k c : ℕ} {b : Bool} → neighbour_of (given_at e f) ≡ Some v → b ≡ has c k → c ≡ get_or W.covers v 0 → k ≡ opposite f → not b ≡ is_open W e f
-  open_voxel {v} n b c k = rw ((given_voxel (given_at e f) v n).0, (given_voxel (given_at e f) v n).1, b, c, k)
 
 -- ---- four sets as one
 module _ (r a : ℕ) (h : r < 64) where

@@ -1,6 +1,6 @@
 -- `update::update_mesh` meets its contract: a refusal, or the rule's course. Assumes nothing.
-use mathlib.Core.Path.{◌≡◌, refl, sym, ap, ◌∙◌}
-use Prim.Native.Nat.{ℕ, ◌*◌}
+use mathlib.Core.Path.{refl, sym, ap, ◌∙◌}
+use Prim.Native.Nat.{ℕ}
 use native.Mathlib.Omega.{arith}
 use lib.ListN.{length}
 use lib.Seq.{length-take-le}
@@ -12,7 +12,7 @@ use Rattle.terms.specs.Modes.{tested_by}
 use Rattle.terms.specs.Loans.{lists_lent}
 use Rattle.lent.proofs.Linked.{few_linked}
 use Rattle.update.specs.Runs.{full_at}
-use Rattle.update.proofs.Whole.{asked, past, halt, stopped, told_within, told_typed, told_lent, begun, lent_ends, logging, mend_ready, ended_so}
+use Rattle.update.proofs.Whole.{as_long, asked, past, halt, stopped, told_within, told_typed, told_lent, begun, lent_ends, logging, mend_ready, ended_so}
 use Rattle.update.proofs.update_mesh.Goals as goal
 
 -- ---- each test is the first that refuses
@@ -21,7 +21,7 @@ returns-in_err-told_verdict c =
     let a = c.args in
     let S = scene_of a.scene in
     let B = lists_lent a.positions.now a.normals.now a.uvs.now a.colours.now a.triangles.now a.links.now a.slots.now in
-    let told = c.told_verdict.ensures B (record { positions = refl; normals = refl; uvs = refl; colours = refl; triangles = refl; links = refl; slots = refl }) in
+    let told = c.told_verdict.ensures B (as_long _ _ _ _ _ _ _) in
     stopped _ _ _ _ _ _ _ (halt _ _ (asked S a.log.now B a.quads) told c.in_err-told_verdict.was) c.in_err-told_verdict.was c.from_residual.ensures.1
 
 pub returns-in_err-links_verdict : goal.returns-in_err-links_verdict
@@ -29,7 +29,7 @@ returns-in_err-links_verdict c =
     let a = c.args in
     let S = scene_of a.scene in
     let B = lists_lent a.positions.now a.normals.now a.uvs.now a.colours.now a.triangles.now a.links.now a.slots.now in
-    let told = c.told_verdict.ensures B (record { positions = refl; normals = refl; uvs = refl; colours = refl; triangles = refl; links = refl; slots = refl }) in
+    let told = c.told_verdict.ensures B (as_long _ _ _ _ _ _ _) in
     let one = past _ (asked S a.log.now B a.quads) told c.in_ok-told_verdict.was in
     let linked = c.links_verdict.ensures B.vertices a.triangles.now ∙ ap (λ (n : ℕ). BAD_LINKS n B a.quads) c.cell_count-cells.ensures in
     stopped _ _ _ _ _ _ _ (halt _ _ one linked c.in_err-links_verdict.was) c.in_err-links_verdict.was c.from_residual-in_err-links_verdict.ensures.1
@@ -39,7 +39,7 @@ returns-in_err-triangles_verdict c =
     let a = c.args in
     let S = scene_of a.scene in
     let B = lists_lent a.positions.now a.normals.now a.uvs.now a.colours.now a.triangles.now a.links.now a.slots.now in
-    let told = c.told_verdict.ensures B (record { positions = refl; normals = refl; uvs = refl; colours = refl; triangles = refl; links = refl; slots = refl }) in
+    let told = c.told_verdict.ensures B (as_long _ _ _ _ _ _ _) in
     let one = past _ (asked S a.log.now B a.quads) told c.in_ok-told_verdict.was in
     let linked = c.links_verdict.ensures B.vertices a.triangles.now ∙ ap (λ (n : ℕ). BAD_LINKS n B a.quads) c.cell_count-cells.ensures in
     let two = past _ one linked c.in_ok-links_verdict.was in
@@ -51,7 +51,7 @@ returns-in_err-entry_verdict c =
     let a = c.args in
     let S = scene_of a.scene in
     let B = lists_lent a.positions.now a.normals.now a.uvs.now a.colours.now a.triangles.now a.links.now a.slots.now in
-    let told = c.told_verdict.ensures B (record { positions = refl; normals = refl; uvs = refl; colours = refl; triangles = refl; links = refl; slots = refl }) in
+    let told = c.told_verdict.ensures B (as_long _ _ _ _ _ _ _) in
     let one = past _ (asked S a.log.now B a.quads) told c.in_ok-told_verdict.was in
     let linked = c.links_verdict.ensures B.vertices a.triangles.now ∙ ap (λ (n : ℕ). BAD_LINKS n B a.quads) c.cell_count-cells.ensures in
     let two = past _ one linked c.in_ok-links_verdict.was in
@@ -65,7 +65,7 @@ cell_count-cells-requires c =
     let a = c.args in
     let S = scene_of a.scene in
     let B = lists_lent a.positions.now a.normals.now a.uvs.now a.colours.now a.triangles.now a.links.now a.slots.now in
-    let told = c.told_verdict.ensures B (record { positions = refl; normals = refl; uvs = refl; colours = refl; triangles = refl; links = refl; slots = refl }) in
+    let told = c.told_verdict.ensures B (as_long _ _ _ _ _ _ _) in
     (told_within S B a.quads (sym (passes _ _ c.in_ok-told_verdict.was told))).sides
 
 pub links_verdict-requires : goal.links_verdict-requires
@@ -73,7 +73,7 @@ links_verdict-requires c =
     let a = c.args in
     let S = scene_of a.scene in
     let B = lists_lent a.positions.now a.normals.now a.uvs.now a.colours.now a.triangles.now a.links.now a.slots.now in
-    let told = c.told_verdict.ensures B (record { positions = refl; normals = refl; uvs = refl; colours = refl; triangles = refl; links = refl; slots = refl }) in
+    let told = c.told_verdict.ensures B (as_long _ _ _ _ _ _ _) in
     rw c.cell_count-cells.ensures (told_lent S B a.quads (sym (passes _ _ c.in_ok-told_verdict.was told)) (omega arith)).0
 
 pub triangles_verdict-requires : goal.triangles_verdict-requires
@@ -81,7 +81,7 @@ triangles_verdict-requires c =
     let a = c.args in
     let S = scene_of a.scene in
     let B = lists_lent a.positions.now a.normals.now a.uvs.now a.colours.now a.triangles.now a.links.now a.slots.now in
-    let told = c.told_verdict.ensures B (record { positions = refl; normals = refl; uvs = refl; colours = refl; triangles = refl; links = refl; slots = refl }) in
+    let told = c.told_verdict.ensures B (as_long _ _ _ _ _ _ _) in
     let w = told_lent S B a.quads (sym (passes _ _ c.in_ok-told_verdict.was told)) (omega arith) in
     let linked = c.links_verdict.ensures B.vertices a.triangles.now ∙ ap (λ (n : ℕ). BAD_LINKS n B a.quads) c.cell_count-cells.ensures in
     let few = few_linked _ _ _ w.0.slotted (sym (passes _ _ c.in_ok-links_verdict.was linked)) in
@@ -92,7 +92,7 @@ overflow_cast-scene c =
     let a = c.args in
     let S = scene_of a.scene in
     let B = lists_lent a.positions.now a.normals.now a.uvs.now a.colours.now a.triangles.now a.links.now a.slots.now in
-    let told = c.told_verdict.ensures B (record { positions = refl; normals = refl; uvs = refl; colours = refl; triangles = refl; links = refl; slots = refl }) in
+    let told = c.told_verdict.ensures B (as_long _ _ _ _ _ _ _) in
     let few = (told_typed S B a.quads (sym (passes _ _ c.in_ok-told_verdict.was told))).counted.few in
     omega arith
 
@@ -102,9 +102,9 @@ slice_bounds-faces-end c =
     let a = c.args in
     let S = scene_of a.scene in
     let B = lists_lent a.positions.now a.normals.now a.uvs.now a.colours.now a.triangles.now a.links.now a.slots.now in
-    let told = c.told_verdict.ensures B (record { positions = refl; normals = refl; uvs = refl; colours = refl; triangles = refl; links = refl; slots = refl }) in
+    let told = c.told_verdict.ensures B (as_long _ _ _ _ _ _ _) in
     let b =
-    begun (tested_by a.tested) S a.log.now B a.quads c.cell_count-cells.ensures (c.room_of.ensures B (record { positions = refl; normals = refl; uvs = refl; colours = refl; triangles = refl; links = refl; slots = refl }))
+    begun (tested_by a.tested) S a.log.now B a.quads c.cell_count-cells.ensures (c.room_of.ensures B (as_long _ _ _ _ _ _ _))
     told c.in_ok-told_verdict.was (c.links_verdict.ensures B.vertices a.triangles.now) c.in_ok-links_verdict.was (c.triangles_verdict.ensures B.vertices a.links.now a.slots.now) c.in_ok-triangles_verdict.was
     c.entry_verdict.ensures c.in_ok-entry_verdict.was in
     lent_ends b
@@ -114,9 +114,9 @@ slice_bounds-faces-end-2 c =
     let a = c.args in
     let S = scene_of a.scene in
     let B = lists_lent a.positions.now a.normals.now a.uvs.now a.colours.now a.triangles.now a.links.now a.slots.now in
-    let told = c.told_verdict.ensures B (record { positions = refl; normals = refl; uvs = refl; colours = refl; triangles = refl; links = refl; slots = refl }) in
+    let told = c.told_verdict.ensures B (as_long _ _ _ _ _ _ _) in
     let b =
-    begun (tested_by a.tested) S a.log.now B a.quads c.cell_count-cells.ensures (c.room_of.ensures B (record { positions = refl; normals = refl; uvs = refl; colours = refl; triangles = refl; links = refl; slots = refl }))
+    begun (tested_by a.tested) S a.log.now B a.quads c.cell_count-cells.ensures (c.room_of.ensures B (as_long _ _ _ _ _ _ _))
     told c.in_ok-told_verdict.was (c.links_verdict.ensures B.vertices a.triangles.now) c.in_ok-links_verdict.was (c.triangles_verdict.ensures B.vertices a.links.now a.slots.now) c.in_ok-triangles_verdict.was
     c.entry_verdict.ensures c.in_ok-entry_verdict.was in
     sym (length-take-le _ _ (lent_ends b))
@@ -126,9 +126,9 @@ run_log-ran-requires c =
     let a = c.args in
     let S = scene_of a.scene in
     let B = lists_lent a.positions.now a.normals.now a.uvs.now a.colours.now a.triangles.now a.links.now a.slots.now in
-    let told = c.told_verdict.ensures B (record { positions = refl; normals = refl; uvs = refl; colours = refl; triangles = refl; links = refl; slots = refl }) in
+    let told = c.told_verdict.ensures B (as_long _ _ _ _ _ _ _) in
     let b =
-    begun (tested_by a.tested) S a.log.now B a.quads c.cell_count-cells.ensures (c.room_of.ensures B (record { positions = refl; normals = refl; uvs = refl; colours = refl; triangles = refl; links = refl; slots = refl }))
+    begun (tested_by a.tested) S a.log.now B a.quads c.cell_count-cells.ensures (c.room_of.ensures B (as_long _ _ _ _ _ _ _))
     told c.in_ok-told_verdict.was (c.links_verdict.ensures B.vertices a.triangles.now) c.in_ok-links_verdict.was (c.triangles_verdict.ensures B.vertices a.links.now a.slots.now) c.in_ok-triangles_verdict.was
     c.entry_verdict.ensures c.in_ok-entry_verdict.was in
     logging b
@@ -138,9 +138,9 @@ mend_patterns-requires c =
     let a = c.args in
     let S = scene_of a.scene in
     let B = lists_lent a.positions.now a.normals.now a.uvs.now a.colours.now a.triangles.now a.links.now a.slots.now in
-    let told = c.told_verdict.ensures B (record { positions = refl; normals = refl; uvs = refl; colours = refl; triangles = refl; links = refl; slots = refl }) in
+    let told = c.told_verdict.ensures B (as_long _ _ _ _ _ _ _) in
     let b =
-    begun (tested_by a.tested) S a.log.now B a.quads c.cell_count-cells.ensures (c.room_of.ensures B (record { positions = refl; normals = refl; uvs = refl; colours = refl; triangles = refl; links = refl; slots = refl }))
+    begun (tested_by a.tested) S a.log.now B a.quads c.cell_count-cells.ensures (c.room_of.ensures B (as_long _ _ _ _ _ _ _))
     told c.in_ok-told_verdict.was (c.links_verdict.ensures B.vertices a.triangles.now) c.in_ok-links_verdict.was (c.triangles_verdict.ensures B.vertices a.links.now a.slots.now) c.in_ok-triangles_verdict.was
     c.entry_verdict.ensures c.in_ok-entry_verdict.was in
     mend_ready b c.run_log-ran.ensures
@@ -150,9 +150,9 @@ returns-in-None c =
     let a = c.args in
     let S = scene_of a.scene in
     let B = lists_lent a.positions.now a.normals.now a.uvs.now a.colours.now a.triangles.now a.links.now a.slots.now in
-    let told = c.told_verdict.ensures B (record { positions = refl; normals = refl; uvs = refl; colours = refl; triangles = refl; links = refl; slots = refl }) in
+    let told = c.told_verdict.ensures B (as_long _ _ _ _ _ _ _) in
     let b =
-    begun (tested_by a.tested) S a.log.now B a.quads c.cell_count-cells.ensures (c.room_of.ensures B (record { positions = refl; normals = refl; uvs = refl; colours = refl; triangles = refl; links = refl; slots = refl }))
+    begun (tested_by a.tested) S a.log.now B a.quads c.cell_count-cells.ensures (c.room_of.ensures B (as_long _ _ _ _ _ _ _))
     told c.in_ok-told_verdict.was (c.links_verdict.ensures B.vertices a.triangles.now) c.in_ok-links_verdict.was (c.triangles_verdict.ensures B.vertices a.links.now a.slots.now) c.in_ok-triangles_verdict.was
     c.entry_verdict.ensures c.in_ok-entry_verdict.was in
     ended_so b c.run_log-ran.ensures answered refl (ap full_at c.in-None.is) c.mend_patterns.ensures
@@ -162,9 +162,9 @@ returns-in-Some c =
     let a = c.args in
     let S = scene_of a.scene in
     let B = lists_lent a.positions.now a.normals.now a.uvs.now a.colours.now a.triangles.now a.links.now a.slots.now in
-    let told = c.told_verdict.ensures B (record { positions = refl; normals = refl; uvs = refl; colours = refl; triangles = refl; links = refl; slots = refl }) in
+    let told = c.told_verdict.ensures B (as_long _ _ _ _ _ _ _) in
     let b =
-    begun (tested_by a.tested) S a.log.now B a.quads c.cell_count-cells.ensures (c.room_of.ensures B (record { positions = refl; normals = refl; uvs = refl; colours = refl; triangles = refl; links = refl; slots = refl }))
+    begun (tested_by a.tested) S a.log.now B a.quads c.cell_count-cells.ensures (c.room_of.ensures B (as_long _ _ _ _ _ _ _))
     told c.in_ok-told_verdict.was (c.links_verdict.ensures B.vertices a.triangles.now) c.in_ok-links_verdict.was (c.triangles_verdict.ensures B.vertices a.links.now a.slots.now) c.in_ok-triangles_verdict.was
     c.entry_verdict.ensures c.in_ok-entry_verdict.was in
     ended_so b c.run_log-ran.ensures (λ q v. record { number = 14; place = c.in-Some.place; quads = q; moved = v }) refl (ap full_at c.in-Some.is) c.mend_patterns.ensures
