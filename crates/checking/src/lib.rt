@@ -31,7 +31,7 @@ fn filled_set(slots: &[u32], cell: usize) -> u8
     side_set(|face| slots[6 * cell + face.number() as usize] != NONE)
 }
 
-// The lowest face that one side set has and the other has not, or 6.
+// The lowest face that one side set has and the other has not, or 6, as the rules' `lowest` counts.
 fn lowest_unlike(a: u8, b: u8) -> usize
     ensures { result ≡ lowest 6 (λ f. unlike (has a f) (has b f)) }
 {
@@ -70,7 +70,8 @@ fn are_alike(sets: &[u8], slots: &[u32], first: usize, x: usize) -> bool
     drawn == filled_bits(slots, 6 * (first + x))
 }
 
-// The lowest face of a row of cells that its side set has and its slots have not, or they have and it has not, counted from the row's first; or how many there are.
+// The lowest face of a row of cells that its side set has and its slots have not, or they have and it has not, counted from the row's first; or how many
+// there are, as the rules' `lowest` counts. A turn goes four cells on, or one, so it is no `for`.
 fn lowest_in_row(sets: &[u8], slots: &[u32], first: usize) -> usize
     requires { (6 * (first + length sets.now) ≤ length slots.now) × (first + length sets.now ≤ 1048576) }
     ensures { (sides : ℕ → ℕ → Bool) → ((x : ℕ) → x < length sets.now → get_or sets.now x 0 ≡ set_of (sides x))
@@ -92,7 +93,7 @@ fn lowest_in_row(sets: &[u8], slots: &[u32], first: usize) -> usize
     6 * x
 }
 
-// Searches row by row; `sets` is room for a row.
+// Searches row by row; `sets` is room for a row. A row ends where the next starts, with its place in the layer, so the loop is no `for`.
 fn lowest_by_rows(look: Look<'_>, slots: &[u32], sets: &mut [u8]) -> usize
     requires { (6 * cells (size_of look.ground.dims) ≤ length slots.now) × (look.ground.dims.width ≤ length sets.old) }
     ensures { (faces : List ℕ) → look.entry.outer ≡ outer_set faces → result ≡ lowest (6 * cells (size_of look.entry.ground.dims)) (wrong_at look.entry.ground faces slots.now) }

@@ -21,7 +21,7 @@ use util::Row;
 pub type Meshed = Result<usize, Refused>;
 
 // Meshes a grid into the lent lists, or refuses and writes nothing. A row's faces go into the index and a list of their own, and by that list into each attribute's.
-// The rows end with the last quad.
+// The rows end with the last quad: the loop counts quads, as many a turn as a row has, and is no `for`.
 pub fn mesh_grid(
     scene: Scene<'_>,
     outer: &[u8],
