@@ -10,8 +10,8 @@ use lib.Seq.{drop-length, take_at, take_all, length-take-le}
 use borrow.Rule.Slice.PartMut.{mid_of, post_of, put_mid, same_len_mid}
 use Rattle.rules.specs.Cube.{Shape, floats_of, cube_words}
 use Rattle.rules.specs.Answers.{Verdict, fine, refuse}
-use Rattle.rules.specs.Calls.{Answer, refused, CubeOutcome, cube_verdict, cube_by, generate_voxel_mesh, check_by}
-use Rattle.rules.specs.Program.{type_count, coloured_in, shape_in, cube_room, cube_in, Built, stopped, built, build_one, build_from, scene_in, worked, refused_line, lines_of, built_lines}
+use Rattle.rules.specs.Calls.{Answer, CubeOutcome, cube_verdict, cube_by, generate_voxel_mesh, check_by}
+use Rattle.rules.specs.Program.{type_count, coloured_in, shape_in, cube_room, cube_in, Built, stopped, built, build_one, build_from, scene_in, worked, lines_of, built_lines}
 use Rattle.rules.proofs.Refusals.{Within, CUBE, cube_numbers, zero_fine}
 use Rattle.std.specs.Prelude.{Result, Ok, Err}
 use Rattle.answers.specs.declared.Refusal.{Refusal}
@@ -214,14 +214,6 @@ pub done_number : (x : Result Unit Refused) {u : Unit {0}} → x ≡ Ok u → (c
 done_number x was = rw was refl
 
 -- ---- what is printed of them
-
-pub stopped_lines : (file : List ℕ) (a : Answer) (cubes : List ℕ) {b : Built} → built_of a cubes ≡ b → a.number ≢ 0
-    → refused_line (refused a.number a.place) ≡ built_lines file b
-stopped_lines file a cubes e h = go a.number h ∙ ap (built_lines file) e
-  where
-    go : (k : ℕ) → k ≢ 0 → refused_line a ≡ built_lines file (built_by k a cubes)
-    go zero h = absurd (h refl)
-    go (suc k) h = refl
 
 pub built_lines_lem : (file : List ℕ) (a : Answer) (cubes : List ℕ) {b : Built} → built_of a cubes ≡ b → a.number ≡ 0
     → lines_of (scene_in file cubes) (worked file (scene_in file cubes)) ≡ built_lines file b

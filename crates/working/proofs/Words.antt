@@ -1,5 +1,4 @@
 -- How many words cubes take. Assumes nothing.
-use mathlib.Core.Path.{◌≡◌}
 use mathlib.Core.Bool.{Bool, true, false}
 use mathlib.Core.List.{List}
 use Prim.Native.Nat.{ℕ, ◌*◌, ◌≤◌}
@@ -19,7 +18,3 @@ module _ (file : List ℕ) (g : Good file) where
 
   pub registry_few : 24 * floats * type_count file ≤ 2304
   registry_few = mul-le-mul {n₂ = 288} {m₂ = 8} (omega (arith, few_floats (coloured_in file))) g.types
-
-  pub registry_is : {words types : ℕ} → words ≡ 24 * floats → types ≡ type_count file
-      → (words * types ≡ 24 * floats * type_count file) × (words * types ≤ 2304)
-  registry_is {words} {types} e t = let p : words * types ≡ 24 * floats * type_count file = λ i. e i * t i in (p, rw p registry_few)
