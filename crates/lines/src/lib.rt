@@ -45,6 +45,7 @@ fn decimal_length(n: u64) -> usize
 {
     let mut left = n;
     let mut count: usize = 1;
+    // A step divides by ten, which no range counts.
     while 10 <= left {
         left /= 10;
         count += 1;
@@ -60,6 +61,7 @@ pub fn write_decimal(n: u64, out: &mut [u8], at: usize) -> usize
     let end = at + decimal_length(n);
     let mut left = n;
     let mut last = end - 1;
+    // As above.
     while 10 <= left {
         out[last] = digit(left);
         left /= 10;

@@ -166,6 +166,7 @@ fn is_whole_patch(place: usize, n: usize, there: usize, room: usize) -> bool
 // Makes the patches, up to one that does not fit, and answers whether all do. A turn goes a patch on, however long it is.
 fn patch(patches: &[u32], image: &mut [u32]) -> bool {
     let mut at: usize = 0;
+    // A step is as long as its patch, which no range counts.
     while at + 1 < patches.len() {
         let place = count(patches, at);
         let n = count(patches, at + 1);

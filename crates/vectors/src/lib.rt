@@ -22,6 +22,7 @@ pub fn read_full<R: Read>(file: &mut R, bytes: &mut [u8]) -> io::Result<usize>
     ensures { IfOk result (λ n. n ≤ length bytes.new) }
 {
     let mut done = 0;
+    // A step is as many bytes as the read gave, which no range counts.
     while done < bytes.len() {
         let n = file.read(&mut bytes[done..])?;
         if n == 0 {

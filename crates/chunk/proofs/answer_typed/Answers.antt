@@ -48,8 +48,8 @@ write_answer-requires c =
     let exit = lists_lent new.positions new.normals new.uvs new.colours new.triangles new.links new.slots in
     let back = c.work_lists-updated.auto.links ∙ sym (room_lent c.empty_room-links.ensures _ (omega arith)) in
     let told = c.work_lists-updated.ensures ∙ ap (worked_on file scene a.outer.now)
-        (lists_room file c.empty_room-positions.ensures c.empty_room-normals.ensures c.empty_room-uvs.ensures c.empty_room-colours.ensures c.empty_room-triangles.ensures
-        c.empty_room-links.ensures c.empty_room-slots.ensures c.slot_count-six.ensures) in (
+    (lists_room file c.empty_room-positions.ensures c.empty_room-normals.ensures c.empty_room-uvs.ensures c.empty_room-colours.ensures c.empty_room-triangles.ensures
+    c.empty_room-links.ensures c.empty_room-slots.ensures c.slot_count-six.ensures) in (
       omega (arith, c.requires),
       rw (take_at new.links (drop 128 c.empty_room-links.result) 128 back)
           (worked_fits file scene a.outer.now (room_in file) c.work_lists-updated.result exit told a.out.now a.file.good.cells refl c.requires),
@@ -64,8 +64,8 @@ returns c =
     let exit = lists_lent new.positions new.normals new.uvs new.colours new.triangles new.links new.slots in
     let back = c.work_lists-updated.auto.links ∙ sym (room_lent c.empty_room-links.ensures _ (omega arith)) in
     let told = c.work_lists-updated.ensures ∙ ap (worked_on file scene a.outer.now)
-        (lists_room file c.empty_room-positions.ensures c.empty_room-normals.ensures c.empty_room-uvs.ensures c.empty_room-colours.ensures c.empty_room-triangles.ensures
-        c.empty_room-links.ensures c.empty_room-slots.ensures c.slot_count-six.ensures) in
+    (lists_room file c.empty_room-positions.ensures c.empty_room-normals.ensures c.empty_room-uvs.ensures c.empty_room-colours.ensures c.empty_room-triangles.ensures
+    c.empty_room-links.ensures c.empty_room-slots.ensures c.slot_count-six.ensures) in
     wrote_as
     (ap (lines_with (answer_of c.work_lists-updated.result)) (take_at new.links (drop 128 c.empty_room-links.result) 128 back)
     ∙ worked_written file scene a.outer.now (room_in file) c.work_lists-updated.result exit told a.out.now
