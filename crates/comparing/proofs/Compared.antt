@@ -76,9 +76,9 @@ module _ (S : Scene) (g : List ℕ) (link : ℕ) where
   pub named_corners : {m : ℕ} {a : Triple} → Named m a → corners_at (floats S.types) m ≡ corners_of (cube_of S.types (type_at g (cell_in link))) (floats S.types) (code (code_in link))
   named_corners r = ap (corners_at (floats S.types)) r.face ∙ corners_lent S.types.cubes (floats S.types) (type_at g (cell_in link)) (code (code_in link)) side_below
 
-  pub named_words : {n m : ℕ} {a : Triple} → n ≡ floats S.types → Named m a → quad_words (corners_at n m) (floats S.types) S.d 0 a ≡ quad_words_at S g link
+  pub named_words : {n m : ℕ} {a : Triple} → n ≡ floats S.types → Named m a → quad_words (corners_at n m) n S.d 0 a ≡ quad_words_at S g link
   named_words {m = m} {a = a} e r =
-      ap (λ (k : ℕ). quad_words (corners_at k m) (floats S.types) S.d 0 a) e
+      ap (λ (k : ℕ). quad_words (corners_at k m) k S.d 0 a) e
       ∙ (λ i. quad_words (named_corners r i) (floats S.types) S.d 0 (r.at i))
       ∙ quad_of_corners (cube_of S.types (type_at g (cell_in link))) (floats S.types) S.d (code (code_in link)) (coordinates S.size (cell_in link))
 
@@ -94,7 +94,7 @@ module _ (S : Scene) (g links : List ℕ) (count : ℕ) (ok : Linking S g links 
   pub corners_within : {n m : ℕ} {a : Triple} → n ≡ floats S.types → Named S g link m a → 4 * n * m + 4 * n ≤ length S.types.cubes
   corners_within e r = rw (e, r.face) (corners_end S.types.cubes (floats S.types) (type_at g (cell_in link)) (code (code_in link)) (side_below S g link) cube_within)
 
-  pub drawable : T (finite3 S.d) → {n m : ℕ} {a : Triple} → n ≡ floats S.types → Named S g link m a → Corners (corners_at S g link n m) (floats S.types) a S.d
+  pub drawable : T (finite3 S.d) → {n m : ℕ} {a : Triple} → n ≡ floats S.types → Named S g link m a → Corners (corners_at S g link n m) n a S.d
   drawable fin e r =
       let few = few S.types.coloured in
       let sides = ok.within.sides in

@@ -35,10 +35,10 @@ fn linked_face(grid: &[u8], link: u32) -> usize
 
 // Whether float k of an attribute of the i-th vertex of a quad differs from the registry's.
 fn is_other_word(row: &[u32], quad: Quad<'_>, attribute: Attribute, i: usize, k: usize) -> bool
-    requires { Has (floats_of quad.coloured) (attribute_of attribute) × (i < 4) × (k < (attribute_of attribute).width)
+    requires { Has quad.floats (attribute_of attribute) × (i < 4) × (k < (attribute_of attribute).width)
         × (length row.now ≡ 4 * (attribute_of attribute).width) }
     ensures { result ≡ not (eqb (get_or row.now ((attribute_of attribute).width * i + k) 0)
-        (get_or (attribute_in (floats_of quad.entry.coloured) (attribute_of attribute) 4 (words_of quad.entry)) ((attribute_of attribute).width * i + k) 0)) }
+        (get_or (attribute_in quad.entry.floats (attribute_of attribute) 4 (words_of quad.entry)) ((attribute_of attribute).width * i + k) 0)) }
 {
     row[attribute.width() * i + k] != quad.word(attribute, i, k)
 }
@@ -46,8 +46,8 @@ fn is_other_word(row: &[u32], quad: Quad<'_>, attribute: Attribute, i: usize, k:
 // Whether an attribute of a quad is the registry's without a doubt. Only the words of a vertex together are branched on, so that the compiler compares several at
 // once; it knows how many they are where the row and the attribute are known.
 fn is_row(row: &[u32], quad: Quad<'_>, attribute: Attribute) -> bool
-    requires { Has (floats_of quad.coloured) (attribute_of attribute) × (length row.now ≡ 4 * (attribute_of attribute).width) }
-    ensures { result ≡ true → row.now ≡ attribute_in (floats_of quad.entry.coloured) (attribute_of attribute) 4 (words_of quad.entry) }
+    requires { Has quad.floats (attribute_of attribute) × (length row.now ≡ 4 * (attribute_of attribute).width) }
+    ensures { result ≡ true → row.now ≡ attribute_in quad.entry.floats (attribute_of attribute) 4 (words_of quad.entry) }
 {
     let width = attribute.width();
     for i in 0..4 {
@@ -63,9 +63,9 @@ fn is_row(row: &[u32], quad: Quad<'_>, attribute: Attribute) -> bool
 }
 
 // Whether each attribute of quad q is the registry's without a doubt.
-fn is_quad(lists: Lists<'_>, quad: Quad<'_>, q: usize) -> bool
-    requires { HasRow quad.coloured (vertices_in lists) q }
-    ensures { result ≡ true → IsQuad quad.entry.coloured (vertices_in lists.entry) q (words_of quad.entry) }
+fn is_quad(lists: Lists<'_>, coloured: bool, quad: Quad<'_>, q: usize) -> bool
+    requires { (quad.floats ≡ floats_of coloured) × HasRow coloured (vertices_in lists) q }
+    ensures { result ≡ true → IsQuad coloured (vertices_in lists.entry) q (words_of quad.entry) }
 {
     let start = 12 * q;
     let uv_start = 8 * q;
@@ -82,7 +82,7 @@ fn is_quad(lists: Lists<'_>, quad: Quad<'_>, q: usize) -> bool
     if !is_row(&lists.uvs[uv_start..uv_start + 8], quad, Attribute::Uv) {
         return false;
     }
-    if quad.coloured {
+    if coloured {
         let colour_start = 16 * q;
         return is_row(
             &lists.colours[colour_start..colour_start + 16],
@@ -110,20 +110,20 @@ impl Comparison<'_> {
     // Quad q, as the registry has it.
     fn registered(&self, q: usize) -> Quad<'_>
         requires { q < self.now.count }
-        ensures { (result.coloured ≡ self.now.scene.types.coloured)
+        ensures { (result.floats ≡ floats_of self.now.scene.types.coloured)
             × (words_of result ≡ quad_words_at (scene_of self.now.scene) self.now.grid.now (get_or self.now.lists.links.now q 0)) }
     {
         let scene = self.scene;
         let cubes = scene.types.cubes;
-        let coloured = scene.types.coloured;
+        let floats = floats_of(scene.types.coloured);
         let link = self.lists.links[q];
         let at = cords_of(cell_of(link), scene.dims, self.inverse);
-        let span = 4 * floats_of(coloured);
+        let span = 4 * floats;
         let start = span * linked_face(self.grid, link);
         let end = start + span;
         Quad {
             corners: &cubes[start..end],
-            coloured,
+            floats,
             at,
             d: scene.d,
         }
@@ -135,7 +135,7 @@ impl Comparison<'_> {
             → other_quad (scene_of self.now.scene) self.now.grid.now (vertices_in self.now.lists) self.now.lists.links.now q ≡ false) }
     {
         for q in 0..self.count {
-            if !is_quad(self.lists, self.registered(q), q) {
+            if !is_quad(self.lists, self.scene.types.coloured, self.registered(q), q) {
                 return q;
             }
         }

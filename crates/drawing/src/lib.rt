@@ -22,9 +22,9 @@ use vav::Attribute;
 // Writes an attribute of a quad at place q. It is taken in where it is called, so that the compiler knows the attribute and each length.
 #[inline(always)]
 fn write_place(list: &mut [u32], quad: Quad<'_>, attribute: Attribute, q: usize)
-    requires { Has (floats_of quad.coloured) (attribute_of attribute) × (4 * (attribute_of attribute).width * (q + 1) ≤ length list.old) }
+    requires { Has quad.floats (attribute_of attribute) × (4 * (attribute_of attribute).width * (q + 1) ≤ length list.old) }
     ensures { list.new ≡ put (4 * (attribute_of attribute).width * q)
-        (attribute_in (floats_of quad.entry.coloured) (attribute_of attribute) 4 (words_of quad.entry)) list.old }
+        (attribute_in quad.entry.floats (attribute_of attribute) 4 (words_of quad.entry)) list.old }
 {
     let words = 4 * attribute.width();
     let start = words * q;
@@ -40,16 +40,17 @@ pub fn write_places(
     uvs: &mut [u32],
     colours: &mut [u32],
     quad: Quad<'_>,
+    coloured: bool,
     q: usize,
 )
-    requires { Long quad.coloured (q + 1) (vertices_of positions.old normals.old uvs.old colours.old) }
+    requires { (quad.floats ≡ floats_of coloured) × Long coloured (q + 1) (vertices_of positions.old normals.old uvs.old colours.old) }
     ensures { vertices_of positions.new normals.new uvs.new colours.new
-        ≡ quad_written quad.entry.coloured q (words_of quad.entry) (vertices_of positions.old normals.old uvs.old colours.old) }
+        ≡ quad_written coloured q (words_of quad.entry) (vertices_of positions.old normals.old uvs.old colours.old) }
 {
     write_place(positions, quad, Attribute::Position, q);
     write_place(normals, quad, Attribute::Normal, q);
     write_place(uvs, quad, Attribute::Uv, q);
-    if quad.coloured {
+    if coloured {
         write_place(colours, quad, Attribute::Colour, q);
     }
 }
@@ -111,22 +112,22 @@ fn write_side(
         let end = start + 48;
         let quad = Quad {
             corners: &scene.types.cubes[start..end],
-            coloured: true,
+            floats: 12,
             at,
             d,
         };
-        write_places(positions, normals, uvs, colours, quad, q);
+        write_places(positions, normals, uvs, colours, quad, true, q);
         return;
     }
     let start = 32 * face;
     let end = start + 32;
     let quad = Quad {
         corners: &scene.types.cubes[start..end],
-        coloured: false,
+        floats: 8,
         at,
         d,
     };
-    write_places(positions, normals, uvs, colours, quad, q);
+    write_places(positions, normals, uvs, colours, quad, false, q);
 }
 
 // Writes the quads of faces of a row at the places from `base` on.

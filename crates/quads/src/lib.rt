@@ -4,7 +4,6 @@
 
 ghost use Rattle.std.specs.Prelude.{◌≡◌, ◌+◌, ◌*◌, ◌≤◌, ◌<◌, length, get_or};
 ghost use Rattle.rules.specs.Cells.{along};
-ghost use Rattle.rules.specs.Cube.{floats_of};
 ghost use Rattle.rules.specs.Types.{order, quad_word};
 ghost use Rattle.rules.specs.Mesh.{normal, attribute_in};
 ghost use Rattle.util.specs.Grid as grid;
@@ -16,7 +15,6 @@ ghost use Rattle.quads.specs.Quads.{Has, Corners};
 use floats::{Triple, moved_word};
 use util::Coordinates;
 use vav::{Attribute, copy_four, select, write_four};
-use voxel_mesh::floats_of;
 
 // The order in which a quad takes the corners of its face.
 const ORDER: [usize; 4] = [0, 1, 3, 2];
@@ -40,14 +38,14 @@ fn coordinate(at: Coordinates, axis: usize) -> u32
     cell.along(axis)
 }
 
-// A quad that can be drawn: its face's corners, whether they have colour, and what moves their positions, the coordinates of its cell by d.
+// A quad that can be drawn: its face's corners, how many floats a vertex has, and what moves their positions, the coordinates of its cell by d.
 #[derive(Clone, Copy)]
 pub struct Quad<'a> {
     pub corners: &'a [u32],
-    pub coloured: bool,
+    pub floats: usize,
     pub at: Coordinates,
     pub d: Triple,
-    pub ghost is_drawable: { Corners corners.now (floats_of coloured) (grid.triple_of at) (triple_of d) },
+    pub ghost is_drawable: { Corners corners.now floats (grid.triple_of at) (triple_of d) },
 }
 
 impl Quad<'_> {
@@ -55,16 +53,16 @@ impl Quad<'_> {
 
     // Word k of a corner.
     fn corner_word(self, corner: usize, k: usize) -> u32
-        requires { (corner < 4) × (k < floats_of self.coloured) }
-        ensures { result ≡ get_or self.entry.corners.now (floats_of self.entry.coloured * corner + k) 0 }
+        requires { (corner < 4) × (k < self.floats) }
+        ensures { result ≡ get_or self.entry.corners.now (self.entry.floats * corner + k) 0 }
     {
-        self.corners[floats_of(self.coloured) * corner + k]
+        self.corners[self.floats * corner + k]
     }
 
     // Float k of an attribute of the i-th vertex. Positions alone are moved.
     pub fn word(self, attribute: Attribute, i: usize, k: usize) -> u32
-        requires { Has (floats_of self.coloured) (attribute_of attribute) × (i < 4) × (k < (attribute_of attribute).width) }
-        ensures { result ≡ quad_word self.entry.corners.now (floats_of self.entry.coloured) (triple_of self.entry.d) 0
+        requires { Has self.floats (attribute_of attribute) × (i < 4) × (k < (attribute_of attribute).width) }
+        ensures { result ≡ quad_word self.entry.corners.now self.entry.floats (triple_of self.entry.d) 0
             (grid.triple_of self.entry.at) i ((attribute_of attribute).start + k) }
     {
         let corner = corner_of(i);
@@ -77,8 +75,8 @@ impl Quad<'_> {
 
     // Word j of an attribute, the vertices one after the other.
     fn attribute_word(self, attribute: Attribute, j: usize) -> u32
-        requires { Has (floats_of self.coloured) (attribute_of attribute) × (j < 4 * (attribute_of attribute).width) }
-        ensures { result ≡ get_or (attribute_in (floats_of self.entry.coloured) (attribute_of attribute) 4 (words_of self.entry)) j 0 }
+        requires { Has self.floats (attribute_of attribute) × (j < 4 * (attribute_of attribute).width) }
+        ensures { result ≡ get_or (attribute_in self.entry.floats (attribute_of attribute) 4 (words_of self.entry)) j 0 }
     {
         let width = attribute.width();
         self.word(attribute, j / width, j % width)
@@ -86,9 +84,9 @@ impl Quad<'_> {
 
     // Writes the words of an attribute from word j on, four of them. Read before they are written, they go at once.
     fn write_words(self, out: &mut [u32], attribute: Attribute, j: usize)
-        requires { Has (floats_of self.coloured) (attribute_of attribute)
+        requires { Has self.floats (attribute_of attribute)
             × (j + 4 ≤ 4 * (attribute_of attribute).width) × (length out.old ≡ 4 * (attribute_of attribute).width) }
-        ensures { out.new ≡ put j (four (attribute_in (floats_of self.entry.coloured) (attribute_of attribute) 4 (words_of self.entry)) j) out.old }
+        ensures { out.new ≡ put j (four (attribute_in self.entry.floats (attribute_of attribute) 4 (words_of self.entry)) j) out.old }
     {
         let a = self.attribute_word(attribute, j);
         let b = self.attribute_word(attribute, j + 1);
@@ -100,9 +98,9 @@ impl Quad<'_> {
     // Writes the normals. Those of a vertex go with the word after them at once, over which the next vertex's are written.
     fn write_normals(self, out: &mut [u32])
         requires { length out.old ≡ 12 }
-        ensures { out.new ≡ attribute_in (floats_of self.entry.coloured) normal 4 (words_of self.entry) }
+        ensures { out.new ≡ attribute_in self.entry.floats normal 4 (words_of self.entry) }
     {
-        let floats = floats_of(self.coloured);
+        let floats = self.floats;
         for i in 0..3 {
             copy_four(out, 3 * i, self.corners, floats * corner_of(i) + 3);
         }
@@ -120,8 +118,8 @@ impl Quad<'_> {
     // called, so that the compiler knows the attribute.
     #[inline(always)]
     pub fn write(self, out: &mut [u32], attribute: Attribute)
-        requires { Has (floats_of self.coloured) (attribute_of attribute) × (length out.old ≡ 4 * (attribute_of attribute).width) }
-        ensures { out.new ≡ attribute_in (floats_of self.entry.coloured) (attribute_of attribute) 4 (words_of self.entry) }
+        requires { Has self.floats (attribute_of attribute) × (length out.old ≡ 4 * (attribute_of attribute).width) }
+        ensures { out.new ≡ attribute_in self.entry.floats (attribute_of attribute) 4 (words_of self.entry) }
     {
         if attribute == Attribute::Normal {
             self.write_normals(out);

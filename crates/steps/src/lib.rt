@@ -69,16 +69,17 @@ fn replay_one(
         );
         return count - 1;
     }
-    let words = 4 * floats_of(coloured);
+    let floats = floats_of(coloured);
+    let words = 4 * floats;
     let start = words * (6 * b + a % 6) as usize;
     let end = start + words;
     let quad = Quad {
         corners: &scene.types.cubes[start..end],
-        coloured,
+        floats,
         at: cords_of(Cell(a / 6), scene.dims, inverse),
         d: scene.d,
     };
-    write_places(positions, normals, uvs, colours, quad, count);
+    write_places(positions, normals, uvs, colours, quad, coloured, count);
     count + 1
 }
 

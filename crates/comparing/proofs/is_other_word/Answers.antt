@@ -17,5 +17,5 @@ returns c =
     let q = a.quad in
     let l = ap (λ (n : ℕ). get_or a.row.now (n * a.i + a.k) 0) c.width.ensures in
     let r = c.word.ensures
-    ∙ sym (word_at q.corners.now (floats_of q.coloured) (triple_of q.d) 0 (grid.triple_of q.at) (attribute_of a.attribute) c.requires.0 a.i a.k c.requires.1 c.requires.2) in
+    ∙ sym (word_at q.corners.now q.floats (triple_of q.d) 0 (grid.triple_of q.at) (attribute_of a.attribute) c.requires.0 a.i a.k c.requires.1 c.requires.2) in
     λ j. not (eqb (l j) (r j))

@@ -20,8 +20,8 @@ use Rattle.comparing.proofs.Compared.{row_next}
 use Rattle.comparing.proofs.is_row.Invariants.{wanted}
 use Rattle.comparing.proofs.is_row.Goals as goal
 
-long : (q : Quad) (a : Attribute) → Has (floats_of q.coloured) (attribute_of a) → length (wanted q a) ≡ 4 * (attribute_of a).width
-long q a has = length_row_of q.corners.now (floats_of q.coloured) (triple_of q.d) 0 (grid.triple_of q.at) (attribute_of a) has
+long : (q : Quad) (a : Attribute) → Has q.floats (attribute_of a) → length (wanted q a) ≡ 4 * (attribute_of a).width
+long q a has = length_row_of q.corners.now q.floats (triple_of q.d) 0 (grid.triple_of q.at) (attribute_of a) has
 
 pub loop-i-init : goal.loop-i-init
 loop-i-init c =

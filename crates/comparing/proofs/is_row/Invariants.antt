@@ -14,7 +14,7 @@ use Rattle.comparing.proofs.is_row.Given as goal
 
 -- the words as they should be
 abbrev pub wanted : Quad → Attribute → List ℕ
-wanted quad a = attribute_in (floats_of quad.coloured) (attribute_of a) 4 (words_of quad)
+wanted quad a = attribute_in quad.floats (attribute_of a) 4 (words_of quad)
 
 abbrev pub invariant-loop-k : goal.invariant-loop-k
 invariant-loop-k l =

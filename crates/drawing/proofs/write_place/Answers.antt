@@ -18,7 +18,7 @@ returns c =
     let q = a.quad in
     let w = c.width-words.result in
     let b = attribute_of a.attribute in
-    let row = attribute_in (floats_of q.coloured) b 4 (words_of q) in
+    let row = attribute_in q.floats b 4 (words_of q) in
     lent (4 * w * a.q) (4 * w) a.list.now c.write.new.out row c.write.ensures
-    (length_row_of q.corners.now (floats_of q.coloured) (triple_of q.d) 0 (grid.triple_of q.at) b c.requires.0 ∙ ap (λ (k : ℕ). 4 * k) (sym c.width-words.ensures))
+    (length_row_of q.corners.now q.floats (triple_of q.d) 0 (grid.triple_of q.at) b c.requires.0 ∙ ap (λ (k : ℕ). 4 * k) (sym c.width-words.ensures))
     ∙ ap (λ (k : ℕ). put (4 * k * a.q) row a.list.now) c.width-words.ensures

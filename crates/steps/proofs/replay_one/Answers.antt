@@ -29,13 +29,13 @@ module _ {S : Scene} {t : ℕ} (k : Shaped S t) (f : ℕ) (below : f < 6) {n : �
   lent = rw e (corners_lent S.types.cubes (floats S.types) t f below)
 
   drawable : {c : ℕ} {a : Triple} → Within S.size → c < cells S.size → a ≡ coordinates S.size c
-      → Corners (take (4 * n * (6 * t + f) + 4 * n - 4 * n * (6 * t + f)) (drop (4 * n * (6 * t + f)) S.types.cubes)) (floats S.types) a S.d
+      → Corners (take (4 * n * (6 * t + f) + 4 * n - 4 * n * (6 * t + f)) (drop (4 * n * (6 * t + f)) S.types.cubes)) n a S.d
   drawable {c} w h at =
       let s = w.sides in
       let i = inside_of S.size c s.wide s.long h in
       let l = few S.types.coloured in
       let all = length_part (24 * floats S.types * t) (24 * floats S.types) S.types.cubes k.whole in
-      rw (lent, at) (drawable_corners f below (record {
+      rw (lent, at, e) (drawable_corners f below (record {
         words = record { least = omega arith; most = omega arith; whole = omega arith };
         placed = k.placed;
         finite = k.finite;
@@ -60,12 +60,12 @@ invariant_of-quad c =
     let a = c.args in
     let S = scene_of a.scene in
     let p = drawn S (vertices_of a.positions.now a.normals.now a.uvs.now a.colours.now) a.count a.step.now c.requires.1 c.if-b-ge-CUT.false in
-    record { is_drawable = drawable p.can.1.1 (get_or a.step.now 0 0 % 6) (side (get_or a.step.now 0 0)) c.floats_of-words.ensures p.within p.can.1.0 c.cords_of.ensures }
+    record { is_drawable = drawable p.can.1.1 (get_or a.step.now 0 0 % 6) (side (get_or a.step.now 0 0)) c.floats_of-floats.ensures p.within p.can.1.0 c.cords_of.ensures }
 
 pub write_places-requires : goal.write_places-requires
 write_places-requires c =
     let a = c.args in
-    room (drawn (scene_of a.scene) (vertices_of a.positions.now a.normals.now a.uvs.now a.colours.now) a.count a.step.now c.requires.1 c.if-b-ge-CUT.false)
+    (c.floats_of-floats.ensures, room (drawn (scene_of a.scene) (vertices_of a.positions.now a.normals.now a.uvs.now a.colours.now) a.count a.step.now c.requires.1 c.if-b-ge-CUT.false))
 
 pub overflow_add-result : goal.overflow_add-result
 overflow_add-result c =
@@ -81,8 +81,8 @@ returns c =
     let key = get_or a.step.now 0 0 in
     let type = get_or a.step.now 1 0 in
     let p = drawn S vs a.count a.step.now c.requires.1 c.if-b-ge-CUT.false in
-    let corners = lent p.can.1.1 (key % 6) (side key) c.floats_of-words.ensures in
+    let corners = lent p.can.1.1 (key % 6) (side key) c.floats_of-floats.ensures in
     let at = c.cords_of.ensures in
-    let words = (λ i. quad_words (corners i) n S.d 0 (at i)) ∙ quad_of_corners (cube_of S.types type) n S.d (key % 6) _ in
+    let words = (λ i. quad_words (corners i) (c.floats_of-floats.ensures i) S.d 0 (at i)) ∙ quad_of_corners (cube_of S.types type) n S.d (key % 6) _ in
     rw (lt-ltb type CUT c.if-b-ge-CUT.false)
     (ap (λ (us : Vertices). shelves us (a.count + 1)) (c.write_places.ensures ∙ (λ i. quad_written S.types.coloured a.count (words i) vs)))

@@ -44,12 +44,12 @@ loop-float-preserved c =
 row-lent : (w n q : ℕ) (list : List ℕ) → n ≡ w → take (4 * n * q + 4 * n - 4 * n * q) (drop (4 * n * q) list) ≡ row (4 * w) list q
 row-lent w n q list e = lent_is (4 * n * q) (4 * n) list ∙ ap (λ (k : ℕ). row (4 * k) list q) e
 
-by_rule : (S : Scene) (g : List ℕ) (link : ℕ) (quad : Quad) (a : code.Attribute) → (quad.coloured ≡ S.types.coloured) × (words_of quad ≡ quad_words_at S g link)
+by_rule : (S : Scene) (g : List ℕ) (link : ℕ) (quad : Quad) (a : code.Attribute) → (quad.floats ≡ floats S.types) × (words_of quad ≡ quad_words_at S g link)
     → wanted quad a ≡ attribute_in (floats S.types) (attribute_of a) 4 (quad_words_at S g link)
-by_rule S g link quad a e = λ i. attribute_in (floats_of (e.0 i)) (attribute_of a) 4 (e.1 i)
+by_rule S g link quad a e = λ i. attribute_in (e.0 i) (attribute_of a) 4 (e.1 i)
 
-long : (quad : Quad) (a : code.Attribute) → Has (floats_of quad.coloured) (attribute_of a) → length (wanted quad a) ≡ 4 * (attribute_of a).width
-long q a has = length_row_of q.corners.now (floats_of q.coloured) (triple_of q.d) 0 (grid.triple_of q.at) (attribute_of a) has
+long : (quad : Quad) (a : code.Attribute) → Has quad.floats (attribute_of a) → length (wanted quad a) ≡ 4 * (attribute_of a).width
+long q a has = length_row_of q.corners.now q.floats (triple_of q.d) 0 (grid.triple_of q.at) (attribute_of a) has
 
 pub quads-preserved : goal.quads-preserved
 quads-preserved c =
@@ -62,7 +62,7 @@ quads-preserved c =
     let given = row-lent w _ c.quads.q a.list.now c.width-width.ensures in
     let v : c.loop-vertex.vertex ≡ 4 = omega (arith, c.loop-vertex.auto, c.loop-vertex-test.false) in
     let whole : w * c.loop-vertex.vertex ≡ w * 4 = ap (λ (v : ℕ). w * v) v in
-    let has : Has (floats_of quad.coloured) (attribute_of a.attribute) = rw e.0 c.requires.2 in
+    let has : Has quad.floats (attribute_of a.attribute) = rw e.0 c.requires.2 in
     let same : Agreed (row (4 * w) a.list.now c.quads.q) (wanted quad a.attribute) (4 * w) =
     λ k h. ap (λ (xs : List ℕ). get_or xs k 0) (sym given) ∙ c.loop-vertex.invariant.1 k (omega arith) in
     let is = agreed_same (row (4 * w) a.list.now c.quads.q) (wanted quad a.attribute) (4 * w)

@@ -15,7 +15,7 @@ use Rattle.comparing.proofs.Comparison.first_wrong_row.Given as goal
 
 -- the words as they should be
 abbrev pub wanted : Quad → Attribute → List ℕ
-wanted quad a = attribute_in (floats_of quad.coloured) (attribute_of a) 4 (words_of quad)
+wanted quad a = attribute_in quad.floats (attribute_of a) 4 (words_of quad)
 
 abbrev pub invariant-loop-float : goal.invariant-loop-float
 invariant-loop-float l = (l.first ≡ l.to) × Agreed l.row (wanted l.quad l.attribute) ((attribute_of l.attribute).width * l.vertex + l.float)

@@ -32,26 +32,26 @@ few-words s n m e h =
     mul-le-mul n-few m-few
 
 pub overflow_mul-start : goal.overflow_mul-start
-overflow_mul-start c = omega (arith, few-words c.args.self.now _ _ c.floats_of-span.ensures c.linked_face.ensures.below)
+overflow_mul-start c = omega (arith, few-words c.args.self.now _ _ c.floats_of-floats.ensures c.linked_face.ensures.below)
 
 pub overflow_add-end : goal.overflow_add-end
-overflow_add-end c = omega (arith, few-words c.args.self.now _ _ c.floats_of-span.ensures c.linked_face.ensures.below, c.floats_of-span.ensures, few c.args.self.now.scene.types.coloured)
+overflow_add-end c = omega (arith, few-words c.args.self.now _ _ c.floats_of-floats.ensures c.linked_face.ensures.below, c.floats_of-floats.ensures, few c.args.self.now.scene.types.coloured)
 
 pub offset_bounds-cubes-start : goal.offset_bounds-cubes-start
-offset_bounds-cubes-start c = omega (arith, few-words c.args.self.now _ _ c.floats_of-span.ensures c.linked_face.ensures.below)
+offset_bounds-cubes-start c = omega (arith, few-words c.args.self.now _ _ c.floats_of-floats.ensures c.linked_face.ensures.below)
 
 pub slice_bounds-result-end : goal.slice_bounds-result-end
 slice_bounds-result-end c =
-    stretch c.args.self.now c.args.q _ _ _ c.requires c.floats_of-span.ensures (read c.args.self.now c.args.q _ _ _ c.linked_face.ensures.of_link c.cords_of-at.ensures c.cell_of.ensures)
+    stretch c.args.self.now c.args.q _ _ _ c.requires c.floats_of-floats.ensures (read c.args.self.now c.args.q _ _ _ c.linked_face.ensures.of_link c.cords_of-at.ensures c.cell_of.ensures)
 
 pub invariant_of-result : goal.invariant_of-result
 invariant_of-result c =
     let s = c.args.self.now in
     let at = read s c.args.q _ _ _ c.linked_face.ensures.of_link c.cords_of-at.ensures c.cell_of.ensures in
-    record { is_drawable = drawable (scene_of s.scene) s.grid.now s.lists.links.now s.count s.is_comparable.linking c.args.q c.requires s.is_finite c.floats_of-span.ensures at }
+    record { is_drawable = drawable (scene_of s.scene) s.grid.now s.lists.links.now s.count s.is_comparable.linking c.args.q c.requires s.is_finite c.floats_of-floats.ensures at }
 
 pub returns : goal.returns
 returns c =
     let s = c.args.self.now in
     let at = read s c.args.q _ _ _ c.linked_face.ensures.of_link c.cords_of-at.ensures c.cell_of.ensures in
-    (refl, named_words (scene_of s.scene) s.grid.now (get_or s.lists.links.now c.args.q 0) c.floats_of-span.ensures at)
+    (c.floats_of-floats.ensures, named_words (scene_of s.scene) s.grid.now (get_or s.lists.links.now c.args.q 0) c.floats_of-floats.ensures at)

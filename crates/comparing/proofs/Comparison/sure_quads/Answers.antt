@@ -18,6 +18,6 @@ loop-q-preserved c =
     let vs = vertices_in s.lists in
     let q = c.loop-q.q in
     let e = c.registered.ensures in
-    let is = subst (λ (b : Bool). IsQuad b vs q (words_of c.registered.result)) e.0 (c.is_quad.ensures c.if-not-is_quad.false) in
+    let is = c.is_quad.ensures c.if-not-is_quad.false in
     below_more (λ (k : ℕ). other_quad S s.grid.now vs s.lists.links.now k ≡ false) q c.loop-q.invariant
     (right_quad S s.grid.now vs s.lists.links.now q (subst (λ (ws : List ℕ). IsQuad s.scene.types.coloured vs q ws) e.1 is))

@@ -2,7 +2,6 @@
 use mathlib.Core.Path.{sym, ap, ◌∙◌}
 use Prim.Native.Nat.{ℕ, ◌/◌, ◌%◌}
 use lib.ListN.{get_or}
-use Rattle.rules.specs.Cube.{floats_of}
 use Rattle.rules.specs.Mesh.{attribute_in}
 use Rattle.util.specs.Grid as grid
 use Rattle.floats.specs.Triples.{triple_of}
@@ -15,7 +14,7 @@ pub returns : goal.returns
 returns c =
     let q = c.args.self in
     let j = c.args.j in
-    let n = floats_of q.coloured in
+    let n = q.floats in
     let b = attribute_of c.args.attribute in
     let s = split_word c.args.attribute j c.requires.1 in
     c.word.ensures

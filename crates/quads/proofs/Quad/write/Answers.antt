@@ -4,7 +4,6 @@ use Prim.Native.Nat.{ℕ, ◌+◌, ◌*◌}
 use native.Mathlib.Omega.{arith}
 use mathlib.Core.List.{List}
 use lib.ListN.{length}
-use Rattle.rules.specs.Cube.{floats_of}
 use Rattle.rules.specs.Mesh.{normal, attribute_in}
 use Rattle.util.specs.Grid as grid
 use Rattle.floats.specs.Triples.{triple_of}
@@ -24,10 +23,10 @@ is-it : (c : Then-eq) → attribute_of c.args.attribute ≡ normal
 is-it c = is_normal c.args.attribute (sym c.eq.ensures ∙ c.if-eq.true)
 
 abbrev whole : Quad → Attribute → List ℕ
-whole q a = attribute_in (floats_of q.coloured) (attribute_of a) 4 (words_of q)
+whole q a = attribute_in q.floats (attribute_of a) 4 (words_of q)
 
-long : (q : Quad) (a : Attribute) → Has (floats_of q.coloured) (attribute_of a) → length (whole q a) ≡ 4 * (attribute_of a).width
-long q a has = length_row_of q.corners.now (floats_of q.coloured) (triple_of q.d) 0 (grid.triple_of q.at) (attribute_of a) has
+long : (q : Quad) (a : Attribute) → Has q.floats (attribute_of a) → length (whole q a) ≡ 4 * (attribute_of a).width
+long q a has = length_row_of q.corners.now q.floats (triple_of q.d) 0 (grid.triple_of q.at) (attribute_of a) has
 
 pub loop-g-init : goal.loop-g-init
 loop-g-init c = none_begun _ _ (c.requires.1 ∙ sym (long c.args.self c.args.attribute c.requires.0))
