@@ -1,6 +1,6 @@
 -- Laws of side sets. Assumes nothing.
 use mathlib.Core.Path.{◌≡◌, refl, sym, ap, ap₂, ◌∙◌}
-use mathlib.Core.Bool.{cond}
+use mathlib.Core.Bool.{Bool, cond}
 use Prim.Native.Nat.{ℕ, zero, suc, ◌+◌, ◌*◌, ◌/◌, ◌%◌, ◌^◌, ◌<◌}
 use native.Mathlib.Nat.{add_comm, add-zero, suc-add, add-suc, zero-add, mul_comm, mod-lt, mod-one, mod-eq_of_lt, pow-suc}
 use native.Mathlib.Nat.{not-suc-le-zero, le_of_suc-le-suc}
@@ -12,7 +12,12 @@ use lib.Dec.{eqb, lit<}
 use lib.ListN.{get_or}
 use lib.Pow.{pow_pos}
 use Rattle.rules.specs.Lists.{count, each, table}
-use Rattle.rules.specs.Cells.{quads_of, rank}
+use Rattle.rules.specs.Cells.{quads_of, rank, set_of}
+
+-- a set by its six sides
+pub set_of_lem : (p : ℕ → Bool) {a b c d e f : Bool} → a ≡ p 0 → b ≡ p 1 → c ≡ p 2 → d ≡ p 3 → e ≡ p 4 → f ≡ p 5
+    → cond a 1 0 + cond b 2 0 + cond c 4 0 + cond d 8 0 + cond e 16 0 + cond f 32 0 ≡ set_of p
+set_of_lem p a b c d e f = λ i. cond (a i) 1 0 + cond (b i) 2 0 + cond (c i) 4 0 + cond (d i) 8 0 + cond (e i) 16 0 + cond (f i) 32 0
 
 -- a face in the set counts as its bit
 bit : (d : ℕ) → d < 2 → cond (eqb d 1) 1 0 ≡ ones d

@@ -7,7 +7,7 @@ ghost use Rattle.rules.specs.Cells.{UNIT, set_of, opposite, code, link_word, cel
 ghost use Rattle.face.specs.declared.Face.{Face};
 ghost use Rattle.face.specs.Face.{number, face_at, face_of_code, face_of_word, Ranked};
 
-// The slot of a face with no quad; zero is vertex 0.
+// The slot of a face with no quad, a word as C reads it; zero is vertex 0.
 pub const NONE: u32 = 4_294_967_295;
 
 #[derive(Clone, Copy, Debug, PartialEq, Eq)]
@@ -174,6 +174,7 @@ pub fn key_of(link: u32) -> u32
     6 * cell_of(link).0 + (5 - code_of(link))
 }
 
+// A side set stays a byte: rows of them are bytes that are tested many at once.
 pub fn has(set: u8, face: Face) -> bool
     ensures { result ≡ has set (number face) }
 {

@@ -119,7 +119,8 @@ fn index_cell(
     next
 }
 
-// The word of a cell's first face in the list of its row's faces: its type, and where along the row it is.
+// The word of a cell's first face in the list of its row's faces: its type, and where along the row it is. It stays a word: the laws of the row's faces (`side_of`,
+// `Side` in drawing) speak of it.
 fn side_at(code: u8, x: usize) -> u32
     requires { x < 1024 }
     ensures { (result ≡ 6144 * code + x) × (result < 2097152) }

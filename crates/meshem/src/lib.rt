@@ -41,6 +41,7 @@ pub fn mesh_grid(
     input_verdict(scene, outer, grid, slots.len())?;
     let dims = scene.dims;
     let culling = algorithm.is_culling();
+    // Fixed rooms here and below, since nothing is allocated.
     let mut along: [u8; 1024] = [0; 1024];
     sides_along(&mut along, dims.width);
     let ground = Ground {

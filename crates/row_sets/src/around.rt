@@ -7,7 +7,8 @@ ghost use Rattle.row_sets.specs.Around.{is_row_face, RowBeside, RowsOf};
 use face::{Cell, Face, bit_if};
 use util::{Coordinates, Dimensions, Row, neighbor_at};
 
-// Where a row starts and the rows beside it start, and the sides that those are on. Where there is none, the row stands for it.
+// Where a row starts and the rows beside it start, and the sides that those are on. Where there is none, the row stands for it: it is read
+// all the same and not kept, so that nothing branches, as on an Option.
 #[derive(Clone, Copy)]
 pub(crate) struct Around {
     pub at: usize,

@@ -112,6 +112,7 @@ pub fn tested_of(new: bool) -> Tested
     }
 }
 
+// In the order of the C calls.
 pub fn scene_of<'a>(
     width: u32,
     height: u32,

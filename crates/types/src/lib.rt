@@ -74,7 +74,7 @@ fn position_of(cube: &[u32], floats: usize, i: usize, axis: usize) -> u32
     cube[floats * i + axis]
 }
 
-// Whether every position is finite.
+// Whether every position is finite. By a `for`: `all` over a range left its goal open.
 fn is_placed(cube: &[u32], floats: usize) -> bool
     requires { Words cube.now floats }
     ensures { result ≡ every 72 (λ k. finite (position_of cube.now floats (k / 3) (k % 3))) }
@@ -99,7 +99,7 @@ struct Vertices<'a> {
 }
 
 impl Vertices<'_> {
-    // The class on one axis of the triangle with the corners i, j and k.
+    // The class on one axis of the triangle with the corners i, j and k. Axes and faces go by number, as the rules count them.
     fn class_at(
         self,
         axis: usize,

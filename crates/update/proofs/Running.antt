@@ -284,7 +284,7 @@ module _ (tested : Tested) {S : Scene} {room : ℕ} {log : List ℕ} {vs₀ : Ve
             }
 
         -- what the entry leaves
-        run_on : {vs' : Vertices} {ls' ss' : List ℕ} {q' v' h' : ℕ} {ys : List Step}
+        pub run_on : {vs' : Vertices} {ls' ss' : List ℕ} {q' v' h' : ℕ} {ys : List Step}
             → record { links = ls'; slots = ss'; quads = q'; moved = v'; top = h'; steps = ys } ≡ done
             → vs' ≡ run_all S done.steps q vs
             → Running tested S room log vs₀ ls₀ Q (k + 1) h' vs' ls' ss' q' v'

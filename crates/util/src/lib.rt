@@ -9,7 +9,7 @@ ghost use Rattle.util.specs.Grid.{inverse_of, Inverts, size_of, triple_of, cords
 
 use face::{Cell, Face};
 
-// Width goes along x, height along y and length along z.
+// Width goes along x, height along y and length along z. They are any three numbers, as C lends them, and bad_limits tests them: so Within stays a clause.
 #[derive(Clone, Copy, Debug, PartialEq, Eq)]
 pub struct Dimensions {
     pub width: u32,
@@ -24,7 +24,7 @@ pub struct Coordinates {
     pub z: u32,
 }
 
-// A row of cells: its first, and its y and z.
+// A row of cells: its first, and its y and z. It holds no dimensions, so that it starts a row of some stays a clause.
 #[derive(Clone, Copy, Debug, PartialEq, Eq)]
 pub struct Row {
     pub first: u32,
@@ -83,7 +83,7 @@ pub fn three_d_cords(cell: Cell, dims: Dimensions) -> Coordinates
     }
 }
 
-// 2³² over a width and a length, rounded up: what multiplies in place of a division.
+// 2³² over a width and a length, rounded up: what multiplies in place of a division. Of which sizes it is stays a clause: the scene has them.
 #[derive(Clone, Copy, Debug, PartialEq, Eq)]
 pub struct Inverse {
     pub width: u64,
