@@ -93,7 +93,7 @@ fn lowest_in_row(sets: &[u8], slots: &[u32], first: usize) -> usize
     6 * x
 }
 
-// Searches row by row; `sets` is room for a row. A row ends where the next starts, with its place in the layer, so the loop is no `for`.
+// Searches row by row, and answers the number of faces where none is wrong, as the rules' `lowest` does; `sets` is room for a row. A row ends where the next starts, with its place in the layer, so the loop is no `for`.
 fn lowest_by_rows(look: Look<'_>, slots: &[u32], sets: &mut [u8]) -> usize
     requires { (6 * cells (size_of look.ground.dims) ≤ length slots.now) × (look.ground.dims.width ≤ length sets.old) }
     ensures { (faces : List ℕ) → look.entry.outer ≡ outer_set faces → result ≡ lowest (6 * cells (size_of look.entry.ground.dims)) (wrong_at look.entry.ground faces slots.now) }
@@ -118,7 +118,7 @@ fn lowest_by_rows(look: Look<'_>, slots: &[u32], sets: &mut [u8]) -> usize
     6 * end as usize
 }
 
-// The lowest face that is drawn and not there, or there and not drawn, or the number of faces.
+// The lowest face that is drawn and not there, or there and not drawn, or the number of faces, likewise.
 fn lowest_wrong_face(ground: Ground<'_>, outer: u8, slots: &[u32]) -> usize
     requires { (6 * cells (size_of ground.dims) ≤ length slots.now) × (length ground.kinds.now ≤ 255) × (outer < 64) }
     ensures { (faces : List ℕ) → outer ≡ outer_set faces → result ≡ lowest (6 * cells (size_of ground.entry.dims)) (wrong_at ground.entry faces slots.now) }

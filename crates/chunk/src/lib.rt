@@ -98,6 +98,7 @@ fn answer_built(file: WorkFile<'_>, cubes: &[u32], out: &mut [u8]) -> usize
 {
     let work = file.read_work();
     let types = work.types;
+    // Of fixed length: nothing is allocated.
     let mut kinds = [0u8; 8];
     let mut covers = [0u8; 8];
     let mut outer = [0u8; 6];

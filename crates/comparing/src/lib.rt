@@ -142,7 +142,7 @@ impl Comparison<'_> {
         self.count
     }
 
-    // The first quad that differs in any of its floats of an attribute, or `to`. None before `from` does.
+    // The first quad that differs in any of its floats of an attribute, or `to`, up to which the next list is searched, so it is no option. None before `from` does.
     fn first_wrong_row(&self, attribute: Attribute, list: &[u32], from: usize, to: usize) -> usize
         requires { (from ≤ to) × (to ≤ self.now.count)
             × Has (floats_of self.now.scene.types.coloured) (attribute_of attribute) × (4 * (attribute_of attribute).width * to ≤ length list.now)

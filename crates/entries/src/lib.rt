@@ -55,7 +55,7 @@ impl Entry {
     // The log's bytes stay as they are, so that several are compared at once; what is read of them is an option.
     pub const OUTSIDE: u8 = 255;
 
-    // As a former type.
+    // As a former type, which stays C's byte for the same reason.
     pub const NO_TYPE: u8 = 255;
 
     pub const BYTES: usize = 16;
@@ -85,7 +85,7 @@ impl Entry {
     }
 }
 
-// Little-endian.
+// Little-endian. workfile has this line too: a crate for it alone would be longer.
 fn u32_at(log: &[u8], at: usize) -> u32
     requires { at + 4 ≤ length log.now }
     ensures { result ≡ u32_at log.now at }

@@ -18,6 +18,7 @@ pub struct Triple {
 }
 
 impl Triple {
+    // By number, as the tables of axes are.
     pub fn along(self, axis: usize) -> u32
         ensures { result ≡ along (triple_of self) axis }
     {

@@ -88,7 +88,7 @@ fn append_quad(
     }
 }
 
-// Removes the quad of the face of a key, where `cuts`, which is there; or draws it for a type, where it is not.
+// Removes the quad of the face of a key, where `cuts`, which is there; or draws it for a type, where it is not. A flag, as it comes from a side's number.
 fn do_face(
     links: &mut [u32],
     slots: &mut [u32],

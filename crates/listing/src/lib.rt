@@ -27,7 +27,7 @@ fn cube_row(sets: &mut [u8], ground: Ground<'_>, first: u32)
     }
 }
 
-// The sides of each cell of a row to draw.
+// The sides of each cell of a row to draw. The algorithm is a flag: one branch a row.
 pub fn side_row(sets: &mut [u8], look: Look<'_>, culling: bool, row: Row)
     requires { Starts (size_of look.ground.dims) row.first row.y row.z × (look.ground.dims.width ≤ length sets.old) }
     ensures { RowOf (set_at culling (world_of (size_of look.entry.ground.dims) look.entry.ground.kinds.now look.entry.ground.covers.now) (faces_of look.entry.outer) look.entry.ground.grid.now) row.first look.entry.ground.dims.width sets.new }

@@ -89,7 +89,7 @@ fn rename(slots: &mut [u32], links: &[u32], q: usize, from: usize, count: usize)
     }
 }
 
-// The same; if it is the last one alone, without counting.
+// The same; if it is the last one alone, without counting: the compiler lays `rename` out for this case by itself.
 fn rename_from(slots: &mut [u32], links: &[u32], q: usize, from: usize, count: usize)
     requires { (q < from) × (from ≤ count) × Linked count links.now slots.old }
     ensures { slots.new ≡ map (shifted q from count) slots.old }

@@ -5,7 +5,7 @@ ghost use Rattle.row_sets.specs.Plainly.{ClearBelow, FullFrom, Plainly, sides_at
 use culling::Ground;
 use face::bit_if;
 
-// How many of the first types are no NormalCubes and cover nothing.
+// How many of the first types are no NormalCubes and cover nothing. From the front, as `full_from` is from the back, by other tests: one function for both would be longer.
 pub fn clear_types(kinds: &[u8], covers: &[u8]) -> u8
     requires { (length covers.now ≡ length kinds.now) × (length kinds.now ≤ 255) }
     ensures { ClearBelow kinds.now covers.now result }

@@ -18,7 +18,8 @@ use types::Types;
 use update::Updated;
 use util::Dimensions;
 
-// An answer's number and place, the quads, and how many of them moved: 0 where an answer has none.
+// An answer's number and place, the quads, and how many of them moved: 0 where an answer has none, as C has no options. The three makers have names, which
+// docs/READING.md gives.
 #[derive(Clone, Copy)]
 pub struct Told {
     pub number: u32,
@@ -92,6 +93,7 @@ pub fn told_by_update(updated: Updated) -> Told
     }
 }
 
+// By name, as `tested_of`: a `From<bool>` would not say which is which.
 pub fn algorithm_of(culling: bool) -> MeshingAlgorithm
     ensures { is_culling result ≡ culling }
 {

@@ -209,7 +209,7 @@ fn conclude(trial: &[u32], image: &mut [u32]) -> bool {
     patch(part(trial, after_at(trial), trial.len()), image)
 }
 
-// Room for a list of a base, with the list laid into it.
+// Room for a list of a base, by the number that the file gives it, with the list laid into it. Of fixed length: nothing is allocated.
 fn filled(base: &[u32], list: usize) -> [u32; 8192]
     requires { list < 11 }
 {

@@ -63,6 +63,7 @@ pub fn floats_of(coloured: bool) -> usize
     if coloured { 12 } else { 8 }
 }
 
+// Vertices, faces and axes go by number in this file: the tables are read by it, and the rules' are too.
 fn is_high(vertex: usize, axis: usize) -> bool
     requires { (vertex < 24) × (axis < 3) }
     ensures { result ≡ is_high vertex axis }

@@ -55,6 +55,7 @@ pub fn u32_at(file: &[u8], at: usize) -> u32
     u32::from_le_bytes([file[at], file[at + 1], file[at + 2], file[at + 3]])
 }
 
+// Asked of bytes that are no WorkFile yet too, so their length is a clause.
 pub fn word(file: &[u8], i: usize) -> u32
     requires { (92 ≤ length file.now) × (i < 23) }
     ensures { result ≡ word file.now i }

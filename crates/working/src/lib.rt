@@ -20,6 +20,7 @@ use update::{Updated, update_mesh};
 use voxel_mesh::{Shape, floats_of, generate_voxel_mesh};
 use workfile::{Work, WorkFile};
 
+// Here, as workfile knows of no cubes.
 fn shape_of(work: Work) -> Shape
     ensures { result ≡ shape_by work }
 {

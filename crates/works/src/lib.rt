@@ -87,7 +87,7 @@ fn gone(both: bool, entry: Entry) -> u8
     if both { entry.former } else { entry.voxel }
 }
 
-// The work of an entry.
+// The work of an entry. Of the types it reads these two lists alone.
 pub fn work_of(kinds: &[u8], covers: &[u8], tested: Tested, entry: Entry) -> Work
     ensures { result ≡ meant (tested_by tested) (types_by kinds.now covers.now) (entry_in entry) }
 {
@@ -161,7 +161,7 @@ pub fn keys_around(dims: Dimensions, inverse: Inverse, cell: Cell) -> [u32; 12]
     ]
 }
 
-// Of the 24: whether it is a cut.
+// Of the 24, by number, as the bits of the four sets are: whether it is a cut.
 pub fn does_cut(i: u32) -> bool
     requires { i < 24 }
     ensures { result ≡ cutting (i / 6) }
