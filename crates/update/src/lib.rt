@@ -18,9 +18,9 @@ use entries::{Entry, first_bad_entry, read_entry};
 use indexing::{Tally, due_work, has_room, index_work};
 use lent::links::links_verdict;
 use lent::triangles::triangles_verdict;
-use lent::{lengths_of, lent_verdict, room_of, size_verdict};
+use lent::{lent_verdict, room_of, size_verdict};
 use steps::replay_steps;
-use terms::{Count, Lengths, Lists, Scene, Tested};
+use terms::{Count, Lengths, Scene, Tested};
 use types::types_verdict;
 use util::inverted;
 use works::{keys_around, work_of};
@@ -184,15 +184,15 @@ pub fn update_mesh(
     ensures { Updates (tested_by tested) (scene_of scene.entry) log.now
         (lists_lent positions.old normals.old uvs.old colours.old triangles.old links.old slots.old) quads result (lists_lent positions.new normals.new uvs.new colours.new triangles.new links.new slots.new) }
 {
-    let lengths = lengths_of(Lists {
-        positions,
-        normals,
-        uvs,
-        colours,
-        triangles,
-        links,
-        slots,
-    });
+    let lengths = Lengths {
+        positions: positions.len(),
+        normals: normals.len(),
+        uvs: uvs.len(),
+        colours: colours.len(),
+        triangles: triangles.len(),
+        links: links.len(),
+        slots: slots.len(),
+    };
     told_verdict(scene, lengths, quads)?;
     let cells = scene.dims.cell_count();
     links_verdict(cells, links, slots, quads)?;
