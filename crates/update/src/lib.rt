@@ -184,6 +184,7 @@ pub fn update_mesh(
     ensures { Updates (tested_by tested) (scene_of scene.entry) log.now
         (lists_lent positions.old normals.old uvs.old colours.old triangles.old links.old slots.old) quads result (lists_lent positions.new normals.new uvs.new colours.new triangles.new links.new slots.new) }
 {
+    // By hand, not by `lent::lengths_of`: it takes the code's `Lists`, and the clauses here name the rules'.
     let lengths = Lengths {
         positions: positions.len(),
         normals: normals.len(),
