@@ -209,16 +209,7 @@ fn conclude(trial: &[u32], image: &mut [u32]) -> bool {
     patch(part(trial, after_at(trial), trial.len()), image)
 }
 
-// Room for a list of a base, by the number that the file gives it, with the list laid into it. Of fixed length: nothing is allocated.
-fn filled(base: &[u32], list: usize) -> [u32; 8192]
-    requires { list < 11 }
-{
-    let mut room = [0; 8192];
-    copy(list_of(base, list), &mut room);
-    room
-}
-
-// Room for each list of a mesh.
+// Room for each list of a mesh. Of fixed length: nothing is allocated.
 #[derive(Drop)]
 struct Rooms {
     positions: [u32; 8192],
@@ -362,15 +353,23 @@ fn are_left(trial: &[u32], image: &mut [u32], rooms: &Rooms) -> bool {
 fn is_right_on(call: Call, trial: &[u32], bytes: &[u8], image: &mut [u32]) -> bool {
     let seen = &image[..];
     let low = low_of(seen);
+    // Each list is laid where it stays: a room that a function answers is copied.
     let mut rooms = Rooms {
-        positions: filled(seen, 4),
-        normals: filled(seen, 5),
-        uvs: filled(seen, 6),
-        colours: filled(seen, 7),
-        triangles: filled(seen, 8),
-        links: filled(seen, 9),
-        slots: filled(seen, 10),
+        positions: [0; 8192],
+        normals: [0; 8192],
+        uvs: [0; 8192],
+        colours: [0; 8192],
+        triangles: [0; 8192],
+        links: [0; 8192],
+        slots: [0; 8192],
     };
+    copy(list_of(seen, 4), &mut rooms.positions);
+    copy(list_of(seen, 5), &mut rooms.normals);
+    copy(list_of(seen, 6), &mut rooms.uvs);
+    copy(list_of(seen, 7), &mut rooms.colours);
+    copy(list_of(seen, 8), &mut rooms.triangles);
+    copy(list_of(seen, 9), &mut rooms.links);
+    copy(list_of(seen, 10), &mut rooms.slots);
     let p = lent_of(trial, 4);
     let n = lent_of(trial, 5);
     let u = lent_of(trial, 6);
