@@ -1,6 +1,6 @@
 -- Tests one after the other, each with a `?`: what the first of them says, and what the call answers. Assumes nothing.
 use mathlib.Core.Path.{◌≡◌, refl, sym, ap, ◌∙◌}
-use Rattle.std.specs.Prelude.{Result, Ok, Err}
+use Rattle.std.specs.Prelude.{ℕ, Result, Ok, Err}
 use Rattle.std.specs.Result.{IsErrAnd}
 use Rattle.rules.specs.Answers.{Verdict, fine, refuse, ◌then◌}
 use Rattle.answers.specs.declared.Refused.{Refused}
@@ -29,3 +29,15 @@ pub then_assoc : (a b c : Verdict) → ((a then b) then c) ≡ (a then (b then c
 unfolding ◌then◌
 then_assoc fine b c = refl
 then_assoc (refuse n p) b c = refl
+
+-- ---- the same of the rules' verdicts alone
+pub stops_by : (x a b : Verdict) {n p : ℕ} → x ≡ a → x ≡ refuse n p → x ≡ (a then b)
+unfolding ◌then◌
+stops_by x a b e t = t ∙ rw (sym e, t)
+
+pub passes_by : (x a : Verdict) → x ≡ a → x ≡ fine → a ≡ fine
+passes_by x a e t = sym e ∙ t
+
+pub goes_by : (x a : Verdict) {r b : Verdict} → x ≡ a → x ≡ fine → r ≡ b → r ≡ (a then b)
+unfolding ◌then◌
+goes_by x a e t k = rw (passes_by x a e t) k

@@ -1,6 +1,6 @@
 -- Laws of log entries. Assumes nothing.
-use Rattle.std.proofs.Common.{◌≡◌, ℕ, zero, suc, ◌+◌, ◌-◌, ◌<◌, ◌≤◌, Bool, true, false, not, ◌&&◌, ◌||◌, ◌≢◌, List, [], ◌∷◌, length, get_or, sym, refl, ap, ◌∙◌, add-one, arith, ne_eqb}
-use Rattle.rules.specs.Lists.{table, part, every, lowest_from}
+use Rattle.std.proofs.Common.{◌≡◌, ℕ, zero, suc, ◌+◌, ◌-◌, ◌<◌, ◌≤◌, Bool, true, false, not, ◌&&◌, ◌||◌, ◌≢◌, List, [], ◌∷◌, length, get_or, sym, refl, ap, ◌∙◌, add-zero, add-one, arith, ne_eqb}
+use Rattle.rules.specs.Lists.{each, table, part, every, lowest_from}
 use Rattle.rules.specs.Update as rule
 use Rattle.rules.proofs.ListLaws.{get_d_table, table_is}
 use Rattle.vav.proofs.Laws.{length_part, part_at}
@@ -20,6 +20,18 @@ any_more n bad any one d e = rw (add-one, every, d, e) (go (every n (λ f. not (
   go true true = refl
   go true false = refl
   go false b = refl
+
+-- ---- six words of a list, one by one
+abbrev pub six_words : List ℕ → ℕ → List ℕ
+six_words xs at =
+    get_or xs at 0 ∷ get_or xs (at + 1) 0 ∷ get_or xs (at + 2) 0 ∷ get_or xs (at + 3) 0 ∷ get_or xs (at + 4) 0 ∷ get_or xs (at + 5) 0 ∷ []
+
+pub part_of_six : (at : ℕ) (xs : List ℕ) → at + 6 ≤ length xs → table 6 (λ k. get_or (six_words xs at) k 0) ≡ part at 6 xs
+unfolding each
+part_of_six at xs h =
+    let w : table 6 (λ f. get_or xs (at + f) 0) ≡ part at 6 xs =
+    table_is (λ f. get_or xs (at + f) 0) 6 (part at 6 xs) 0 (length_part at 6 xs h) (λ k l. part_at at 6 xs k l) in
+    rw (add-zero at) at w
 
 -- ---- the six bytes of an entry that starts at `at`, one by one
 abbrev pub six_at : List ℕ → ℕ → List ℕ

@@ -1,5 +1,6 @@
 -- The attributes, one by one: positions come first, and every other one past them. Assumes nothing.
 use mathlib.Core.Path.{◌≡◌, refl, sym}
+use mathlib.Core.Logic.{◌≢◌}
 use mathlib.Core.Bool.{true, false, true≢false}
 use denote.Enum.Bare.{sameb}
 use Prim.Native.Nat.{◌≤◌}
@@ -27,6 +28,25 @@ is_past Position e = absurd (true≢false e)
 is_past Normal e = omega arith
 is_past Uv e = omega arith
 is_past Colour e = omega arith
+
+-- ---- the start alone tells the attribute
+pub starts_first : (a : Attribute) → (attribute_of a).start ≡ 0 → attribute_of a ≡ position
+starts_first Position e = refl
+starts_first Normal e = absurd (omega arith)
+starts_first Uv e = absurd (omega arith)
+starts_first Colour e = absurd (omega arith)
+
+pub starts_normal : (a : Attribute) → (attribute_of a).start ≡ 3 → attribute_of a ≡ normal
+starts_normal Position e = absurd (omega arith)
+starts_normal Normal e = refl
+starts_normal Uv e = absurd (omega arith)
+starts_normal Colour e = absurd (omega arith)
+
+pub starts_past : (a : Attribute) → (attribute_of a).start ≢ 0 → 3 ≤ (attribute_of a).start
+starts_past Position d = absurd (d refl)
+starts_past Normal d = omega arith
+starts_past Uv d = omega arith
+starts_past Colour d = omega arith
 
 pub few_floats : (a : Attribute) → (1 ≤ (attribute_of a).width) × ((attribute_of a).width ≤ 4) × ((attribute_of a).start ≤ 8)
 few_floats Position = (omega arith, omega arith, omega arith)
